@@ -10,7 +10,7 @@ use Rattle.copy_rules.specs.Propagated.{ReadFor, again, in_place, with_sources, 
 use Rattle.mach_ir.specs.Acts.{Around, Target, On, At, AtHandler, Act, Goes, Pushes, Jumps, Unwinds, Asks, Replaces, Ends, EndsRaising, Stuck}
 use Rattle.mach_ir.specs.Formed.{WellFormed}
 use Rattle.mach_ir.specs.Keeps.{ValsWritten, Ahead, Trails, Proper, Follows, Begins, Does}
-use Rattle.mach_ir.specs.Meaning.{Held, State, File, put_all, clear, killed, values, past_frame, passes_frame, mach_act, tries_at, start}
+use Rattle.mach_ir.specs.Meaning.{State, File, put_all, clear, killed, values, past_frame, passes_frame, mach_act, tries_at, start}
 use Rattle.mach_ir.specs.Placed.{is_straight}
 use Rattle.mach_ir.specs.Runs.{Place, Tally, entered}
 use Rattle.mach_ir.specs.Walks.{IsRegister, is_param, is_in_code, LiveAcross}
@@ -26,12 +26,13 @@ use Rattle.mach_laws.proofs.Level as levels
 use Rattle.mach_laws.proofs.Places.{tries_expand}
 use Rattle.mach_laws.proofs.Simulate.{Agrees}
 use Rattle.places_rules.proofs.Lists.{head_same, tail_same}
-use Rattle.places_rules.proofs.Files.{differ, none_some, some_same}
+use Rattle.places_rules.proofs.Files.{differ, none_some}
 use Rattle.places_rules.proofs.Walked.{stands_of}
 use Rattle.split_rules.proofs.Text.{results_in}
 use Rattle.repeat_rules.specs.Kept.{OwnOrigins}
 use Rattle.repeat_rules.proofs.Acting.{GoesOn, is_stuck, goes_on, straight_on}
-use Rattle.copy_rules.proofs.Form.{keeps_marks, was_register}
+use Rattle.repeat_rules.proofs.OneForOne as one
+use Rattle.copy_rules.proofs.Form.{alike, keeps_marks, was_register}
 use Rattle.copy_rules.proofs.Held.{Typed, nothing_typed, written_typed, past_typed, Holds, reads_same, holds_next}
 use Rattle.copy_rules.proofs.Live.{Stood, moved, left, across_back}
 use Rattle.copy_rules.proofs.Standing.{Standing, not_past, not_at_entry, not_at_label, not_landed}
@@ -47,13 +48,7 @@ module _ (m : Mach) (plan : ℕ → Reg → Reg) (formed : WellFormed m) (own : 
 
   -- registers of one origin are one
   agreed : (ws : List Reg) (s : State) → Agrees q ws s
-  agreed ws s =
-      record {
-        agree = λ r k i j origin l e x y g h.
-            let same : r.number ≡ k.number =
-            sym (own r (was_register m plan reads r i)) ∙ origin ∙ own k (was_register m plan reads k j) in
-            ap (λ (z : Held). z.value) (some_same (sym g ∙ ap s.file same ∙ h));
-      }
+  agreed ws s = one.agreed (again plan) (alike plan) m (was_register m plan reads) own ws s
 
   module _ (c : Place) where
     abbrev HoldsAt : List Instr → File → Type 0

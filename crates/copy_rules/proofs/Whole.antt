@@ -1,21 +1,22 @@
 -- What a function whose copies are propagated keeps.
-use Rattle.std.proofs.Common.{◌≡◌, ◌≢◌, ℕ, inl, ⊎_elim, List, length, refl, sym, ap, ◌∙◌, subst}
+use Rattle.std.proofs.Common.{◌≡◌, ℕ, inl, List, length, refl, sym, ap, ◌∙◌, subst}
 use Rattle.std.specs.List.{Contains}
 use Rattle.bs_words.specs.declared.types.Loc.TheVariants as loc
 use Rattle.copy_rules.specs.Kept.{IsKept}
 use Rattle.copy_rules.specs.Propagated.{ReadFor, again, with_sources, IsBefore, IsPropagated}
 use Rattle.mach_ir.specs.Formed.{WellFormed}
 use Rattle.mach_ir.specs.Keeps.{Keeps, NamesSymbol, NamesExternal, IsNamedIn}
-use Rattle.mach_ir.specs.Placed.{MayShare, WellPlaced}
-use Rattle.mach_ir.specs.Walks.{IsRegister, Joined, one_way, other_way}
+use Rattle.mach_ir.specs.Placed.{WellPlaced}
+use Rattle.mach_ir.specs.Walks.{IsRegister}
 use Rattle.mach_ir.specs.declared.reg.Reg.{Reg}
 use Rattle.mach_ir.specs.declared.mach.MachOp.{MachOp}
 use Rattle.mach_ir.specs.declared.mach.Instr.{Instr}
 use Rattle.mach_ir.specs.declared.mach.Mach.{Mach}
 use Rattle.split_rules.proofs.Formed.{contains_of, stands_in}
 use Rattle.repeat_rules.specs.Kept.{OwnOrigins}
+use Rattle.repeat_rules.proofs.OneForOne as one
 use Rattle.repeat_rules.proofs.OneForOne.{both}
-use Rattle.copy_rules.proofs.Form.{was_register, IsFormKept, form_kept}
+use Rattle.copy_rules.proofs.Form.{alike, was_register, IsFormKept, form_kept}
 use Rattle.copy_rules.proofs.Kept.{does_propagated}
 use Rattle.copy_rules.proofs.Live.{IsOpen, meets_back, no_addr_back}
 
@@ -38,25 +39,8 @@ module _ (m : Mach) (plan : ℕ → Reg → Reg) (formed : WellFormed m)
 
   still_placed : WellPlaced m → WellPlaced q
   still_placed placed =
-      record {
-        colours = record {
-          each = (placed.colours).each;
-          least = λ r k c i e. (placed.colours).least r k c (was k i) e;
-        };
-        agree = record {
-          places = λ r i. (placed.agree).places r (was r i);
-          apart = λ r k i j joined fixed e. by r k (was r i) (was k j) joined fixed e;
-        };
-      }
-    where
-      by : (r k : Reg) → IsRegister m r → IsRegister m k → Joined q r.number k.number → r.loc ≢ loc.Unset → r.loc ≡ k.loc →
-          MayShare r k
-      by r k i j (one_way differ h) fixed e =
-          ⊎_elim (λ x. (placed.agree).apart r k i j (one_way differ x) fixed e)
-          (λ w. absurd (fixed (e ∙ is_open k j w))) (meets_back m plan formed reads h)
-      by r k i j (other_way differ h) fixed e =
-          ⊎_elim (λ x. (placed.agree).apart r k i j (other_way differ x) fixed e)
-          (λ w. absurd (fixed (is_open r i w))) (meets_back m plan formed reads h)
+      one.still_placed (again plan) (alike plan) m was (λ n k. IsOpen m plan formed reads k) (λ n k apart h. meets_back m plan formed reads h)
+      (λ r k i j fixed e w. fixed (is_open k j w)) placed
 
   -- ---- names
 

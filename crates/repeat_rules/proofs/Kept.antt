@@ -23,10 +23,11 @@ use Rattle.mach_laws.proofs.Level as levels
 use Rattle.mach_laws.proofs.Places.{tries_expand}
 use Rattle.mach_laws.proofs.Simulate.{Agrees}
 use Rattle.places_rules.proofs.Lists.{head_same, tail_same}
-use Rattle.places_rules.proofs.Files.{none_some, some_same}
+use Rattle.places_rules.proofs.Files.{none_some}
 use Rattle.places_rules.proofs.Walked.{stands_of}
 use Rattle.repeat_rules.specs.Kept.{OwnOrigins}
 use Rattle.repeat_rules.specs.Repeated.{is_operator, allocates, Repeats, from_earlier, again, in_place, with_moves, IsBefore}
+use Rattle.repeat_rules.proofs.OneForOne as one
 use Rattle.repeat_rules.proofs.OneForOne.{frame_same}
 use Rattle.repeat_rules.proofs.Form.{Fate, unchanged, moved, fate, alike, keeps_marks, was_register}
 use Rattle.repeat_rules.proofs.Acting.{Grown, GoesOn, is_stuck, goes_on, straight_on, as_it_was}
@@ -45,13 +46,7 @@ module _ (m : Mach) (plan : ℕ → Option Reg) (own : OwnOrigins m)
 
   -- registers of one origin are one
   agreed : (ws : List Reg) (s : State) → Agrees q ws s
-  agreed ws s =
-      record {
-        agree = λ r k i j origin l e x y g h.
-            let same : r.number ≡ k.number =
-            sym (own r (was_register m plan moves r i)) ∙ origin ∙ own k (was_register m plan moves k j) in
-            ap (λ (z : Held). z.value) (some_same (sym g ∙ ap s.file same ∙ h));
-      }
+  agreed ws s = one.agreed (again plan) (alike plan) m (was_register m plan moves) own ws s
 
   module _ (c : Place) where
     -- both are at one place, with the same round them and in registers, and results that stand hold what they should

@@ -1,14 +1,16 @@
 -- Code in which one instruction stands for each, in its place. It writes what that one did, and has its operation, or both only
 -- compute: so labels, tries and walks are what they were.
-use Rattle.std.proofs.Common.{◌≡◌, ℕ, suc, Bool, true, false, ◌⊎◌, inl, inr, ⊎_elim, List, [], ◌∷◌, ◌++◌, length, refl, sym, ap, ◌∙◌, subst, append_assoc}
+use Rattle.std.proofs.Common.{◌≡◌, ◌≢◌, ℕ, suc, Bool, true, false, ◌⊎◌, inl, inr, ⊎_elim, List, [], ◌∷◌, ◌++◌, length, refl, sym, ap, ◌∙◌, subst, append_assoc}
 use Rattle.std.proofs.lemmas.List.Elements.{Contains-get_or}
 use Rattle.std.specs.List.{All, Contains}
 use Rattle.std.specs.Prelude.{◌≤◌, slice_index_or}
 use Rattle.bs_words.specs.declared.types.Comp.TheVariants as comp
+use Rattle.bs_words.specs.declared.types.Loc.TheVariants as loc
 use Rattle.mach_ir.specs.Acts.{Target, On, At}
 use Rattle.mach_ir.specs.Formed.{labels_in, labels_of, LeadsTo, HasPlace, place_here, place_below, HasHandler, handler_here, handler_below, is_exit, LabelsStand, tries_left, leaves, IsNested, CasesAgree, WellFormed}
-use Rattle.mach_ir.specs.Meaning.{Nothing, has_label, is_handler_of, after_label, from_handler, code_at, tries_at, destroyed_by, killed_by, written, passes_frame}
-use Rattle.mach_ir.specs.Walks.{Among, OneOf, targets, may_raise, goes, Raises, raises, Reached, at_entry, by_step, by_raise, Writes, Live, read, on, aside, LiveAfter, after_step, LiveAcross, across_step, across_raise, InCode, in_args, in_results, further, IsRegister, NoAddrLive, Stands, here, below}
+use Rattle.mach_ir.specs.Placed.{MayShare, WellPlaced}
+use Rattle.mach_ir.specs.Meaning.{Held, State, Nothing, has_label, is_handler_of, after_label, from_handler, code_at, tries_at, destroyed_by, killed_by, written, passes_frame}
+use Rattle.mach_ir.specs.Walks.{Among, OneOf, targets, may_raise, goes, Raises, raises, Reached, at_entry, by_step, by_raise, Writes, Live, read, on, aside, LiveAfter, after_step, LiveAcross, across_step, across_raise, InCode, in_args, in_results, further, IsRegister, NoAddrLive, Stands, here, below, Meets, Joined, one_way, other_way}
 use Rattle.mach_ir.specs.declared.op.Op.TheVariants as op
 use Rattle.mach_ir.specs.declared.op.Pure.{Pure}
 use Rattle.mach_ir.specs.declared.reg.Reg.{Reg}
@@ -22,7 +24,9 @@ use Rattle.mach_laws.specs.Expand.{expand, Ending, all, more, KeepsMarks, no_lab
 use Rattle.mach_laws.proofs.Places.{label_expand, handler_expand, tries_expand, ending_from_handler}
 use Rattle.mach_laws.proofs.Walking.{none_in, first_in, later_in, in_cons, ending_at}
 use Rattle.places_rules.proofs.Lists.{head_same, tail_same, none_there}
-use Rattle.places_rules.proofs.Files.{differ}
+use Rattle.mach_laws.proofs.Simulate.{Agrees}
+use Rattle.places_rules.proofs.Files.{differ, some_same}
+use Rattle.repeat_rules.specs.Kept.{OwnOrigins}
 use Rattle.split_rules.proofs.Formed.{contains_of, stands_in}
 
 -- ---- lists
@@ -388,6 +392,43 @@ module _ (again : ℕ → Instr → Instr) (alike : (k : ℕ) (i : Instr) → St
         ((i : Instr) (next : List Instr) → Ending (i ∷ next) m.code → j ∷ zs ≡ expand g (i ∷ next) → Q (i ∷ next)) → Q rest
     by_head Q [] ending e h = absurd (none_there (sym e))
     by_head Q (i ∷ next) ending e h = h i next ending e
+
+    -- ---- places
+
+    module _ (was : (r : Reg) → IsRegister (now m) r → IsRegister m r) where
+      -- registers of one origin are one
+      pub agreed : OwnOrigins m → (ws : List Reg) (s : State) → Agrees (record m { code = expand (one_each again) m.code }) ws s
+      agreed own ws s =
+          record {
+            agree = λ r k i j origin l e x y h t.
+                let same : r.number ≡ k.number = sym (own r (was r i)) ∙ origin ∙ own k (was k j) in
+                ap (λ (z : Held). z.value) (some_same (sym h ∙ ap s.file same ∙ t));
+          }
+
+      -- Where more registers meet, they are not at one place.
+      pub still_placed : (Meet : ℕ → ℕ → Type 0) → ((n k : ℕ) → n ≢ k → Meets (now m) n k → Meets m n k ⊎ Meet n k) →
+          ((r k : Reg) → IsRegister m r → IsRegister m k → k.loc ≢ loc.Unset → r.loc ≡ k.loc → Meet r.number k.number → ⊥) →
+          WellPlaced m → WellPlaced (record m { code = expand (one_each again) m.code })
+      still_placed Meet meets none placed =
+          record {
+            colours = record {
+              each = (placed.colours).each;
+              least = λ r k c i e. (placed.colours).least r k c (was k i) e;
+            };
+            agree = record {
+              places = λ r i. (placed.agree).places r (was r i);
+              apart = λ r k i j joined fixed e. by r k (was r i) (was k j) joined fixed e;
+            };
+          }
+        where
+          by : (r k : Reg) → IsRegister m r → IsRegister m k → Joined (now m) r.number k.number → r.loc ≢ loc.Unset → r.loc ≡ k.loc →
+              MayShare r k
+          by r k i j (one_way n h) fixed e =
+              ⊎_elim (λ x. (placed.agree).apart r k i j (one_way n x) fixed e)
+              (λ w. absurd (none r k i j (λ u. fixed (e ∙ u)) e w)) (meets r.number k.number n h)
+          by r k i j (other_way n h) fixed e =
+              ⊎_elim (λ x. (placed.agree).apart r k i j (other_way n x) fixed e)
+              (λ w. absurd (none k r j i fixed (sym e) w)) (meets k.number r.number (λ s. n (sym s)) h)
 
     -- ---- what is reached
 

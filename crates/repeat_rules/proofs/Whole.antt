@@ -1,11 +1,11 @@
 -- What a function whose repeats are moves keeps.
-use Rattle.std.proofs.Common.{◌≡◌, ◌≢◌, ℕ, true, inl, ⊎_elim, List, length, Option, Some, None, refl, sym, ap, ◌∙◌, subst}
+use Rattle.std.proofs.Common.{◌≡◌, ◌≢◌, ℕ, true, inl, List, length, Option, Some, None, refl, sym, ap, ◌∙◌, subst}
 use Rattle.std.specs.List.{Contains}
 use Rattle.bs_words.specs.declared.types.Loc.TheVariants as loc
 use Rattle.mach_ir.specs.Formed.{WellFormed}
 use Rattle.mach_ir.specs.Keeps.{Keeps, NamesSymbol, NamesExternal, IsNamedIn}
-use Rattle.mach_ir.specs.Placed.{MayShare, WellPlaced}
-use Rattle.mach_ir.specs.Walks.{IsRegister, Joined, one_way, other_way}
+use Rattle.mach_ir.specs.Placed.{WellPlaced}
+use Rattle.mach_ir.specs.Walks.{IsRegister}
 use Rattle.mach_ir.specs.declared.op.CopyKind.TheVariants as copy
 use Rattle.mach_ir.specs.declared.op.Op.TheVariants as op
 use Rattle.mach_ir.specs.declared.op.Pure.TheVariants as pure
@@ -17,8 +17,9 @@ use Rattle.mach_ir.specs.declared.mach.Mach.{Mach}
 use Rattle.split_rules.proofs.Formed.{contains_of, stands_in}
 use Rattle.repeat_rules.specs.Kept.{OwnOrigins, IsKept}
 use Rattle.repeat_rules.specs.Repeated.{is_operator, same_place, Repeats, again, with_moves, IsBefore, IsRepeated, IsFormKept}
+use Rattle.repeat_rules.proofs.OneForOne as one
 use Rattle.repeat_rules.proofs.OneForOne.{was_main}
-use Rattle.repeat_rules.proofs.Form.{Fate, unchanged, moved, fate, was_register, kept_by}
+use Rattle.repeat_rules.proofs.Form.{Fate, unchanged, moved, fate, alike, was_register, kept_by}
 use Rattle.repeat_rules.proofs.Kept.{does_repeated}
 use Rattle.repeat_rules.proofs.Live.{Apart, meets_back, no_addr_back}
 
@@ -49,25 +50,7 @@ module _ (m : Mach) (plan : ℕ → Option Reg) (formed : WellFormed m)
 
   still_placed : WellPlaced m → WellPlaced q
   still_placed placed =
-      record {
-        colours = record {
-          each = (placed.colours).each;
-          least = λ r k c i e. (placed.colours).least r k c (was k i) e;
-        };
-        agree = record {
-          places = λ r i. (placed.agree).places r (was r i);
-          apart = λ r k i j joined fixed e. by r k (was r i) (was k j) joined fixed e;
-        };
-      }
-    where
-      by : (r k : Reg) → IsRegister m r → IsRegister m k → Joined q r.number k.number → r.loc ≢ loc.Unset → r.loc ≡ k.loc →
-          MayShare r k
-      by r k i j (one_way differ h) fixed e =
-          ⊎_elim (λ x. (placed.agree).apart r k i j (one_way differ x) fixed e)
-          (λ w. absurd (none_apart r k i j (λ u. fixed (e ∙ u)) e w)) (meets_back m plan moves differ h)
-      by r k i j (other_way differ h) fixed e =
-          ⊎_elim (λ x. (placed.agree).apart r k i j (other_way differ x) fixed e)
-          (λ w. absurd (none_apart k r j i fixed (sym e) w)) (meets_back m plan moves (λ s. differ (sym s)) h)
+      one.still_placed (again plan) (alike plan) m was (Apart m plan moves) (λ n k apart h. meets_back m plan moves apart h) none_apart placed
 
   -- ---- names
 
