@@ -22,7 +22,7 @@ pub(crate) fn signed_comparison(
     match op {
         CmpOp::Eq => as_truth(equality_of(memory, left, right)),
         CmpOp::Ne => as_untruth(equality_of(memory, left, right)),
-        _ => signed_order(op, memory, left, right),
+        CmpOp::Lt | CmpOp::Le | CmpOp::Gt | CmpOp::Ge => signed_order(op, memory, left, right),
     }
 }
 
@@ -38,7 +38,7 @@ pub(crate) fn unsigned_comparison(
     match op {
         CmpOp::Eq => as_truth(equality_of(memory, left, right)),
         CmpOp::Ne => as_untruth(equality_of(memory, left, right)),
-        _ => unsigned_order(op, memory, left, right),
+        CmpOp::Lt | CmpOp::Le | CmpOp::Gt | CmpOp::Ge => unsigned_order(op, memory, left, right),
     }
 }
 

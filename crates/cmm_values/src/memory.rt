@@ -283,7 +283,9 @@ impl Memory {
         match chunk {
             Chunk::Int => self.put_whole(Ty::Int, cell, value),
             Chunk::Val => self.put_whole(Ty::Val, cell, value),
-            _ => self.put_part(cell, offset, width(chunk), value),
+            Chunk::U8 | Chunk::I8 | Chunk::U16 | Chunk::I16 | Chunk::U32 | Chunk::I32 => {
+                self.put_part(cell, offset, width(chunk), value)
+            }
         }
     }
 

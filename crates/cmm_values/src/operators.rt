@@ -22,7 +22,9 @@ pub fn apply(op: IntOp, memory: &Memory, left: Value, right: Value) -> Result<Va
         IntOp::And => bits_in_both(left, right),
         IntOp::Cmp(op) => signed_comparison(op, memory, left, right),
         IntOp::CmpU(op) => unsigned_comparison(op, memory, left, right),
-        _ => apply_to_words(op, left, right),
+        IntOp::Mul | IntOp::Mulh | IntOp::Div | IntOp::Mod => apply_to_words(op, left, right),
+        IntOp::Or | IntOp::Xor => apply_to_words(op, left, right),
+        IntOp::Shl | IntOp::Shr | IntOp::Sar => apply_to_words(op, left, right),
     }
 }
 
@@ -40,7 +42,9 @@ fn apply_to_words(op: IntOp, left: Value, right: Value) -> Result<Value, Kind>
         IntOp::Shl => left_shift_of(left, right),
         IntOp::Shr => right_shift_of(left, right),
         IntOp::Sar => signed_right_shift_of(left, right),
-        _ => Err(Kind::PointerArithmetic),
+        IntOp::Add | IntOp::AddV | IntOp::AddA => Err(Kind::PointerArithmetic),
+        IntOp::Sub | IntOp::And => Err(Kind::PointerArithmetic),
+        IntOp::Cmp(_) | IntOp::CmpU(_) => Err(Kind::PointerArithmetic),
     }
 }
 
@@ -235,6 +239,6 @@ pub fn word_in(value: Value) -> Result<u64, Kind>
 {
     match value {
         Value::Word(word) => Ok(word),
-        _ => Err(Kind::PointerArithmetic),
+        Value::Block { .. } | Value::Function(_) => Err(Kind::PointerArithmetic),
     }
 }
