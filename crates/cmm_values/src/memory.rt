@@ -311,7 +311,8 @@ impl Memory {
             (Value::Word(old), Value::Word(new)) => {
                 self.put_in(cell, Value::Word(replaced(old, offset, bytes, new)))
             }
-            _ => Err(Kind::PartOfPointer),
+            (Value::Block { .. } | Value::Function(_), _)
+            | (_, Value::Block { .. } | Value::Function(_)) => Err(Kind::PartOfPointer),
         }
     }
 

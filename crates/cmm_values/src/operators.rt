@@ -61,7 +61,9 @@ fn sum_of(left: Value, right: Value) -> Result<Value, Kind>
             serial,
             offset: add(offset, word),
         }),
-        _ => Err(Kind::PointerArithmetic),
+        (Value::Function(_), _)
+        | (_, Value::Function(_))
+        | (Value::Block { .. }, Value::Block { .. }) => Err(Kind::PointerArithmetic),
     }
 }
 
@@ -85,7 +87,9 @@ fn difference_of(left: Value, right: Value) -> Result<Value, Kind>
             Kind::PointerArithmetic,
             Value::Word(sub(offset, from)),
         ),
-        _ => Err(Kind::PointerArithmetic),
+        (Value::Function(_), _)
+        | (_, Value::Function(_))
+        | (Value::Word(_), Value::Block { .. }) => Err(Kind::PointerArithmetic),
     }
 }
 
@@ -101,7 +105,8 @@ fn product_of(left: Value, right: Value) -> Result<Value, Kind>
 {
     match (left, right) {
         (Value::Word(a), Value::Word(b)) => Ok(Value::Word(mul(a, b))),
-        _ => Err(Kind::PointerArithmetic),
+        (Value::Block { .. } | Value::Function(_), _)
+        | (_, Value::Block { .. } | Value::Function(_)) => Err(Kind::PointerArithmetic),
     }
 }
 
@@ -110,7 +115,8 @@ fn high_product_of(left: Value, right: Value) -> Result<Value, Kind>
 {
     match (left, right) {
         (Value::Word(a), Value::Word(b)) => Ok(Value::Word(mulh(a, b))),
-        _ => Err(Kind::PointerArithmetic),
+        (Value::Block { .. } | Value::Function(_), _)
+        | (_, Value::Block { .. } | Value::Function(_)) => Err(Kind::PointerArithmetic),
     }
 }
 
@@ -119,7 +125,8 @@ fn either_bits_of(left: Value, right: Value) -> Result<Value, Kind>
 {
     match (left, right) {
         (Value::Word(a), Value::Word(b)) => Ok(Value::Word(a | b)),
-        _ => Err(Kind::PointerArithmetic),
+        (Value::Block { .. } | Value::Function(_), _)
+        | (_, Value::Block { .. } | Value::Function(_)) => Err(Kind::PointerArithmetic),
     }
 }
 
@@ -128,7 +135,8 @@ fn unequal_bits_of(left: Value, right: Value) -> Result<Value, Kind>
 {
     match (left, right) {
         (Value::Word(a), Value::Word(b)) => Ok(Value::Word(a ^ b)),
-        _ => Err(Kind::PointerArithmetic),
+        (Value::Block { .. } | Value::Function(_), _)
+        | (_, Value::Block { .. } | Value::Function(_)) => Err(Kind::PointerArithmetic),
     }
 }
 
@@ -139,7 +147,8 @@ fn quotient_of(left: Value, right: Value) -> Result<Value, Kind>
     match (left, right) {
         (_, Value::Word(0)) => Err(Kind::DivideByZero),
         (Value::Word(a), Value::Word(b)) => Ok(Value::Word(div(a, b))),
-        _ => Err(Kind::PointerArithmetic),
+        (Value::Block { .. } | Value::Function(_), _)
+        | (_, Value::Block { .. } | Value::Function(_)) => Err(Kind::PointerArithmetic),
     }
 }
 
@@ -149,7 +158,8 @@ fn remainder_of(left: Value, right: Value) -> Result<Value, Kind>
     match (left, right) {
         (_, Value::Word(0)) => Err(Kind::DivideByZero),
         (Value::Word(a), Value::Word(b)) => Ok(Value::Word(rem(a, b))),
-        _ => Err(Kind::PointerArithmetic),
+        (Value::Block { .. } | Value::Function(_), _)
+        | (_, Value::Block { .. } | Value::Function(_)) => Err(Kind::PointerArithmetic),
     }
 }
 
@@ -160,7 +170,8 @@ fn left_shift_of(left: Value, right: Value) -> Result<Value, Kind>
     match (left, right) {
         (_, Value::Word(64..)) => Err(Kind::ShiftRange),
         (Value::Word(a), Value::Word(b)) => Ok(Value::Word(shl(a, b as u32))),
-        _ => Err(Kind::PointerArithmetic),
+        (Value::Block { .. } | Value::Function(_), _)
+        | (_, Value::Block { .. } | Value::Function(_)) => Err(Kind::PointerArithmetic),
     }
 }
 
@@ -170,7 +181,8 @@ fn right_shift_of(left: Value, right: Value) -> Result<Value, Kind>
     match (left, right) {
         (_, Value::Word(64..)) => Err(Kind::ShiftRange),
         (Value::Word(a), Value::Word(b)) => Ok(Value::Word(shr(a, b as u32))),
-        _ => Err(Kind::PointerArithmetic),
+        (Value::Block { .. } | Value::Function(_), _)
+        | (_, Value::Block { .. } | Value::Function(_)) => Err(Kind::PointerArithmetic),
     }
 }
 
@@ -180,7 +192,8 @@ fn signed_right_shift_of(left: Value, right: Value) -> Result<Value, Kind>
     match (left, right) {
         (_, Value::Word(64..)) => Err(Kind::ShiftRange),
         (Value::Word(a), Value::Word(b)) => Ok(Value::Word(sar(a, b as u32))),
-        _ => Err(Kind::PointerArithmetic),
+        (Value::Block { .. } | Value::Function(_), _)
+        | (_, Value::Block { .. } | Value::Function(_)) => Err(Kind::PointerArithmetic),
     }
 }
 
@@ -197,7 +210,9 @@ fn bits_in_both(left: Value, right: Value) -> Result<Value, Kind>
         (Value::Word(mask), Value::Function(_)) => {
             only_if(mask == 1, Kind::PointerArithmetic, Value::Word(0))
         }
-        _ => Err(Kind::PointerArithmetic),
+        (Value::Block { .. } | Value::Function(_), Value::Block { .. } | Value::Function(_)) => {
+            Err(Kind::PointerArithmetic)
+        }
     }
 }
 
