@@ -22,9 +22,15 @@ pub fn apply(op: IntOp, memory: &Memory, left: Value, right: Value) -> Result<Va
         IntOp::And => bits_in_both(left, right),
         IntOp::Cmp(op) => signed_comparison(op, memory, left, right),
         IntOp::CmpU(op) => unsigned_comparison(op, memory, left, right),
-        IntOp::Mul | IntOp::Mulh | IntOp::Div | IntOp::Mod => apply_to_words(op, left, right),
-        IntOp::Or | IntOp::Xor => apply_to_words(op, left, right),
-        IntOp::Shl | IntOp::Shr | IntOp::Sar => apply_to_words(op, left, right),
+        IntOp::Mul
+        | IntOp::Mulh
+        | IntOp::Div
+        | IntOp::Mod
+        | IntOp::Or
+        | IntOp::Xor
+        | IntOp::Shl
+        | IntOp::Shr
+        | IntOp::Sar => apply_to_words(op, left, right),
     }
 }
 
@@ -42,9 +48,13 @@ fn apply_to_words(op: IntOp, left: Value, right: Value) -> Result<Value, Kind>
         IntOp::Shl => left_shift_of(left, right),
         IntOp::Shr => right_shift_of(left, right),
         IntOp::Sar => signed_right_shift_of(left, right),
-        IntOp::Add | IntOp::AddV | IntOp::AddA => Err(Kind::PointerArithmetic),
-        IntOp::Sub | IntOp::And => Err(Kind::PointerArithmetic),
-        IntOp::Cmp(_) | IntOp::CmpU(_) => Err(Kind::PointerArithmetic),
+        IntOp::Add
+        | IntOp::AddV
+        | IntOp::AddA
+        | IntOp::Sub
+        | IntOp::And
+        | IntOp::Cmp(_)
+        | IntOp::CmpU(_) => Err(Kind::PointerArithmetic),
     }
 }
 

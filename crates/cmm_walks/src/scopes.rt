@@ -182,10 +182,21 @@ impl<'a> Cells<'a> {
                     let second = self.is_light(scope, right);
                     both(first, second)
                 }
-                IntOp::Add | IntOp::Sub | IntOp::Mul | IntOp::Mulh => false,
-                IntOp::Div | IntOp::Mod | IntOp::And | IntOp::Or | IntOp::Xor => false,
-                IntOp::Shl | IntOp::Shr | IntOp::Sar | IntOp::AddV => false,
-                IntOp::Cmp(_) | IntOp::CmpU(_) => false,
+                IntOp::Add
+                | IntOp::Sub
+                | IntOp::Mul
+                | IntOp::Mulh
+                | IntOp::Div
+                | IntOp::Mod
+                | IntOp::And
+                | IntOp::Or
+                | IntOp::Xor
+                | IntOp::Shl
+                | IntOp::Shr
+                | IntOp::Sar
+                | IntOp::Cmp(_)
+                | IntOp::CmpU(_)
+                | IntOp::AddV => false,
             },
             Form::Integer(_)
             | Form::Pointer(_)
