@@ -128,9 +128,9 @@ pub(crate) fn loaded_as(chunk: Chunk, end: u64, offset: u64, value: Value) -> Re
     match chunk {
         Chunk::Int => of_type(end, Ty::Int, value),
         Chunk::Val => of_type(end, Ty::Val, value),
-        _ => match value {
+        Chunk::U8 | Chunk::I8 | Chunk::U16 | Chunk::I16 | Chunk::U32 | Chunk::I32 => match value {
             Value::Word(word) => Ok(Value::Word(extended(chunk, part(word, offset, width(chunk))))),
-            _ => Err(Kind::PartOfPointer),
+            Value::Block { .. } | Value::Function(_) => Err(Kind::PartOfPointer),
         },
     }
 }
@@ -174,7 +174,7 @@ fn extended(chunk: Chunk, word: u64) -> u64
         Chunk::I8 => sext(word, 8),
         Chunk::I16 => sext(word, 16),
         Chunk::I32 => sext(word, 32),
-        _ => word,
+        Chunk::U8 | Chunk::U16 | Chunk::U32 | Chunk::Int | Chunk::Val => word,
     }
 }
 

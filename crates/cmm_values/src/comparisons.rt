@@ -22,7 +22,7 @@ pub(crate) fn signed_comparison(
     match op {
         CmpOp::Eq => as_truth(equality_of(memory, left, right)),
         CmpOp::Ne => as_untruth(equality_of(memory, left, right)),
-        _ => signed_order(op, memory, left, right),
+        CmpOp::Lt | CmpOp::Le | CmpOp::Gt | CmpOp::Ge => signed_order(op, memory, left, right),
     }
 }
 
@@ -38,7 +38,7 @@ pub(crate) fn unsigned_comparison(
     match op {
         CmpOp::Eq => as_truth(equality_of(memory, left, right)),
         CmpOp::Ne => as_untruth(equality_of(memory, left, right)),
-        _ => unsigned_order(op, memory, left, right),
+        CmpOp::Lt | CmpOp::Le | CmpOp::Gt | CmpOp::Ge => unsigned_order(op, memory, left, right),
     }
 }
 
@@ -207,7 +207,8 @@ fn signed_order(op: CmpOp, memory: &Memory, left: Value, right: Value) -> Result
 {
     match (left, right) {
         (Value::Word(a), Value::Word(b)) => Ok(truth(signed_holds(op, a, b))),
-        _ => pointer_order(op, memory, left, right),
+        (Value::Block { .. } | Value::Function(_), _)
+        | (_, Value::Block { .. } | Value::Function(_)) => pointer_order(op, memory, left, right),
     }
 }
 
@@ -216,7 +217,8 @@ fn unsigned_order(op: CmpOp, memory: &Memory, left: Value, right: Value) -> Resu
 {
     match (left, right) {
         (Value::Word(a), Value::Word(b)) => Ok(truth(unsigned_holds(op, a, b))),
-        _ => pointer_order(op, memory, left, right),
+        (Value::Block { .. } | Value::Function(_), _)
+        | (_, Value::Block { .. } | Value::Function(_)) => pointer_order(op, memory, left, right),
     }
 }
 
@@ -236,6 +238,7 @@ fn pointer_order(op: CmpOp, memory: &Memory, left: Value, right: Value) -> Resul
             Kind::PointerOrder,
             truth(signed_holds(op, offset, at)),
         ),
-        _ => Err(Kind::PointerOrder),
+        (Value::Word(_) | Value::Function(_), _)
+        | (_, Value::Word(_) | Value::Function(_)) => Err(Kind::PointerOrder),
     }
 }

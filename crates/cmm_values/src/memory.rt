@@ -283,7 +283,9 @@ impl Memory {
         match chunk {
             Chunk::Int => self.put_whole(Ty::Int, cell, value),
             Chunk::Val => self.put_whole(Ty::Val, cell, value),
-            _ => self.put_part(cell, offset, width(chunk), value),
+            Chunk::U8 | Chunk::I8 | Chunk::U16 | Chunk::I16 | Chunk::U32 | Chunk::I32 => {
+                self.put_part(cell, offset, width(chunk), value)
+            }
         }
     }
 
@@ -309,7 +311,8 @@ impl Memory {
             (Value::Word(old), Value::Word(new)) => {
                 self.put_in(cell, Value::Word(replaced(old, offset, bytes, new)))
             }
-            _ => Err(Kind::PartOfPointer),
+            (Value::Block { .. } | Value::Function(_), _)
+            | (_, Value::Block { .. } | Value::Function(_)) => Err(Kind::PartOfPointer),
         }
     }
 

@@ -22,7 +22,15 @@ pub fn apply(op: IntOp, memory: &Memory, left: Value, right: Value) -> Result<Va
         IntOp::And => bits_in_both(left, right),
         IntOp::Cmp(op) => signed_comparison(op, memory, left, right),
         IntOp::CmpU(op) => unsigned_comparison(op, memory, left, right),
-        _ => apply_to_words(op, left, right),
+        IntOp::Mul
+        | IntOp::Mulh
+        | IntOp::Div
+        | IntOp::Mod
+        | IntOp::Or
+        | IntOp::Xor
+        | IntOp::Shl
+        | IntOp::Shr
+        | IntOp::Sar => apply_to_words(op, left, right),
     }
 }
 
@@ -40,7 +48,13 @@ fn apply_to_words(op: IntOp, left: Value, right: Value) -> Result<Value, Kind>
         IntOp::Shl => left_shift_of(left, right),
         IntOp::Shr => right_shift_of(left, right),
         IntOp::Sar => signed_right_shift_of(left, right),
-        _ => Err(Kind::PointerArithmetic),
+        IntOp::Add
+        | IntOp::AddV
+        | IntOp::AddA
+        | IntOp::Sub
+        | IntOp::And
+        | IntOp::Cmp(_)
+        | IntOp::CmpU(_) => Err(Kind::PointerArithmetic),
     }
 }
 
@@ -57,7 +71,9 @@ fn sum_of(left: Value, right: Value) -> Result<Value, Kind>
             serial,
             offset: add(offset, word),
         }),
-        _ => Err(Kind::PointerArithmetic),
+        (Value::Function(_), _)
+        | (_, Value::Function(_))
+        | (Value::Block { .. }, Value::Block { .. }) => Err(Kind::PointerArithmetic),
     }
 }
 
@@ -81,7 +97,9 @@ fn difference_of(left: Value, right: Value) -> Result<Value, Kind>
             Kind::PointerArithmetic,
             Value::Word(sub(offset, from)),
         ),
-        _ => Err(Kind::PointerArithmetic),
+        (Value::Function(_), _)
+        | (_, Value::Function(_))
+        | (Value::Word(_), Value::Block { .. }) => Err(Kind::PointerArithmetic),
     }
 }
 
@@ -97,7 +115,8 @@ fn product_of(left: Value, right: Value) -> Result<Value, Kind>
 {
     match (left, right) {
         (Value::Word(a), Value::Word(b)) => Ok(Value::Word(mul(a, b))),
-        _ => Err(Kind::PointerArithmetic),
+        (Value::Block { .. } | Value::Function(_), _)
+        | (_, Value::Block { .. } | Value::Function(_)) => Err(Kind::PointerArithmetic),
     }
 }
 
@@ -106,7 +125,8 @@ fn high_product_of(left: Value, right: Value) -> Result<Value, Kind>
 {
     match (left, right) {
         (Value::Word(a), Value::Word(b)) => Ok(Value::Word(mulh(a, b))),
-        _ => Err(Kind::PointerArithmetic),
+        (Value::Block { .. } | Value::Function(_), _)
+        | (_, Value::Block { .. } | Value::Function(_)) => Err(Kind::PointerArithmetic),
     }
 }
 
@@ -115,7 +135,8 @@ fn either_bits_of(left: Value, right: Value) -> Result<Value, Kind>
 {
     match (left, right) {
         (Value::Word(a), Value::Word(b)) => Ok(Value::Word(a | b)),
-        _ => Err(Kind::PointerArithmetic),
+        (Value::Block { .. } | Value::Function(_), _)
+        | (_, Value::Block { .. } | Value::Function(_)) => Err(Kind::PointerArithmetic),
     }
 }
 
@@ -124,7 +145,8 @@ fn unequal_bits_of(left: Value, right: Value) -> Result<Value, Kind>
 {
     match (left, right) {
         (Value::Word(a), Value::Word(b)) => Ok(Value::Word(a ^ b)),
-        _ => Err(Kind::PointerArithmetic),
+        (Value::Block { .. } | Value::Function(_), _)
+        | (_, Value::Block { .. } | Value::Function(_)) => Err(Kind::PointerArithmetic),
     }
 }
 
@@ -135,7 +157,8 @@ fn quotient_of(left: Value, right: Value) -> Result<Value, Kind>
     match (left, right) {
         (_, Value::Word(0)) => Err(Kind::DivideByZero),
         (Value::Word(a), Value::Word(b)) => Ok(Value::Word(div(a, b))),
-        _ => Err(Kind::PointerArithmetic),
+        (Value::Block { .. } | Value::Function(_), _)
+        | (_, Value::Block { .. } | Value::Function(_)) => Err(Kind::PointerArithmetic),
     }
 }
 
@@ -145,7 +168,8 @@ fn remainder_of(left: Value, right: Value) -> Result<Value, Kind>
     match (left, right) {
         (_, Value::Word(0)) => Err(Kind::DivideByZero),
         (Value::Word(a), Value::Word(b)) => Ok(Value::Word(rem(a, b))),
-        _ => Err(Kind::PointerArithmetic),
+        (Value::Block { .. } | Value::Function(_), _)
+        | (_, Value::Block { .. } | Value::Function(_)) => Err(Kind::PointerArithmetic),
     }
 }
 
@@ -156,7 +180,8 @@ fn left_shift_of(left: Value, right: Value) -> Result<Value, Kind>
     match (left, right) {
         (_, Value::Word(64..)) => Err(Kind::ShiftRange),
         (Value::Word(a), Value::Word(b)) => Ok(Value::Word(shl(a, b as u32))),
-        _ => Err(Kind::PointerArithmetic),
+        (Value::Block { .. } | Value::Function(_), _)
+        | (_, Value::Block { .. } | Value::Function(_)) => Err(Kind::PointerArithmetic),
     }
 }
 
@@ -166,7 +191,8 @@ fn right_shift_of(left: Value, right: Value) -> Result<Value, Kind>
     match (left, right) {
         (_, Value::Word(64..)) => Err(Kind::ShiftRange),
         (Value::Word(a), Value::Word(b)) => Ok(Value::Word(shr(a, b as u32))),
-        _ => Err(Kind::PointerArithmetic),
+        (Value::Block { .. } | Value::Function(_), _)
+        | (_, Value::Block { .. } | Value::Function(_)) => Err(Kind::PointerArithmetic),
     }
 }
 
@@ -176,7 +202,8 @@ fn signed_right_shift_of(left: Value, right: Value) -> Result<Value, Kind>
     match (left, right) {
         (_, Value::Word(64..)) => Err(Kind::ShiftRange),
         (Value::Word(a), Value::Word(b)) => Ok(Value::Word(sar(a, b as u32))),
-        _ => Err(Kind::PointerArithmetic),
+        (Value::Block { .. } | Value::Function(_), _)
+        | (_, Value::Block { .. } | Value::Function(_)) => Err(Kind::PointerArithmetic),
     }
 }
 
@@ -193,7 +220,9 @@ fn bits_in_both(left: Value, right: Value) -> Result<Value, Kind>
         (Value::Word(mask), Value::Function(_)) => {
             only_if(mask == 1, Kind::PointerArithmetic, Value::Word(0))
         }
-        _ => Err(Kind::PointerArithmetic),
+        (Value::Block { .. } | Value::Function(_), Value::Block { .. } | Value::Function(_)) => {
+            Err(Kind::PointerArithmetic)
+        }
     }
 }
 
@@ -235,6 +264,6 @@ pub fn word_in(value: Value) -> Result<u64, Kind>
 {
     match value {
         Value::Word(word) => Ok(word),
-        _ => Err(Kind::PointerArithmetic),
+        Value::Block { .. } | Value::Function(_) => Err(Kind::PointerArithmetic),
     }
 }

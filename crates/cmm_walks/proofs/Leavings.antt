@@ -58,24 +58,6 @@ own-as label n s t x y found e k =
     let P : Item → Type 0 = λ z. IsHeld n s t z → LeadsTo n t found (own_handler label s t z) in
     subst P (sym e) k
 
-pub own-none : (label : LabelTree) (s : ℕ → List Slotted) (t : ℕ → List Task) (x : Item)
-    → ((scope slot : ℕ) (in_handler : Bool) (handlers : _) (first rest : ℕ) → x ≡ item.Catches scope slot in_handler handlers first rest → ⊥)
-    → ((scope slot : ℕ) (handlers own : _) (first rest : ℕ) → x ≡ item.Handler scope slot handlers own first rest → ⊥)
-    → own_handler label s t x ≡ None
-own-none label s t item.Empty c h = refl
-own-none label s t (item.Named name type mutable slot outer) c h = refl
-own-none label s t (item.Does action rest) c h = refl
-own-none label s t (item.Evaluates scope slot expr rest) c h = refl
-own-none label s t (item.Enters scope slot bindings body rest) c h = refl
-own-none label s t (item.Either scope slot on_true on_false rest) c h = refl
-own-none label s t (item.OneOf scope slot cases rest) c h = refl
-own-none label s t (item.MayRaise rest) c h = refl
-own-none label s t (item.Raises rest) c h = refl
-own-none label s t (item.Exits label' rest) c h = refl
-own-none label s t (item.Catches scope slot in_handler handlers first rest) c h = absurd (c scope slot in_handler handlers first rest refl)
-own-none label s t (item.Handler scope slot handlers own first rest) c h = absurd (h scope slot handlers own first rest refl)
-own-none label s t (item.Handles scope slot name_at name handler entry rest) c h = refl
-
 -- ---- an exit
 
 exit-params : (label : LabelTree) (slot : ℕ) (params : List Parameter) (l : List Task) → behind_exit label (parameters_bound slot params ++ l) ≡ behind_exit label l

@@ -12,7 +12,6 @@ use Rattle.cmm_walks.specs.Found.{found_of, found_in}
 use Rattle.cmm_walks.specs.Sound.{IsSound, IsScope}
 use Rattle.cmm_walks.specs.Walks.{Slotted, names, slot_of, first_slot}
 use Rattle.cmm_walks.specs.declared.items.Item.{Item}
-use Rattle.cmm_walks.specs.declared.items.Item.TheVariants as item
 use Rattle.cmm_walks.specs.declared.scopes.Found.{Found}
 use Rattle.cmm_walks.proofs.Arena.{item-past}
 use Rattle.cmm_walks.proofs.Pushed.{scope-is}
@@ -80,20 +79,3 @@ cell-scope items c x s sound scope e = sym scope.is ∙ scope-is items c x sound
 
 pub no-cell : (items : List Item) (c : ℕ) (s : List Slotted) → IsScope items c s → item_at items c ≡ None → ⊥
 no-cell items c s scope e = let h : length items ≤ c = item-past items c e in omega (arith, scope.within)
-
-pub not-named : (scopes : ℕ → List Slotted) (x : Item)
-    → ((name : _) (type : Ty) (mutable : Bool) (slot outer : ℕ) → x ≡ item.Named name type mutable slot outer → ⊥)
-    → scope_in scopes x ≡ []
-not-named scopes item.Empty h = refl
-not-named scopes (item.Named name type mutable slot outer) h = absurd (h name type mutable slot outer refl)
-not-named scopes (item.Does action rest) h = refl
-not-named scopes (item.Evaluates scope slot expr rest) h = refl
-not-named scopes (item.Enters scope slot bindings body rest) h = refl
-not-named scopes (item.Either scope slot on_true on_false rest) h = refl
-not-named scopes (item.OneOf scope slot cases rest) h = refl
-not-named scopes (item.MayRaise rest) h = refl
-not-named scopes (item.Raises rest) h = refl
-not-named scopes (item.Exits label rest) h = refl
-not-named scopes (item.Catches scope slot in_handler handlers first rest) h = refl
-not-named scopes (item.Handler scope slot handlers own first rest) h = refl
-not-named scopes (item.Handles scope slot name_at name handler entry rest) h = refl

@@ -29,7 +29,10 @@ fn same_label(one: &Label, other: &Label) -> bool
         (Label::Bare, Label::Bare) => true,
         (Label::Done, Label::Done) => true,
         (Label::Again, Label::Again) => true,
-        _ => false,
+        (Label::Named(_), Label::Bare | Label::Done | Label::Again) => false,
+        (Label::Bare, Label::Named(_) | Label::Done | Label::Again) => false,
+        (Label::Done, Label::Named(_) | Label::Bare | Label::Again) => false,
+        (Label::Again, Label::Named(_) | Label::Bare | Label::Done) => false,
     }
 }
 
@@ -38,7 +41,7 @@ fn is_bare(label: &Label) -> bool
 {
     match label {
         Label::Bare => true,
-        _ => false,
+        Label::Named(_) | Label::Done | Label::Again => false,
     }
 }
 
@@ -98,7 +101,17 @@ fn own_handler(label: &Label, item: Item<'_>) -> Result<Option<u32>, AllocError>
             first,
             ..
         } => find_handler(label, true, handlers, first),
-        _ => Ok(None),
+        Item::Empty
+        | Item::Named { .. }
+        | Item::Does { .. }
+        | Item::Evaluates { .. }
+        | Item::Enters { .. }
+        | Item::Either { .. }
+        | Item::OneOf { .. }
+        | Item::MayRaise { .. }
+        | Item::Raises { .. }
+        | Item::Exits { .. }
+        | Item::Handles { .. } => Ok(None),
     }
 }
 
@@ -194,7 +207,18 @@ impl<'a> Cells<'a> {
     {
         match item {
             Item::Handles { entry, .. } => Some(entry),
-            _ => self.raise_behind(cell, item),
+            Item::Empty
+            | Item::Named { .. }
+            | Item::Does { .. }
+            | Item::Evaluates { .. }
+            | Item::Enters { .. }
+            | Item::Either { .. }
+            | Item::OneOf { .. }
+            | Item::MayRaise { .. }
+            | Item::Raises { .. }
+            | Item::Exits { .. }
+            | Item::Catches { .. }
+            | Item::Handler { .. } => self.raise_behind(cell, item),
         }
     }
 

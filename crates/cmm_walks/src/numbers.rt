@@ -36,7 +36,7 @@ pub fn is_address(ty: Ty) -> bool
 {
     match ty {
         Ty::Addr => true,
-        _ => false,
+        Ty::Never | Ty::NoValue | Ty::Int | Ty::Val => false,
     }
 }
 

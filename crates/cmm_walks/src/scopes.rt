@@ -108,7 +108,18 @@ impl<'a> Cells<'a> {
                 }
                 None
             }
-            _ => None,
+            Item::Empty
+            | Item::Does { .. }
+            | Item::Evaluates { .. }
+            | Item::Enters { .. }
+            | Item::Either { .. }
+            | Item::OneOf { .. }
+            | Item::MayRaise { .. }
+            | Item::Raises { .. }
+            | Item::Exits { .. }
+            | Item::Catches { .. }
+            | Item::Handler { .. }
+            | Item::Handles { .. } => None,
         }
     }
 
@@ -137,7 +148,24 @@ impl<'a> Cells<'a> {
                 let second = self.is_light(scope, right);
                 both(is_light_operator(*op), both(first, second))
             }
-            _ => false,
+            Form::Pointer(_)
+            | Form::Nothing
+            | Form::Float { .. }
+            | Form::Let(_, _)
+            | Form::Assign { .. }
+            | Form::Load(_, _)
+            | Form::Store(_, _, _)
+            | Form::Alloc { .. }
+            | Form::App { .. }
+            | Form::Extcall { .. }
+            | Form::Checkbound(_, _)
+            | Form::Raise(_)
+            | Form::Seq(_)
+            | Form::If(_, _, _)
+            | Form::Switch { .. }
+            | Form::Catch(_, _)
+            | Form::Exit { .. }
+            | Form::Try { .. } => false,
         }
     }
 
@@ -148,12 +176,49 @@ impl<'a> Cells<'a> {
             result ≡ is_light_address (names s) (expr_view expr.now) }
     {
         match &expr.form {
-            Form::Operator(IntOp::AddA, left, right) => {
-                let first = self.is_light(scope, left);
-                let second = self.is_light(scope, right);
-                both(first, second)
-            }
-            _ => false,
+            Form::Operator(op, left, right) => match op {
+                IntOp::AddA => {
+                    let first = self.is_light(scope, left);
+                    let second = self.is_light(scope, right);
+                    both(first, second)
+                }
+                IntOp::Add
+                | IntOp::Sub
+                | IntOp::Mul
+                | IntOp::Mulh
+                | IntOp::Div
+                | IntOp::Mod
+                | IntOp::And
+                | IntOp::Or
+                | IntOp::Xor
+                | IntOp::Shl
+                | IntOp::Shr
+                | IntOp::Sar
+                | IntOp::Cmp(_)
+                | IntOp::CmpU(_)
+                | IntOp::AddV => false,
+            },
+            Form::Integer(_)
+            | Form::Pointer(_)
+            | Form::Symbol(_)
+            | Form::Name(_)
+            | Form::Nothing
+            | Form::Float { .. }
+            | Form::Let(_, _)
+            | Form::Assign { .. }
+            | Form::Load(_, _)
+            | Form::Store(_, _, _)
+            | Form::Alloc { .. }
+            | Form::App { .. }
+            | Form::Extcall { .. }
+            | Form::Checkbound(_, _)
+            | Form::Raise(_)
+            | Form::Seq(_)
+            | Form::If(_, _, _)
+            | Form::Switch { .. }
+            | Form::Catch(_, _)
+            | Form::Exit { .. }
+            | Form::Try { .. } => false,
         }
     }
 }
@@ -172,6 +237,6 @@ fn is_light_operator(op: IntOp) -> bool
         IntOp::And | IntOp::Or | IntOp::Xor => true,
         IntOp::Shl | IntOp::Shr | IntOp::Sar => true,
         IntOp::AddV | IntOp::AddA => true,
-        _ => false,
+        IntOp::Mulh | IntOp::Div | IntOp::Mod | IntOp::Cmp(_) | IntOp::CmpU(_) => false,
     }
 }

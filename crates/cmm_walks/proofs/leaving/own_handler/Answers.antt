@@ -1,6 +1,8 @@
+use Rattle.std.proofs.Common.{inl, inr, ap}
 use Rattle.std.proofs.lemmas.Result.{IfOk-weaker}
 use Rattle.cmm_tree.specs.View.{label_view}
-use Rattle.cmm_walks.proofs.Leavings.{own-as, own-none}
+use Rattle.cmm_walks.specs.Leaving.{own_handler}
+use Rattle.cmm_walks.proofs.Leavings.{own-as}
 use Rattle.cmm_walks.proofs.leaving.own_handler.Goals as goal
 
 pub returns-in-Catches : goal.returns-in-Catches
@@ -15,5 +17,19 @@ returns-in-Handler c =
     (λ found h. λ count scopes tasks. own-as (label_view c.args.label.now) count scopes tasks c.args.item _ found c.in-Handler.is (λ held. h count tasks _ _ _ _ held.1))
     c.find_handler-in-Handler.ensures
 
-pub returns-in_default : goal.returns-in_default
-returns-in_default c = λ count scopes tasks held. own-none (label_view c.args.label.now) scopes tasks c.args.item c.in_default.not-Catches c.in_default.not-Handler
+pub returns-in-Empty : goal.returns-in-Empty
+returns-in-Empty c = λ count scopes tasks held.
+    let own = own_handler (label_view c.args.label.now) scopes tasks in
+    elim c.in-Empty.is [
+      | inl e ↦ ap own e
+      | inr (inl (_, _, _, _, _, e)) ↦ ap own e
+      | inr (inr (inl (_, _, e))) ↦ ap own e
+      | inr (inr (inr (inl (_, _, _, _, e)))) ↦ ap own e
+      | inr (inr (inr (inr (inl (_, _, _, _, _, e))))) ↦ ap own e
+      | inr (inr (inr (inr (inr (inl (_, _, _, _, _, e)))))) ↦ ap own e
+      | inr (inr (inr (inr (inr (inr (inl (_, _, _, _, e))))))) ↦ ap own e
+      | inr (inr (inr (inr (inr (inr (inr (inl (_, e)))))))) ↦ ap own e
+      | inr (inr (inr (inr (inr (inr (inr (inr (inl (_, e))))))))) ↦ ap own e
+      | inr (inr (inr (inr (inr (inr (inr (inr (inr (inl (_, _, e)))))))))) ↦ ap own e
+      | inr (inr (inr (inr (inr (inr (inr (inr (inr (inr ((_, _, _, _, _, _, _, e))))))))))) ↦ ap own e
+    ]

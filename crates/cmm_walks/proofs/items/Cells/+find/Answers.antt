@@ -1,9 +1,10 @@
-use Rattle.std.proofs.Common.{List, refl, sym, ap, ◌∙◌, Some, ◌<◌, arith}
-use Rattle.cmm_walks.specs.Cells.{cells, scope_at}
+use Rattle.std.proofs.Common.{inl, inr, List, [], ◌≡◌, refl, sym, ap, ◌∙◌, Some, ◌<◌, arith}
+use Rattle.cmm_walks.specs.Cells.{cells, scope_at, scope_in}
 use Rattle.cmm_walks.specs.Found.{found_in}
 use Rattle.cmm_walks.specs.Walks.{Slotted}
+use Rattle.cmm_walks.specs.declared.items.Item.{Item}
 use Rattle.cmm_walks.proofs.Arena.{item-within}
-use Rattle.cmm_walks.proofs.Names.{not_both, found-same, found-other, cell-scope, no-cell, not-named}
+use Rattle.cmm_walks.proofs.Names.{not_both, found-same, found-other, cell-scope, no-cell}
 use Rattle.cmm_walks.proofs.items.Cells.+find.Goals as goal
 
 pub find-returns-in-None : goal.find-returns-in-None
@@ -28,7 +29,20 @@ find_in-returns-else-outer-scope t c = λ s sound scope e.
     let b : c.in-Named.outer < c.args.scope = sound.below c.args.scope _ (e ∙ ap Some c.in-Named.is) in
     absurd (omega (arith, c.if-outer-scope.false))
 
-pub find_in-returns-in_default : goal.find_in-returns-in_default
-find_in-returns-in_default t c = λ s sound scope e.
-    let n = cell-scope (cells c.args.self.now) c.args.scope c.args.item s sound scope e ∙ not-named (scope_at (cells c.args.self.now)) c.args.item c.in_default.not-Named in
-    sym (ap (λ (l : List Slotted). found_in l c.args.name.now) n)
+pub find_in-returns-in-Empty : goal.find_in-returns-in-Empty
+find_in-returns-in-Empty t c = λ s sound scope e.
+    let n : scope_in (scope_at (cells c.args.self.now)) c.args.item ≡ [] = elim c.in-Empty.is [
+      | inl e ↦ ap (λ (x : Item). scope_in (scope_at (cells c.args.self.now)) x) e
+      | inr (inl (_, _, e)) ↦ ap (λ (x : Item). scope_in (scope_at (cells c.args.self.now)) x) e
+      | inr (inr (inl (_, _, _, _, e))) ↦ ap (λ (x : Item). scope_in (scope_at (cells c.args.self.now)) x) e
+      | inr (inr (inr (inl (_, _, _, _, _, e)))) ↦ ap (λ (x : Item). scope_in (scope_at (cells c.args.self.now)) x) e
+      | inr (inr (inr (inr (inl (_, _, _, _, _, e))))) ↦ ap (λ (x : Item). scope_in (scope_at (cells c.args.self.now)) x) e
+      | inr (inr (inr (inr (inr (inl (_, _, _, _, e)))))) ↦ ap (λ (x : Item). scope_in (scope_at (cells c.args.self.now)) x) e
+      | inr (inr (inr (inr (inr (inr (inl (_, e))))))) ↦ ap (λ (x : Item). scope_in (scope_at (cells c.args.self.now)) x) e
+      | inr (inr (inr (inr (inr (inr (inr (inl (_, e)))))))) ↦ ap (λ (x : Item). scope_in (scope_at (cells c.args.self.now)) x) e
+      | inr (inr (inr (inr (inr (inr (inr (inr (inl (_, _, e))))))))) ↦ ap (λ (x : Item). scope_in (scope_at (cells c.args.self.now)) x) e
+      | inr (inr (inr (inr (inr (inr (inr (inr (inr (inl (_, _, _, _, _, _, e)))))))))) ↦ ap (λ (x : Item). scope_in (scope_at (cells c.args.self.now)) x) e
+      | inr (inr (inr (inr (inr (inr (inr (inr (inr (inr (inl (_, _, _, _, _, _, e))))))))))) ↦ ap (λ (x : Item). scope_in (scope_at (cells c.args.self.now)) x) e
+      | inr (inr (inr (inr (inr (inr (inr (inr (inr (inr (inr ((_, _, _, _, _, _, _, e)))))))))))) ↦ ap (λ (x : Item). scope_in (scope_at (cells c.args.self.now)) x) e
+    ] in
+    sym (ap (λ (l : List Slotted). found_in l c.args.name.now) (cell-scope (cells c.args.self.now) c.args.scope c.args.item s sound scope e ∙ n))

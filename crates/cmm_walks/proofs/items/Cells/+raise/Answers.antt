@@ -1,5 +1,6 @@
-use Rattle.std.proofs.Common.{sym, ap, ◌∙◌, ◌<◌, Some, arith}
+use Rattle.std.proofs.Common.{inl, inr, ◌≡◌, sym, ap, ◌∙◌, ◌<◌, Some, arith}
 use Rattle.cmm_walks.specs.Cells.{cells}
+use Rattle.cmm_walks.specs.declared.items.Item.TheVariants as item
 use Rattle.cmm_walks.proofs.Leavings.{raise-past, raise-own, raise-further, rest-within}
 use Rattle.cmm_walks.proofs.items.Cells.+raise.Goals as goal
 
@@ -14,5 +15,20 @@ raise_behind-returns-else-rest-cell t c = λ sound e.
 pub raise_in-returns-in-Handles : goal.raise_in-returns-in-Handles
 raise_in-returns-in-Handles t c = λ sound e. raise-own (cells c.args.self.now) c.args.cell _ _ _ _ _ _ _ sound (e ∙ ap Some c.in-Handles.is)
 
-pub raise_in-returns-in_default : goal.raise_in-returns-in_default
-raise_in-returns-in_default t c = λ sound e. raise-further (cells c.args.self.now) c.args.cell c.args.item c.raise_behind.result sound e c.in_default.not-Handles (c.raise_behind.ensures sound e)
+pub raise_in-returns-in-Empty : goal.raise_in-returns-in-Empty
+raise_in-returns-in-Empty t c = λ sound e.
+    let other : (scope slot name_at : _) (name handler : _) (entry rest : _) → c.args.item ≡ item.Handles scope slot name_at name handler entry rest → ⊥ = λ scope slot name_at name handler entry rest h. elim c.in-Empty.is [
+      | inl i ↦ cc
+      | inr (inl (_, _, _, _, _, i)) ↦ cc
+      | inr (inr (inl (_, _, i))) ↦ cc
+      | inr (inr (inr (inl (_, _, _, _, i)))) ↦ cc
+      | inr (inr (inr (inr (inl (_, _, _, _, _, i))))) ↦ cc
+      | inr (inr (inr (inr (inr (inl (_, _, _, _, _, i)))))) ↦ cc
+      | inr (inr (inr (inr (inr (inr (inl (_, _, _, _, i))))))) ↦ cc
+      | inr (inr (inr (inr (inr (inr (inr (inl (_, i)))))))) ↦ cc
+      | inr (inr (inr (inr (inr (inr (inr (inr (inl (_, i))))))))) ↦ cc
+      | inr (inr (inr (inr (inr (inr (inr (inr (inr (inl (_, _, i)))))))))) ↦ cc
+      | inr (inr (inr (inr (inr (inr (inr (inr (inr (inr (inl (_, _, _, _, _, _, i))))))))))) ↦ cc
+      | inr (inr (inr (inr (inr (inr (inr (inr (inr (inr (inr ((_, _, _, _, _, _, i)))))))))))) ↦ cc
+    ] in
+    raise-further (cells c.args.self.now) c.args.cell c.args.item c.raise_behind.result sound e other (c.raise_behind.ensures sound e)
