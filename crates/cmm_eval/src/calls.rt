@@ -87,7 +87,24 @@ impl<'a> Machine<'a> {
                 values.reverse();
                 Ok(Now::Exits { label, values })
             }
-            _ => Ok(not_proper(Kind::BadValue)),
+            Form::Integer(_)
+            | Form::Pointer(_)
+            | Form::Symbol(_)
+            | Form::Name(_)
+            | Form::Nothing
+            | Form::Float { .. }
+            | Form::Let(_, _)
+            | Form::Assign { .. }
+            | Form::Operator(_, _, _)
+            | Form::Load(_, _)
+            | Form::Store(_, _, _)
+            | Form::Checkbound(_, _)
+            | Form::Raise(_)
+            | Form::Seq(_)
+            | Form::If(_, _, _)
+            | Form::Switch { .. }
+            | Form::Catch(_, _)
+            | Form::Try { .. } => Ok(not_proper(Kind::BadValue)),
         }
     }
 

@@ -140,7 +140,19 @@ impl<'a> Machine<'a> {
             }
             // No exit leaves a function of an accepted file.
             Step::Return { .. } => Ok(not_proper(Kind::BadCall)),
-            _ => Ok(Now::Exits { label, values }),
+            Step::Typed(_)
+            | Step::Scope { .. }
+            | Step::Operand
+            | Step::First { .. }
+            | Step::Second { .. }
+            | Step::Elements(_)
+            | Step::Bindings(_)
+            | Step::Bound { .. }
+            | Step::Waiting { .. }
+            | Step::Callee { .. }
+            | Step::Filling { .. }
+            | Step::LateCallee { .. }
+            | Step::Try { .. } => Ok(Now::Exits { label, values }),
         }
     }
 
@@ -163,13 +175,45 @@ impl<'a> Machine<'a> {
                         tail,
                     })
                 }
-                _ => Ok(not_proper(Kind::BadValue)),
+                Form::Integer(_)
+                | Form::Pointer(_)
+                | Form::Symbol(_)
+                | Form::Name(_)
+                | Form::Nothing
+                | Form::Float { .. }
+                | Form::Let(_, _)
+                | Form::Assign { .. }
+                | Form::Operator(_, _, _)
+                | Form::Load(_, _)
+                | Form::Store(_, _, _)
+                | Form::Alloc { .. }
+                | Form::App { .. }
+                | Form::Extcall { .. }
+                | Form::Checkbound(_, _)
+                | Form::Raise(_)
+                | Form::Seq(_)
+                | Form::If(_, _, _)
+                | Form::Switch { .. }
+                | Form::Catch(_, _)
+                | Form::Exit { .. } => Ok(not_proper(Kind::BadValue)),
             },
             Step::Return { here, .. } => {
                 self.here = here;
                 Ok(Now::Raises(value))
             }
-            _ => Ok(Now::Raises(value)),
+            Step::Typed(_)
+            | Step::Scope { .. }
+            | Step::Operand
+            | Step::First { .. }
+            | Step::Second { .. }
+            | Step::Elements(_)
+            | Step::Bindings(_)
+            | Step::Bound { .. }
+            | Step::Waiting { .. }
+            | Step::Callee { .. }
+            | Step::Filling { .. }
+            | Step::LateCallee { .. }
+            | Step::Catch { .. } => Ok(Now::Raises(value)),
         }
     }
 }
@@ -180,6 +224,26 @@ fn handlers_of(form: &Form) -> &[Handler]
 {
     match form {
         Form::Catch(_, handlers) => handlers.as_slice(),
-        _ => &[],
+        Form::Integer(_)
+        | Form::Pointer(_)
+        | Form::Symbol(_)
+        | Form::Name(_)
+        | Form::Nothing
+        | Form::Float { .. }
+        | Form::Let(_, _)
+        | Form::Assign { .. }
+        | Form::Operator(_, _, _)
+        | Form::Load(_, _)
+        | Form::Store(_, _, _)
+        | Form::Alloc { .. }
+        | Form::App { .. }
+        | Form::Extcall { .. }
+        | Form::Checkbound(_, _)
+        | Form::Raise(_)
+        | Form::Seq(_)
+        | Form::If(_, _, _)
+        | Form::Switch { .. }
+        | Form::Exit { .. }
+        | Form::Try { .. } => &[],
     }
 }

@@ -162,7 +162,23 @@ impl<'a> Machine<'a> {
                     }
                 }
             },
-            _ => Ok(not_proper(Kind::BadValue)),
+            Form::Integer(_)
+            | Form::Pointer(_)
+            | Form::Symbol(_)
+            | Form::Name(_)
+            | Form::Nothing
+            | Form::Float { .. }
+            | Form::Let(_, _)
+            | Form::Operator(_, _, _)
+            | Form::Store(_, _, _)
+            | Form::Alloc { .. }
+            | Form::App { .. }
+            | Form::Extcall { .. }
+            | Form::Checkbound(_, _)
+            | Form::Seq(_)
+            | Form::Catch(_, _)
+            | Form::Exit { .. }
+            | Form::Try { .. } => Ok(not_proper(Kind::BadValue)),
         }
     }
 
@@ -200,7 +216,25 @@ impl<'a> Machine<'a> {
                 Err(kind) => Ok(not_proper(kind)),
             },
             Form::Checkbound(_, _) => Ok(checked(left, right)),
-            _ => Ok(not_proper(Kind::BadValue)),
+            Form::Integer(_)
+            | Form::Pointer(_)
+            | Form::Symbol(_)
+            | Form::Name(_)
+            | Form::Nothing
+            | Form::Float { .. }
+            | Form::Let(_, _)
+            | Form::Assign { .. }
+            | Form::Load(_, _)
+            | Form::Alloc { .. }
+            | Form::App { .. }
+            | Form::Extcall { .. }
+            | Form::Raise(_)
+            | Form::Seq(_)
+            | Form::If(_, _, _)
+            | Form::Switch { .. }
+            | Form::Catch(_, _)
+            | Form::Exit { .. }
+            | Form::Try { .. } => Ok(not_proper(Kind::BadValue)),
         }
     }
 
@@ -245,7 +279,27 @@ impl<'a> Machine<'a> {
                 self.push(form, tail, Step::Scope { level, tries })?;
                 Ok(Now::Begins { expr: body, tail })
             }
-            _ => Ok(not_proper(Kind::BadValue)),
+            Form::Integer(_)
+            | Form::Pointer(_)
+            | Form::Symbol(_)
+            | Form::Name(_)
+            | Form::Nothing
+            | Form::Float { .. }
+            | Form::Assign { .. }
+            | Form::Operator(_, _, _)
+            | Form::Load(_, _)
+            | Form::Store(_, _, _)
+            | Form::Alloc { .. }
+            | Form::App { .. }
+            | Form::Extcall { .. }
+            | Form::Checkbound(_, _)
+            | Form::Raise(_)
+            | Form::Seq(_)
+            | Form::If(_, _, _)
+            | Form::Switch { .. }
+            | Form::Catch(_, _)
+            | Form::Exit { .. }
+            | Form::Try { .. } => Ok(not_proper(Kind::BadValue)),
         }
     }
 }

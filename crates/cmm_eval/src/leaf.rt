@@ -35,7 +35,23 @@ impl<'a> Machine<'a> {
             Form::Symbol(name) => looked_up(around.symbols.value_of(name.as_bytes())),
             Form::Name(name) => looked_up(self.here.value_of(name)),
             Form::Nothing => Now::Gives(None),
-            _ => unreachable!(),
+            Form::Float { .. }
+            | Form::Let(_, _)
+            | Form::Assign { .. }
+            | Form::Operator(_, _, _)
+            | Form::Load(_, _)
+            | Form::Store(_, _, _)
+            | Form::Alloc { .. }
+            | Form::App { .. }
+            | Form::Extcall { .. }
+            | Form::Checkbound(_, _)
+            | Form::Raise(_)
+            | Form::Seq(_)
+            | Form::If(_, _, _)
+            | Form::Switch { .. }
+            | Form::Catch(_, _)
+            | Form::Exit { .. }
+            | Form::Try { .. } => unreachable!(),
         }
     }
 
@@ -98,7 +114,23 @@ fn operand_of(form: &Form) -> &Expr
         Form::Raise(value) => value,
         Form::If(condition, _, _) => condition,
         Form::Switch { selector, .. } => selector,
-        _ => unreachable!(),
+        Form::Integer(_)
+        | Form::Pointer(_)
+        | Form::Symbol(_)
+        | Form::Name(_)
+        | Form::Nothing
+        | Form::Float { .. }
+        | Form::Let(_, _)
+        | Form::Operator(_, _, _)
+        | Form::Store(_, _, _)
+        | Form::Alloc { .. }
+        | Form::App { .. }
+        | Form::Extcall { .. }
+        | Form::Checkbound(_, _)
+        | Form::Seq(_)
+        | Form::Catch(_, _)
+        | Form::Exit { .. }
+        | Form::Try { .. } => unreachable!(),
     }
 }
 
@@ -118,7 +150,25 @@ pub(crate) fn both_operands(form: &Form) -> (&Expr, &Expr)
         Form::Operator(_, left, right) => (left, right),
         Form::Store(_, address, value) => (address, value),
         Form::Checkbound(bound, index) => (bound, index),
-        _ => unreachable!(),
+        Form::Integer(_)
+        | Form::Pointer(_)
+        | Form::Symbol(_)
+        | Form::Name(_)
+        | Form::Nothing
+        | Form::Float { .. }
+        | Form::Let(_, _)
+        | Form::Assign { .. }
+        | Form::Load(_, _)
+        | Form::Alloc { .. }
+        | Form::App { .. }
+        | Form::Extcall { .. }
+        | Form::Raise(_)
+        | Form::Seq(_)
+        | Form::If(_, _, _)
+        | Form::Switch { .. }
+        | Form::Catch(_, _)
+        | Form::Exit { .. }
+        | Form::Try { .. } => unreachable!(),
     }
 }
 

@@ -167,7 +167,7 @@ pub(crate) fn of_type<'a>(end: u64, ty: Ty, value: Option<Value>) -> Now<'a>
 {
     match ty {
         Ty::NoValue => Now::Gives(None),
-        _ => match value {
+        Ty::Never | Ty::Int | Ty::Val | Ty::Addr => match value {
             Some(value) => tested(end, ty, value),
             None => not_proper(Kind::BadValue),
         },

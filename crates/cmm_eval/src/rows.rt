@@ -30,7 +30,27 @@ impl<'a> Machine<'a> {
     {
         match form {
             Form::Seq(elements) => self.elements(form, tail, elements.as_slice()),
-            _ => unreachable!(),
+            Form::Integer(_)
+            | Form::Pointer(_)
+            | Form::Symbol(_)
+            | Form::Name(_)
+            | Form::Nothing
+            | Form::Float { .. }
+            | Form::Let(_, _)
+            | Form::Assign { .. }
+            | Form::Operator(_, _, _)
+            | Form::Load(_, _)
+            | Form::Store(_, _, _)
+            | Form::Alloc { .. }
+            | Form::App { .. }
+            | Form::Extcall { .. }
+            | Form::Checkbound(_, _)
+            | Form::Raise(_)
+            | Form::If(_, _, _)
+            | Form::Switch { .. }
+            | Form::Catch(_, _)
+            | Form::Exit { .. }
+            | Form::Try { .. } => unreachable!(),
         }
     }
 
@@ -90,7 +110,25 @@ impl<'a> Machine<'a> {
                 self.push(form, tail, Step::Try { level, tries })?;
                 self.begin_try(body)
             }
-            _ => unreachable!(),
+            Form::Integer(_)
+            | Form::Pointer(_)
+            | Form::Symbol(_)
+            | Form::Name(_)
+            | Form::Nothing
+            | Form::Float { .. }
+            | Form::Assign { .. }
+            | Form::Operator(_, _, _)
+            | Form::Load(_, _)
+            | Form::Store(_, _, _)
+            | Form::Alloc { .. }
+            | Form::App { .. }
+            | Form::Extcall { .. }
+            | Form::Checkbound(_, _)
+            | Form::Raise(_)
+            | Form::Seq(_)
+            | Form::If(_, _, _)
+            | Form::Switch { .. }
+            | Form::Exit { .. } => unreachable!(),
         }
     }
 
@@ -226,7 +264,27 @@ fn prompt_callee<'a>(here: &Here<'_>, form: &'a Form) -> Option<&'a Expr>
                 Some(callee)
             }
         }
-        _ => None,
+        Form::Integer(_)
+        | Form::Pointer(_)
+        | Form::Symbol(_)
+        | Form::Name(_)
+        | Form::Nothing
+        | Form::Float { .. }
+        | Form::Let(_, _)
+        | Form::Assign { .. }
+        | Form::Operator(_, _, _)
+        | Form::Load(_, _)
+        | Form::Store(_, _, _)
+        | Form::Alloc { .. }
+        | Form::Extcall { .. }
+        | Form::Checkbound(_, _)
+        | Form::Raise(_)
+        | Form::Seq(_)
+        | Form::If(_, _, _)
+        | Form::Switch { .. }
+        | Form::Catch(_, _)
+        | Form::Exit { .. }
+        | Form::Try { .. } => None,
     }
 }
 
@@ -239,6 +297,23 @@ pub(crate) fn operands_of(form: &Form) -> &[Expr]
         Form::App { arguments, .. } => arguments.as_slice(),
         Form::Extcall { arguments, .. } => arguments.as_slice(),
         Form::Exit { arguments, .. } => arguments.as_slice(),
-        _ => &[],
+        Form::Integer(_)
+        | Form::Pointer(_)
+        | Form::Symbol(_)
+        | Form::Name(_)
+        | Form::Nothing
+        | Form::Float { .. }
+        | Form::Let(_, _)
+        | Form::Assign { .. }
+        | Form::Operator(_, _, _)
+        | Form::Load(_, _)
+        | Form::Store(_, _, _)
+        | Form::Checkbound(_, _)
+        | Form::Raise(_)
+        | Form::Seq(_)
+        | Form::If(_, _, _)
+        | Form::Switch { .. }
+        | Form::Catch(_, _)
+        | Form::Try { .. } => &[],
     }
 }

@@ -1,9 +1,10 @@
-use Rattle.std.proofs.Common.{◌≡◌, refl, subst, sym, ap, ◌∙◌, [], ◌∷◌, length, vec_len, arith}
+use Rattle.std.proofs.Common.{◌≡◌, inl, inr, refl, subst, sym, ap, ◌∙◌, [], ◌∷◌, length, vec_len, arith}
 use Rattle.cmm_tree.specs.declared.expr.Form.{Form}
 use Rattle.cmm_meaning.specs.Evaluation.{Raises, back, with_bound}
 use Rattle.cmm_eval.specs.Views.{here_view, world_view}
 use Rattle.cmm_eval.specs.Filled.{does, resume, expression, handler_of}
 use Rattle.cmm_eval.specs.declared.frame.Step.{Step}
+use Rattle.cmm_eval.specs.declared.frame.Step.TheVariants as step
 use Rattle.cmm_eval.specs.declared.here.Here as here
 use Rattle.cmm_eval.specs.declared.world.World as world
 use Rattle.cmm_eval.proofs.Ended.{bounds_count, raised, raise_passes, try_handles}
@@ -29,9 +30,42 @@ returns-in-Try-form c s =
     (sym c.in-Try-form.is) refl)
     ∙ ap (λ (st : Step). resume s m.frames.items (does s st form.now tail (Raises v h w))) (sym c.in-Try.is)
 
+-- the steps that a raise goes through
+abbrev IsPassed : Step → Type 0
+IsPassed (step.Typed type) = Unit {0}
+IsPassed (step.Scope level tries) = Unit {0}
+IsPassed step.Operand = Unit {0}
+IsPassed (step.First left_first) = Unit {0}
+IsPassed (step.Second first left_first) = Unit {0}
+IsPassed (step.Elements rest) = Unit {0}
+IsPassed (step.Bindings bindings) = Unit {0}
+IsPassed (step.Bound level tries) = Unit {0}
+IsPassed (step.Waiting rest values) = Unit {0}
+IsPassed (step.Callee waited) = Unit {0}
+IsPassed (step.Filling callee row) = Unit {0}
+IsPassed (step.LateCallee values) = Unit {0}
+IsPassed (step.Catch within turns level tries) = Unit {0}
+IsPassed (step.Try level tries) = ⊥
+IsPassed (step.Return here tests) = ⊥
+
 pub returns : goal.returns
 returns c s =
     let m = c.args.self.now in
+    let passed : IsPassed c.args.frame.step =
+    elim c.in-Typed.is [
+      inl (a, e) ↦ subst IsPassed (sym e) tt
+    | inr (inl (a, b, e)) ↦ subst IsPassed (sym e) tt
+    | inr (inr (inl e)) ↦ subst IsPassed (sym e) tt
+    | inr (inr (inr (inl (a, e)))) ↦ subst IsPassed (sym e) tt
+    | inr (inr (inr (inr (inl (a, b, e))))) ↦ subst IsPassed (sym e) tt
+    | inr (inr (inr (inr (inr (inl (a, e)))))) ↦ subst IsPassed (sym e) tt
+    | inr (inr (inr (inr (inr (inr (inl (a, e))))))) ↦ subst IsPassed (sym e) tt
+    | inr (inr (inr (inr (inr (inr (inr (inl (a, b, e)))))))) ↦ subst IsPassed (sym e) tt
+    | inr (inr (inr (inr (inr (inr (inr (inr (inl (a, b, e))))))))) ↦ subst IsPassed (sym e) tt
+    | inr (inr (inr (inr (inr (inr (inr (inr (inr (inl (a, e)))))))))) ↦ subst IsPassed (sym e) tt
+    | inr (inr (inr (inr (inr (inr (inr (inr (inr (inr (inl (a, b, e))))))))))) ↦ subst IsPassed (sym e) tt
+    | inr (inr (inr (inr (inr (inr (inr (inr (inr (inr (inr (inl (a, e)))))))))))) ↦ subst IsPassed (sym e) tt
+    | inr (inr (inr (inr (inr (inr (inr (inr (inr (inr (inr (inr (a, b, x, y, e)))))))))))) ↦ subst IsPassed (sym e) tt ] in
     ap (resume s m.frames.items)
     (sym (raise_passes s c.args.frame.step c.args.frame.form.now c.args.frame.tail c.args.value (here_view m.here) (world_view m.world)
-    c.in_default.not-Try c.in_default.not-Return))
+    (λ level tries e. subst IsPassed e passed) (λ here tests e. subst IsPassed e passed)))
