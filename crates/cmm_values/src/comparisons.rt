@@ -238,7 +238,8 @@ fn pointer_order(op: CmpOp, memory: &Memory, left: Value, right: Value) -> Resul
             Kind::PointerOrder,
             truth(signed_holds(op, offset, at)),
         ),
-        (Value::Word(_) | Value::Function(_), _)
-        | (_, Value::Word(_) | Value::Function(_)) => Err(Kind::PointerOrder),
+        (Value::Word(_) | Value::Function(_), _) | (_, Value::Word(_) | Value::Function(_)) => Err(
+            Kind::PointerOrder,
+        ),
     }
 }

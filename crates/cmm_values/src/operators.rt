@@ -97,9 +97,8 @@ fn difference_of(left: Value, right: Value) -> Result<Value, Kind>
             Kind::PointerArithmetic,
             Value::Word(sub(offset, from)),
         ),
-        (Value::Function(_), _)
-        | (_, Value::Function(_))
-        | (Value::Word(_), Value::Block { .. }) => Err(Kind::PointerArithmetic),
+        (Value::Function(_), _) | (_, Value::Function(_)) | (Value::Word(_), Value::Block { .. }) =>
+            Err(Kind::PointerArithmetic),
     }
 }
 

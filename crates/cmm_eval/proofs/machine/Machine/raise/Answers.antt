@@ -53,19 +53,20 @@ returns c s =
     let m = c.args.self.now in
     let passed : IsPassed c.args.frame.step =
     elim c.in-Typed.is [
-      inl (a, e) ↦ subst IsPassed (sym e) tt
-    | inr (inl (a, b, e)) ↦ subst IsPassed (sym e) tt
-    | inr (inr (inl e)) ↦ subst IsPassed (sym e) tt
-    | inr (inr (inr (inl (a, e)))) ↦ subst IsPassed (sym e) tt
-    | inr (inr (inr (inr (inl (a, b, e))))) ↦ subst IsPassed (sym e) tt
-    | inr (inr (inr (inr (inr (inl (a, e)))))) ↦ subst IsPassed (sym e) tt
-    | inr (inr (inr (inr (inr (inr (inl (a, e))))))) ↦ subst IsPassed (sym e) tt
-    | inr (inr (inr (inr (inr (inr (inr (inl (a, b, e)))))))) ↦ subst IsPassed (sym e) tt
-    | inr (inr (inr (inr (inr (inr (inr (inr (inl (a, b, e))))))))) ↦ subst IsPassed (sym e) tt
-    | inr (inr (inr (inr (inr (inr (inr (inr (inr (inl (a, e)))))))))) ↦ subst IsPassed (sym e) tt
-    | inr (inr (inr (inr (inr (inr (inr (inr (inr (inr (inl (a, b, e))))))))))) ↦ subst IsPassed (sym e) tt
-    | inr (inr (inr (inr (inr (inr (inr (inr (inr (inr (inr (inl (a, e)))))))))))) ↦ subst IsPassed (sym e) tt
-    | inr (inr (inr (inr (inr (inr (inr (inr (inr (inr (inr (inr (a, b, x, y, e)))))))))))) ↦ subst IsPassed (sym e) tt ] in
+      | inl (a, e) ↦ subst IsPassed (sym e) tt
+      | inr (inl (a, b, e)) ↦ subst IsPassed (sym e) tt
+      | inr (inr (inl e)) ↦ subst IsPassed (sym e) tt
+      | inr (inr (inr (inl (a, e)))) ↦ subst IsPassed (sym e) tt
+      | inr (inr (inr (inr (inl (a, b, e))))) ↦ subst IsPassed (sym e) tt
+      | inr (inr (inr (inr (inr (inl (a, e)))))) ↦ subst IsPassed (sym e) tt
+      | inr (inr (inr (inr (inr (inr (inl (a, e))))))) ↦ subst IsPassed (sym e) tt
+      | inr (inr (inr (inr (inr (inr (inr (inl (a, b, e)))))))) ↦ subst IsPassed (sym e) tt
+      | inr (inr (inr (inr (inr (inr (inr (inr (inl (a, b, e))))))))) ↦ subst IsPassed (sym e) tt
+      | inr (inr (inr (inr (inr (inr (inr (inr (inr (inl (a, e)))))))))) ↦ subst IsPassed (sym e) tt
+      | inr (inr (inr (inr (inr (inr (inr (inr (inr (inr (inl (a, b, e))))))))))) ↦ subst IsPassed (sym e) tt
+      | inr (inr (inr (inr (inr (inr (inr (inr (inr (inr (inr (inl (a, e)))))))))))) ↦ subst IsPassed (sym e) tt
+      | inr (inr (inr (inr (inr (inr (inr (inr (inr (inr (inr (inr (a, b, x, y, e)))))))))))) ↦ subst IsPassed (sym e) tt
+    ] in
     ap (resume s m.frames.items)
     (sym (raise_passes s c.args.frame.step c.args.frame.form.now c.args.frame.tail c.args.value (here_view m.here) (world_view m.world)
     (λ level tries e. subst IsPassed e passed) (λ here tests e. subst IsPassed e passed)))
