@@ -2,7 +2,6 @@ pub mod Memory
 pub mod Width
 pub mod Arithmetic
 pub mod Hart
-pub mod Code
 pub mod Observation
 pub mod Places
 pub mod Frames

@@ -1,29 +1,15 @@
-//! The code as a region: it is read and never written. Its words are decoded once.
-ghost use Rattle.std.specs.Prelude.{◌≡◌, ◌*◌, ◌^◌, ◌<◌, ◌≤◌, true, length, slice_index, IfOk};
+//! The code as a region: it is read and never written.
+ghost use Rattle.std.specs.Prelude.{◌≡◌, ◌*◌, ◌^◌, ◌<◌, ◌≤◌, true, length, slice_index};
 ghost use Rattle.bs_words.specs.Contents.{contents};
 ghost use Rattle.image_form.specs.Image.{code_limit};
-ghost use Rattle.rv_machine.specs.Code.{AreDecoded};
 ghost use Rattle.rv_machine.specs.Memory.{Region, is_inside, index_in, byte_in, part, code_region, words_of_halves};
 ghost use Rattle.rv_machine.specs.Width.{IsWidth};
 
 use crate::region::low_bytes;
 use bs_words::List;
-use rv_isa::{Instr, decode};
-use std::alloc::{AllocError, Global};
 
 /// Where the code begins.
 pub const CODE_START: u64 = 0x0001_0000;
-
-/// What each word of the code decodes to.
-pub fn decoded_words(alloc: Global, code: &List<u32>) -> Result<Vec<Option<Instr>>, AllocError>
-    ensures { IfOk result (λ instructions. AreDecoded (contents code.now) instructions.items) }
-{
-    let mut instructions = Vec::with_capacity(alloc, code.len())?;
-    for word in code.as_slice() {
-        instructions.push(decode(*word))?;
-    }
-    Ok(instructions)
-}
 
 /// Whether `width` bytes at `address` lie whole inside the code.
 pub fn has(code: &List<u32>, address: u64, width: u64) -> bool

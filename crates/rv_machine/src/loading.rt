@@ -8,7 +8,7 @@ ghost use Rattle.rv_machine.specs.Start.{start_memory, padded};
 ghost use Rattle.rv_machine.specs.Loading.{IsRoom, beginning, func_named, sym_named, address_of, word_of_arg, suited};
 ghost use Rattle.rv_machine.specs.Loading.{takes, words_of_args, AreStartRegisters, IsStart};
 
-use crate::code::{CODE_START, decoded_words};
+use crate::code::CODE_START;
 use crate::machine::{Machine, Room};
 use crate::memory::Memory;
 use crate::setup::{Arg, LoadError, Setup};
@@ -209,7 +209,6 @@ fn at_entry<'a>(
     // A block has 16 bytes at least, so that no more fit into a half.
     let blocks = Vec::with_capacity(alloc, (heap / 16) as usize)?;
     let space = Space::new(alloc, heap)?;
-    let instructions = decoded_words(alloc, &image.code)?;
     let pc = CODE_START + u64::from(offset);
     Ok(Machine::new(
         image,
@@ -217,7 +216,6 @@ fn at_entry<'a>(
         pc,
         memory,
         Room {
-            instructions,
             stack_base: STACK_BOTTOM - stack,
             heap,
             blocks,

@@ -1,11 +1,8 @@
 //! The state of the machine, and what reads and sets it.
-ghost use Rattle.std.specs.Prelude.{◌≡◌, ◌+◌, ◌-◌, ◌*◌, ◌/◌, ◌^◌, ◌<◌, ◌≤◌, [], true, length, map, option_map, slice_index, All, IfSome};
+ghost use Rattle.std.specs.Prelude.{◌≡◌, ◌+◌, ◌-◌, ◌*◌, ◌/◌, ◌^◌, ◌<◌, ◌≤◌, [], true, length, slice_index, IfSome};
 ghost use Rattle.bs_words.specs.Contents.{contents};
 ghost use Rattle.image_form.specs.Image.{IsImage};
 ghost use Rattle.image_form.specs.Tables.{tables};
-ghost use Rattle.rv_isa.specs.Decoding.{decoded};
-ghost use Rattle.rv_machine.specs.Code.{AreDecoded};
-ghost use Rattle.rv_isa.specs.Encoding.{InstrFits};
 ghost use Rattle.rv_machine.specs.Hart.{Hart, register, fetch, readable, sets, goes_to, jumps};
 ghost use Rattle.rv_machine.specs.Loading.{IsRoom};
 ghost use Rattle.rv_machine.specs.Memory.{loaded, stored};
@@ -26,14 +23,12 @@ use crate::space::Space;
 use crate::start::{DOMAIN_START, STACK_BOTTOM, YOUNG_TOP};
 use crate::step_end::StepEnd;
 use image_form::Image;
-use rv_isa::{Instr, Register};
+use rv_isa::Register;
 use std::marker::Model;
 
-/// What a new machine has for its code, its stack and its heap.
+/// What a new machine has for its stack and its heap.
 #[derive(Drop)]
 pub(crate) struct Room {
-    /// The instruction of each word of the code, where it has one.
-    pub instructions: Vec<Option<Instr>>,
     /// The lowest address that the stack pointer may have.
     pub stack_base: u64,
     /// The bytes of each half of the heap.
@@ -48,9 +43,6 @@ pub(crate) struct Room {
 #[derive(Drop)]
 pub struct Machine<'a> {
     pub image: &'a Image,
-    /// The instruction of each word of the image's code, where it has one: a word is decoded once, however
-    /// often it is run.
-    pub instructions: Vec<Option<Instr>>,
     pub registers: [u64; 32],
     pub pc: u64,
     pub memory: Memory,
@@ -88,12 +80,10 @@ impl<'a> Model for Machine<'a> {
     } };
 
     ghost use Rattle.std.specs.Vec.{vec_capacity};
-    ghost use Rattle.rv_machine.specs.Code.{AreDecoded};
     ghost use Rattle.rv_machine.specs.Space.{IsHeap, IsSpace};
 
     // x0 holds 0, so that it is read as the others are. The stack lies above the heap.
     ghost invariant = { λ m. (slice_index m.registers 0 ≡ 0) × IsImage m.image.now
-        × AreDecoded (contents m.image.now.code) m.instructions.items
         × IsHeap m.heap m.blocks.items × IsSpace m.heap m.space
         × (m.heap / 16 ≤ vec_capacity m.blocks)
         × (0x38010000 ≤ m.stack_base) × (m.stack_base ≤ 0x40000000) };
@@ -110,7 +100,6 @@ impl<'a> Machine<'a> {
     ) -> Self
         requires zero { slice_index registers 0 ≡ 0 }
         requires rules { IsImage image.now }
-        requires decoded { AreDecoded (contents image.now.code) room.instructions.items }
         requires no_block { room.blocks.items ≡ [] }
         requires table { room.heap / 16 ≤ vec_capacity room.blocks }
         requires heap { IsRoom room.heap }
@@ -121,7 +110,6 @@ impl<'a> Machine<'a> {
     {
         Machine {
             image,
-            instructions: room.instructions,
             registers,
             pc,
             memory,
@@ -156,17 +144,16 @@ impl<'a> Machine<'a> {
         self.registers[r as usize]
     }
 
-    /// What the word at the program counter decodes to, where the code has one there.
-    pub(crate) fn fetched(&self) -> Option<Option<Instr>>
-        ensures exact { result ≡ option_map decoded (fetch self.now.image.code self.now.pc) }
-        ensures fits { IfSome result (λ instr. IfSome instr InstrFits) }
+    /// The instruction word at the program counter, where the code has one there.
+    pub fn fetch(&self) -> Option<u32>
+        ensures exact { result ≡ fetch self.now.image.code self.now.pc }
         ensures within { IfSome result (λ _. self.now.pc < 2 ^ 32) }
     {
         if self.pc < CODE_START || self.pc % 4 != 0 {
             return None;
         }
         let index = (self.pc - CODE_START) / 4;
-        self.instructions.get(index as usize).copied()
+        self.image.code.get(index as usize).copied()
     }
 
     /// The program counter.

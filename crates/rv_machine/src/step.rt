@@ -10,12 +10,12 @@ use crate::arithmetic;
 use crate::cause::Cause;
 use crate::machine::Machine;
 use crate::step_end::StepEnd;
-use rv_isa::{Condition, Instr, LoadWidth, StoreWidth};
+use rv_isa::{Condition, Instr, LoadWidth, StoreWidth, decode};
 
 impl<'a> Machine<'a> {
     /// Runs the instruction at the program counter. An ECALL is not run: it answers `Service`.
     ///
-    /// It takes no memory. The count of instructions stays at the end of
+    /// It takes no memory. Each word is decoded as it comes. The count of instructions stays at the end of
     /// its type.
     #[tactic(auto, unfolding(crate::specs::Hart::hart))]
     pub fn step(&mut self) -> StepEnd
@@ -23,11 +23,13 @@ impl<'a> Machine<'a> {
         ensures kept { Keeps result self.old self.new }
         ensures near { IsNear result self.new }
     {
-        match self.fetched() {
-            None => StepEnd::Stopped(Cause::BadFetch),
-            Some(None) => StepEnd::Stopped(Cause::BadWord),
-            Some(Some(instr)) => self.execute(instr),
-        }
+        let Some(word) = self.fetch() else {
+            return StepEnd::Stopped(Cause::BadFetch);
+        };
+        let Some(instr) = decode(word) else {
+            return StepEnd::Stopped(Cause::BadWord);
+        };
+        self.execute(instr)
     }
 
     // What an instruction does.

@@ -22,7 +22,7 @@ attempt-requires-clause-placed c =
     let t = c.in-Entered.ensures.taken in
     let olds = i.blocks.items in
     let chain = young_chain i.memory c.args.from t.0 t.1 in
-    subst (AllByRecursion (IsPlaced i.heap)) (sym t.2) (all_placed i.heap olds t.0 c.machine.invariant.3.most c.machine.invariant.3.each chain.each)
+    subst (AllByRecursion (IsPlaced i.heap)) (sym t.2) (all_placed i.heap olds t.0 c.machine.invariant.2.most c.machine.invariant.2.each chain.each)
 
 pub attempt-requires-clause-far : goal.attempt-requires-clause-far
 attempt-requires-clause-far c =
@@ -30,7 +30,7 @@ attempt-requires-clause-far c =
     let t = c.in-Entered.ensures.taken in
     let olds = i.blocks.items in
     let chain = young_chain i.memory c.args.from t.0 t.1 in
-    subst (AllByRecursion IsLow) (sym t.2) (all_low i.heap olds t.0 c.machine.invariant.3.most c.machine.invariant.3.each chain.each)
+    subst (AllByRecursion IsLow) (sym t.2) (all_low i.heap olds t.0 c.machine.invariant.2.most c.machine.invariant.2.each chain.each)
 
 pub returns-in-BadRoot-clause-exact : goal.returns-in-BadRoot-clause-exact
 returns-in-BadRoot-clause-exact c =
