@@ -1,5 +1,5 @@
 -- The pieces of a function: its entry, and a part for each line, in their order.
-use Rattle.std.specs.Prelude.{◌≡◌, ℕ, Bool, true, List, [], ◌∷◌, ◌++◌, length, Option, Some, None}
+use Rattle.std.specs.Prelude.{◌≡◌, ℕ, Bool, true, cond, List, [], ◌∷◌, ◌++◌, length, Option, Some, None}
 use Rattle.mach_ir.specs.declared.op.Pure.{Pure}
 use Rattle.mach_ir.specs.declared.op.Pure.TheVariants as pure
 use Rattle.mach_ir.specs.declared.op.Access.{Access}
@@ -34,6 +34,7 @@ use Rattle.emit_rules.specs.Tests.{branch_part, switch_part}
 use Rattle.emit_rules.specs.Memory.{load_part, store_part, alloc_part}
 use Rattle.emit_rules.specs.Calls.{mark_of, call_words, tail_call_part, external_words, return_part}
 use Rattle.emit_rules.specs.Traps.{raise_words, push_part, pop_part, enter_part, check_part}
+use Rattle.emit_rules.specs.Units.{is_free}
 use Rattle.emit_rules.specs.Entry.{Frame, frame_of, entry}
 
 -- ---- parts, while so many traps are pushed
@@ -103,6 +104,10 @@ part_of traps f d i = lin_part traps f (mark_of d) i.op i.args i.results
 
 -- ---- all lines
 
+-- the part of a line before this code: an exit whose unit the branch after it answers for has none
+abbrev pub part_before : (traps : ℕ) → Frame → Option Descr → Line → List Line → List Piece
+part_before traps f d i next = cond (is_free i.op next) [] (part_of traps f d i)
+
 -- each frame point that is no tail call has the first of the descriptors that are left
 abbrev pub descriptor : Bool → List Descr → Option Descr
 descriptor true (d ∷ ds) = Some d
@@ -116,7 +121,7 @@ left_after _ ds = ds
 abbrev pub parts : (traps : ℕ → ℕ) → Frame → List Descr → List Line → List Piece
 parts traps f ds [] = []
 parts traps f ds (i ∷ next) =
-    part_of (traps (length next)) f (descriptor (passes_frame i.op) ds) i
+    part_before (traps (length next)) f (descriptor (passes_frame i.op) ds) i next
     ++ parts traps f (left_after (passes_frame i.op) ds) next
 
 abbrev pub emitted : Lin → (traps : ℕ → ℕ) → List Descr → Pieces

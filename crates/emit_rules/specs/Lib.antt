@@ -7,6 +7,7 @@ pub mod Memory
 pub mod Calls
 pub mod Traps
 pub mod Entry
+pub mod Units
 pub mod Emitted
 pub mod Traversal
 pub mod Named

@@ -1,5 +1,5 @@
 -- What holds of every Linear function that the back end takes, whatever it does.
-use Rattle.std.specs.Prelude.{◌≡◌, ◌≢◌, ◌⊎◌, ℕ, ◌<◌, Bool, true, false, List, [], ◌∷◌, ◌++◌, map, All, AllPairs, Contains}
+use Rattle.std.specs.Prelude.{◌≡◌, ◌≢◌, ◌⊎◌, ℕ, suc, ◌<◌, Bool, true, false, List, [], ◌∷◌, ◌++◌, length, map, All, AllPairs, Contains}
 use Rattle.bs_words.specs.declared.types.Comp.{Comp}
 use Rattle.bs_words.specs.declared.types.Comp.TheVariants as comp
 use Rattle.bs_words.specs.declared.types.Loc.{Loc}
@@ -16,7 +16,7 @@ use Rattle.mach_ir.specs.declared.op.Leaving.TheVariants as leaving
 use Rattle.mach_ir.specs.declared.op.Op.{Op}
 use Rattle.mach_ir.specs.declared.op.Op.TheVariants as op
 use Rattle.mach_ir.specs.declared.mach.Test.{Test}
-use Rattle.lin_ir.specs.Walks.{targets, may_raise, Live, LiveAfter, Stands, Reached, Traps, TrapsBalance}
+use Rattle.lin_ir.specs.Walks.{targets, may_raise, Leads, Raises, Live, LiveAfter, Stands, Reached, Traps, TrapsBalance}
 use Rattle.lin_ir.specs.declared.lin.Spot.{Spot}
 use Rattle.lin_ir.specs.declared.lin.Flow.{Flow}
 use Rattle.lin_ir.specs.declared.lin.Flow.TheVariants as flow
@@ -174,6 +174,16 @@ pub record GoesForward (m : Lin) : Type 0 where
       (l : ℕ) → NamesLabel l i.op → Contains (labels_in next) l
   pub handlers : (i : Line) (next : List Line) (l : ℕ) (tries : List ℕ) →
       Reached m (i ∷ next) (l ∷ tries) → may_raise i.op ≡ true → Contains (labels_in next) l
+
+-- A number for each place, by the lines that are left, which each step of a walk lowers that is no
+-- exit. So control comes back to a place only by an exit, which is a unit.
+pub record GoesDown (m : Lin) : Type 0 where
+  pub order : ℕ → ℕ
+  pub steps : (i : Line) (next to : List Line) (tries left : List ℕ) → Reached m (i ∷ next) tries →
+      is_exit i.op ≡ false → Leads m i next tries to left →
+      order (length to) < order (suc (length next))
+  pub raises : (i : Line) (next to : List Line) (tries left : List ℕ) → Reached m (i ∷ next) tries →
+      Raises m i tries to left → order (length to) < order (suc (length next))
 
 -- ---- whole
 

@@ -1,6 +1,6 @@
 -- A machine that carries out a program. Its states only stand for those of the program: how, is told
 -- by predicates, which may hide where blocks lie, and when the mover asks.
-use Rattle.std.specs.Prelude.{◌≡◌, ℕ, ◌+◌, ◌*◌, ◌≤◌, ◌<◌, ◌⊎◌, List, Some}
+use Rattle.std.specs.Prelude.{◌≡◌, ℕ, suc, ◌+◌, ◌-◌, ◌*◌, ◌≤◌, ◌<◌, ◌⊎◌, List, Some}
 use Rattle.bs_words.specs.Memory.{Memory, heap_need}
 use Rattle.bs_words.specs.Observed.{Made}
 use Rattle.bs_words.specs.declared.types.Ret.{Ret}
@@ -109,30 +109,33 @@ module _ (S : Type 0) (p : Program S) (w : Words S) (file : FileTree) (layout : 
       (Near 1 most (Entry a callee call.below call.arguments call.memory o)) x
   CarriesTail most a call (Outside row frame) o x = ⊥
 
-  abbrev pub CarriesStep : ℕ → (f below : ℕ) → Below → Step S → Outer → X → Type 0
-  CarriesStep most f below a (Continues u) o x =
+  -- At least one instruction for each unit that was owed or is counted, but for those that are owed
+  -- where the step leads.
+  abbrev pub CarriesStep : (owed most : ℕ) → (f below : ℕ) → Below → Step S → Outer → X → Type 0
+  CarriesStep owed most f below a (Continues u) o x =
       Comes X next see stack heap (p.stack (place_in file layout f below) u) (p.heap u) o.made
-      (Near 0 most (At a f below u o)) x
-  CarriesStep most f below a (Pays u) o x =
+      (Near (owed - w.owed f u) most (At a f below u o)) x
+  CarriesStep owed most f below a (Pays u) o x =
       Comes X next see stack heap (p.stack (place_in file layout f below) u) (p.heap u) o.made
-      (Near 1 most (At a f below u o)) x
-  CarriesStep most f below a (Deepens bytes u) o x =
+      (Near (suc owed - w.owed f u) most (At a f below u o)) x
+  CarriesStep owed most f below a (Deepens bytes u) o x =
       Comes X next see stack heap (p.stack (place_in file layout f below) u) (p.heap u) o.made
-      (Near 0 most (At a f below u o)) x
-  CarriesStep most f below a (Waits call go) o x =
-      CarriesAsked most f below a call go call.callee o x
-  CarriesStep most f below a (FinishesBy call kept) o x = CarriesTail most a call call.callee o x
-  CarriesStep most f below a (Finishes d) o x =
-      Comes X next see stack heap 0 0 o.made (Near 0 most (Back a d o)) x
-  CarriesStep most f below a (FinishesRaising d) o x =
-      Comes X next see stack heap 0 0 o.made (Near 1 most (Back a d o)) x
-  CarriesStep most f below a IsStuck o x = Unit {0}
+      (Near (owed - w.owed f u) most (At a f below u o)) x
+  CarriesStep owed most f below a (Waits call go) o x =
+      (owed ≡ 0) × CarriesAsked most f below a call go call.callee o x
+  CarriesStep owed most f below a (FinishesBy call kept) o x =
+      (owed ≡ 0) × CarriesTail most a call call.callee o x
+  CarriesStep owed most f below a (Finishes d) o x =
+      (owed ≡ 0) × Comes X next see stack heap 0 0 o.made (Near 0 most (Back a d o)) x
+  CarriesStep owed most f below a (FinishesRaising d) o x =
+      (owed ≡ 0) × Comes X next see stack heap 0 0 o.made (Near 1 most (Back a d o)) x
+  CarriesStep owed most f below a IsStuck o x = Unit {0}
 
   -- What is shown of the machine for each step of the program, and for each entry.
   pub record Carries : Type 0 where
     pub steps : (a : Below) (f below : ℕ) (s : S) (o : Outer) (x : X) →
         IsReached S p f (place_in file layout f below) s → At a f below s o x →
-        CarriesStep (w.cost f s) f below a (p.step f (place_in file layout f below) s) o x
+        CarriesStep (w.owed f s) (w.cost f s) f below a (p.step f (place_in file layout f below) s) o x
     -- what took a function's place leaves less
     pub kept : (a : Below) (kept : Ret) (d : Doing) (o : Outer) (x : X) → Back a d o x →
         Back a (kept_of kept d) o x
@@ -147,13 +150,14 @@ module _ (S : Type 0) (p : Program S) (w : Words S) (file : FileTree) (layout : 
 
 -- ---- a whole call
 
--- The units of a whole call that had n units and has so many left, and its instructions.
-pub record Spends {X : Type 0} (most words n left : ℕ) (P : X → Type 0) (count : ℕ) (x : X)
+-- The units of a whole call that had n units and has so many left, and its instructions, but for so
+-- many that are owed.
+pub record Spends {X : Type 0} (owed most words n left : ℕ) (P : X → Type 0) (count : ℕ) (x : X)
     : Type 0 where
   pub units : ℕ
   pub no_more : units + left ≤ n
   pub enough : n ≤ left + most * (2 * units + 1)
-  pub lower : units ≤ count
+  pub lower : units ≤ count + owed
   pub upper : count ≤ words * (2 * units + 1)
   pub at : P x
 
@@ -163,16 +167,16 @@ module _ (X : Type 0) (next : X → X) (see : X → Seen) (stack heap most words
   abbrev pub Does : World → X → Evaluation → Type 0
   Does w x (Gives v h u) =
       Comes X next see stack heap u.stack_need (heap_need u.memory) u.made
-      (Spends most words w.left u.left (Back (Gave v u.memory) (outer_of u))) x
+      (Spends 0 most words w.left u.left (Back (Gave v u.memory) (outer_of u))) x
   Does w x (Raises v h u) =
       Comes X next see stack heap u.stack_need (heap_need u.memory) u.made
-      (Spends most words w.left u.left (Back (Threw v u.memory) (outer_of u))) x
+      (Spends 0 most words w.left u.left (Back (Threw v u.memory) (outer_of u))) x
   Does w x (Stops OutOfFuel u) =
       Comes X next see stack heap u.stack_need (heap_need u.memory) u.made
-      (Spends most words w.left u.left (λ (y : X). see y ≡ record { calls = u.made; end = Running }))
+      (Spends 1 most words w.left u.left (λ (y : X). see y ≡ record { calls = u.made; end = Running }))
       x
   Does w x (Stops (NoAnswer call) u) =
       Comes X next see stack heap u.stack_need (heap_need u.memory) u.made
-      (Spends most words w.left u.left
+      (Spends 0 most words w.left u.left
       (λ (y : X). see y ≡ record { calls = u.made; end = machine.Asks call })) x
   Does w x _ = Unit {0}

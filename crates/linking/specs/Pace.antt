@@ -15,6 +15,9 @@ pub record Words (S : Type 0) : Type 0 where
   pub entry : ℕ → ℕ
   -- how many it may still take up to the next unit
   pub ahead : ℕ → S → ℕ
+  -- how many units have been counted before without an instruction of their own: its step answers for
+  -- them
+  pub owed : ℕ → S → ℕ
 
 module _ (S : Type 0) (words : ℕ) (ahead : S → ℕ) where
   -- behind a call of a function all words may come again, behind an external one those that are left
@@ -53,5 +56,7 @@ pub record GoesForward (S : Type 0) (p : Program S) (w : Words S) (words : ℕ) 
   pub enter : (f : ℕ) (c : Place) (arguments : List Value) (memory : Memory) (s : S) →
       p.start f c arguments memory ≡ Some s → w.entry f + w.ahead f s ≤ words
   pub cost : (f : ℕ) (c : Place) (s : S) → IsReached S p f c s → w.cost f s ≤ w.ahead f s
+  -- at most one unit is owed
+  pub owed : (f : ℕ) (s : S) → w.owed f s ≤ 1
   pub on : (f : ℕ) (c : Place) (s : S) → IsReached S p f c s →
       StepForward S words (w.ahead f) (w.ahead f s - w.cost f s) (p.step f c s)

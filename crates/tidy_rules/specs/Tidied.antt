@@ -9,12 +9,13 @@ use Rattle.lin_ir.specs.declared.lin.Line.{Line}
 use Rattle.lin_ir.specs.declared.lin.Lin.{Lin}
 use Rattle.tidy_rules.specs.Leaving.{is_landing, bare, LabelsBetween, LeavesOften}
 use Rattle.tidy_rules.specs.Redirecting.{redirected_all}
+use Rattle.tidy_rules.specs.Turning.{turned_all}
 use Rattle.tidy_rules.specs.Regular.{IsReadBehind, IsTidy}
 
--- In the first function jumps go at once where others lead, and then lines that have no use are
--- left out until there is none. One function comes of it, whichever lines go first.
+-- In the first function jumps go at once where others lead, then loops are turned round, and then
+-- lines that have no use are left out until there is none. One function comes of it, whichever lines go first.
 pub record IsTidied (m r : Lin) : Type 0 where
-  pub leaves : LeavesOften (redirected_all m) r
+  pub leaves : LeavesOften (turned_all (redirected_all m)) r
   pub tidy : IsTidy r
 
 -- what a line, before this code, is for: the opposite of having no use

@@ -1,0 +1,34 @@
+-- Exits that have no words.
+--
+-- An exit counts a unit. Where it goes to the label right after it, and a branch stands there, control
+-- comes to that branch without it. The branch has an instruction whichever way it goes, and so is one
+-- for the exit's unit too.
+use Rattle.std.specs.Prelude.{ℕ, Bool, true, false, cond, ◌&&◌, List, [], ◌∷◌}
+use Rattle.lin_ir.specs.Meaning.{has_label}
+use Rattle.lin_ir.specs.declared.lin.Flow.TheVariants as flow
+use Rattle.lin_ir.specs.declared.lin.LinOp.{LinOp}
+use Rattle.lin_ir.specs.declared.lin.LinOp.TheVariants as lin
+use Rattle.lin_ir.specs.declared.lin.Line.{Line}
+
+abbrev pub is_branch : LinOp → Bool
+is_branch (lin.Flow (flow.Branch t l)) = true
+is_branch _ = false
+
+-- a branch comes first
+abbrev pub tests_first : List Line → Bool
+tests_first [] = false
+tests_first (i ∷ next) = is_branch i.op
+
+-- the label comes first, and right after it a branch
+abbrev pub falls_to : ℕ → List Line → Bool
+falls_to l [] = false
+falls_to l (i ∷ next) = has_label l i.op && tests_first next
+
+-- before this code the operation is such an exit
+abbrev pub is_free : LinOp → List Line → Bool
+is_free (lin.Flow (flow.Exit l)) next = falls_to l next
+is_free _ next = false
+
+-- The units that may have been counted before this code without an instruction of their own.
+abbrev pub owed_before : List Line → ℕ
+owed_before code = cond (tests_first code) 1 0
