@@ -2,7 +2,7 @@
 -- the exit, so that a turn of a loop has no jump back to its test.
 use Rattle.std.specs.Prelude.{◌≡◌, ◌≢◌, ℕ, zero, suc, ◌+◌, ◌*◌, Bool, true, false, cond, ◌||◌, not, nat_eq, max, Option, Some, None, List, [], ◌∷◌, ◌++◌, length, AllPairs}
 use Rattle.lin_ir.specs.Formed.{labels_in}
-use Rattle.lin_ir.specs.Meaning.{after_label}
+use Rattle.lin_ir.specs.Meaning.{after_label, has_label}
 use Rattle.lin_ir.specs.Walks.{Stands}
 use Rattle.lin_ir.specs.declared.lin.Flow.{Flow}
 use Rattle.lin_ir.specs.declared.lin.Flow.TheVariants as flow
@@ -98,10 +98,17 @@ abbrev pub head_at : ℕ → List Line → Option Head
 head_at free [] = None
 head_at free (i ∷ next) = head_by free i.op i.args i.results next
 
--- the branch to which an exit leads
-abbrev pub exit_head : Lin → ℕ → LinOp → (args results : List Spot) → Option Head
-exit_head m free (lin.Flow (flow.Exit l)) [] [] = head_at free (after_label l m.code)
-exit_head m free _ args results = None
+-- the label comes first
+abbrev pub stands_first : ℕ → List Line → Bool
+stands_first l [] = false
+stands_first l (i ∷ next) = has_label l i.op
+
+-- The branch to which an exit before this code leads, but not where it stands there already: right after
+-- the label that comes next.
+abbrev pub exit_head : Lin → ℕ → LinOp → (args results : List Spot) → List Line → Option Head
+exit_head m free (lin.Flow (flow.Exit l)) [] [] next =
+    cond (stands_first l next) None (head_at free (after_label l m.code))
+exit_head m free _ args results next = None
 
 abbrev pub has_label_in : ℕ → List ℕ → Bool
 has_label_in l [] = false
@@ -117,7 +124,7 @@ turn_for free next (Some h) = Some (record {
 })
 
 abbrev pub line_turn : Lin → ℕ → Line → List Line → Option Turn
-line_turn m free i next = turn_for free next (exit_head m free i.op i.args i.results)
+line_turn m free i next = turn_for free next (exit_head m free i.op i.args i.results next)
 
 -- the turn of the line with so many lines after it
 abbrev pub turn_at : Lin → ℕ → List Line → ℕ → Option Turn
