@@ -1,5 +1,6 @@
 -- Exits that have no words: which lines they are, and what holds of the part of a line before any code.
 use Rattle.std.proofs.Common.{◌≡◌, ℕ, Bool, true, false, cond, ◌&&◌, List, [], ◌∷◌, Option, refl, sym, ap, subst}
+use Rattle.mach_ir.specs.declared.mach.Test.{Test}
 use Rattle.lin_ir.specs.Formed.{label_of}
 use Rattle.lin_ir.specs.Meaning.{has_label, passes_frame}
 use Rattle.lin_ir.specs.declared.descr.Descr.{Descr}
@@ -63,6 +64,21 @@ free_passes_no_frame = if_free (λ g. passes_frame g ≡ false) (λ l. refl)
 
 pub free_is_no_branch : (g : LinOp) (next : List Line) → is_free g next ≡ true → is_branch g ≡ false
 free_is_no_branch = if_free (λ g. is_branch g ≡ false) (λ l. refl)
+
+-- what holds of branches holds of these
+pub if_branch : (Q : LinOp → Type 0) → ((t : Test) (l : ℕ) → Q (lin.Flow (flow.Branch t l))) → (g : LinOp) → is_branch g ≡ true → Q g
+if_branch Q q (lin.Op g) e = cc
+if_branch Q q (lin.Flow (flow.Label l)) e = cc
+if_branch Q q (lin.Flow (flow.Jump l)) e = cc
+if_branch Q q (lin.Flow (flow.Exit l)) e = cc
+if_branch Q q (lin.Flow (flow.Branch t l)) e = q t l
+if_branch Q q (lin.Flow (flow.Switch ls)) e = cc
+if_branch Q q (lin.Flow (flow.PushTrap l)) e = cc
+if_branch Q q (lin.Flow flow.PopTrap) e = cc
+if_branch Q q (lin.Flow flow.EnterTrap) e = cc
+
+pub branch_is_not_free : (g : LinOp) (next : List Line) → is_branch g ≡ true → is_free g next ≡ false
+branch_is_not_free g next e = if_branch (λ g. is_free g next ≡ false) (λ t l. refl) g e
 
 -- ---- parts
 
