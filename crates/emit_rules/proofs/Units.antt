@@ -1,5 +1,6 @@
 -- Exits that have no words: which lines they are, and what holds of the part of a line before any code.
 use Rattle.std.proofs.Common.{◌≡◌, ℕ, Bool, true, false, cond, ◌&&◌, List, [], ◌∷◌, Option, refl, sym, ap, subst}
+use Rattle.std.proofs.lemmas.Bool.{eqb-true}
 use Rattle.mach_ir.specs.declared.mach.Test.{Test}
 use Rattle.lin_ir.specs.Formed.{label_of}
 use Rattle.lin_ir.specs.Meaning.{has_label, passes_frame}
@@ -22,6 +23,7 @@ pub record FallsTo (l : ℕ) (next : List Line) : Type 0 where
   pub rest : List Line
   pub is : next ≡ label ∷ branch ∷ rest
   pub has : has_label l label.op ≡ true
+  pub label_is : label.op ≡ lin.Flow (flow.Label l)
   pub tests : is_branch branch.op ≡ true
 
 pub record FreeExit (g : LinOp) (next : List Line) : Type 0 where
@@ -33,12 +35,23 @@ both : (a b : Bool) → (a && b) ≡ true → (a ≡ true) × (b ≡ true)
 both true b e = (refl, e)
 both false b e = cc
 
+labelled : (l : ℕ) (g : LinOp) → has_label l g ≡ true → g ≡ lin.Flow (flow.Label l)
+labelled l (lin.Op g) e = cc
+labelled l (lin.Flow (flow.Label k)) e = ap (λ k. lin.Flow (flow.Label k)) (eqb-true k l e)
+labelled l (lin.Flow (flow.Jump k)) e = cc
+labelled l (lin.Flow (flow.Exit k)) e = cc
+labelled l (lin.Flow (flow.Branch t k)) e = cc
+labelled l (lin.Flow (flow.Switch ls)) e = cc
+labelled l (lin.Flow (flow.PushTrap k)) e = cc
+labelled l (lin.Flow flow.PopTrap) e = cc
+labelled l (lin.Flow flow.EnterTrap) e = cc
+
 pub falls_is : (l : ℕ) (next : List Line) → falls_to l next ≡ true → FallsTo l next
 falls_is l [] e = cc
 falls_is l (i ∷ []) e = let h : false ≡ true = (both (has_label l i.op) false e).1 in cc
 falls_is l (i ∷ j ∷ rest) e =
     let h = both (has_label l i.op) (is_branch j.op) e in
-    record { label = i; branch = j; rest = rest; is = refl; has = h.0; tests = h.1 }
+    record { label = i; branch = j; rest = rest; is = refl; has = h.0; label_is = labelled l i.op h.0; tests = h.1 }
 
 -- only an exit has no words
 pub free_is_exit : (g : LinOp) (next : List Line) → is_free g next ≡ true → FreeExit g next
