@@ -21,6 +21,7 @@ use Rattle.tidy_rules.proofs.Tidied.{later_after, tail_length}
 use Rattle.tidy_rules.proofs.Turns.{Turns, goes_in, exits_in, jumps_in, unwinds_in, pushes_in, asks_in, replaces_in, ends_in, raising_in, stuck_in, turns}
 use Rattle.linear_machine.specs.Relation.{Laid}
 use Rattle.linking.specs.Pace.{GoesForward, StepForward, left_behind}
+use Rattle.linking_machine.proofs.Linked.{owed_once}
 use Rattle.linking_stages.specs.Stages.{linear_program}
 use Rattle.linking_stages.proofs.Walking.{reached_walks}
 use Rattle.compiled_files.specs.Forward.{LiesForward, first_part, words_of}
@@ -156,6 +157,7 @@ module _ (lins : ℕ → Lin) (named : ℕ → NamedAt) (laid : ℕ → Laid) (e
   forward = record {
     enter = λ f c arguments memory s e.
         start_within (lins f) (laid f) (entry f) words (lies f) memory (put_all c.setting.end (lins f).params arguments (λ l. None)) s e;
+    owed = λ f s. owed_once s.rest;
     cost = λ f c s reached. cost_within (lins f) (laid f) (entry f) words (lies f) s.rest;
     on = λ f c s reached. code_forward (lins f) (laid f) (entry f) words (lies f) c (named f) s.rest s.file s.around (reached_walks lins named f c reached);
   }

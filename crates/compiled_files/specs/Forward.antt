@@ -1,5 +1,6 @@
 -- How the words of a function lie, so that control goes forward but for exits and calls.
 use Rattle.std.specs.Prelude.{ℕ, suc, ◌+◌, ◌-◌, ◌≤◌, ◌≢◌, List, [], ◌∷◌, length, AllPairs}
+use Rattle.emit_rules.specs.Units.{owed_before}
 use Rattle.lin_ir.specs.Formed.{GoesForward, labels_in}
 use Rattle.lin_ir.specs.Meaning.{State}
 use Rattle.lin_ir.specs.declared.lin.Lin.{Lin}
@@ -23,10 +24,12 @@ first_part laid [] = 0
 first_part laid (i ∷ next) = laid.part (length next) - laid.part (suc (length next))
 
 -- A step takes the words of its line's part; before the first step there are those of the entry. Up
--- to the next unit there are at most those up to the end of the function.
+-- to the next unit there are at most those up to the end of the function. A branch answers for the unit
+-- of an exit that has no words.
 abbrev pub words_of : (ℕ → Lin) → (ℕ → Laid) → (entry : ℕ → ℕ) → Words State
 words_of lins laid entry = record {
   cost = λ f u. first_part (laid f) u.rest;
   entry = λ f. (laid f).part (length (lins f).code) - entry f;
   ahead = λ f u. (laid f).part 0 - (laid f).part (length u.rest);
+  owed = λ f u. owed_before u.rest;
 }

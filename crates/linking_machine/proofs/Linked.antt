@@ -50,6 +50,16 @@ use Rattle.linking_machine.proofs.Answering.{outside_carried}
 use Rattle.linking_machine.proofs.Starting.{starts}
 use Rattle.linking_machine.proofs.Carrying.{AskedSo, code_asked, fixed, at_, entry_, back_, CarriesIt, place, stands_there, comes_free, tail_carried, call_carried, kept_back, seen_there}
 
+-- ---- what is owed
+
+at_most_one : (t : Bool) → cond t 1 0 ≤ 1
+at_most_one true = omega arith
+at_most_one false = omega arith
+
+-- one unit at most
+pub owed_once : (code : List Line) → owed_before code ≤ 1
+owed_once code = at_most_one (tests_first code)
+
 -- ---- an exit's step
 
 -- it pays for a unit and goes there, or is stuck
@@ -77,14 +87,10 @@ module _ (file : FileTree) (image : Tables) (lins : ℕ → Lin) (named : ℕ �
     (has : HasFunctions image)
     (bases : (stack : ℕ) → IsRoom stack → IsStackBase (stack_bottom - stack))
     (emitted : IsEmitted file image lins named w laid entry live has bases) where
-  at_most_one : (t : Bool) → cond t 1 0 ≤ 1
-  at_most_one true = omega arith
-  at_most_one false = omega arith
-
-  owed_small : (f : ℕ) (u : State) → w.owed f u ≤ 1
-  owed_small f u =
+  owed_few : (f : ℕ) (u : State) → w.owed f u ≤ 1
+  owed_few f u =
       let is = emitted.owed f u in
-      let few = at_most_one (tests_first u.rest) in
+      let few = owed_once u.rest in
       omega (arith, is, few)
 
   module _ (run : Setup) (owed most f below : ℕ) (c : Below) (u : State) (o : Outer) (y : Now) {Q : View → Type 0}
@@ -208,7 +214,7 @@ module _ (file : FileTree) (image : Tables) (lins : ℕ → Lin) (named : ℕ �
             (λ (line : FollowsLine (w.owed f u) (w.cost f u) (fixed file image lins named w laid entry live has bases emitted run) (laid f) (live f) entry c
             at.0.view (used (laid f) u) (step (place file image lins named w laid entry live has bases emitted run f below) (named f) (lins f) u)).
             let few = line.few in
-            let small = owed_small f u in
+            let small = owed_few f u in
             ⊎_elim
             (λ none.
             carried run (w.owed f u) (w.cost f u) f below c u o y at.0 at.1 line.words
