@@ -40,9 +40,9 @@ own_begins {w} {v} o = record { further = []; is = o.made ∙ sym (append-nil w.
 
 -- ---- arithmetic
 
-coverson : (most here there u1 unit unit2 theirs called : ℕ) → here ≤ most * (2 * u1 + unit) → there ≤ most * (2 * theirs + called) → unit2 ≡ unit →
+enough_on : (most here there u1 unit unit2 theirs called : ℕ) → here ≤ most * (2 * u1 + unit) → there ≤ most * (2 * theirs + called) → unit2 ≡ unit →
     here + there ≤ most * (2 * (u1 + theirs) + (unit2 + called))
-coverson most here there u1 unit unit2 theirs called a b e =
+enough_on most here there u1 unit unit2 theirs called a b e =
     let f : most * unit2 ≡ most * unit = ap (λ n. most * n) e in
     omega (arith, a, b, f)
 
@@ -292,7 +292,8 @@ module _ (S : Type 0) (p : Program S) (pace : Words S) (file : FileTree) (layout
         h ≤ top_heap p (onward (runs (p.step f c) k) x (tally asked calls units need)) →
         Comes X turn see stack heap s h w.made (Near least cost (After x (outer_of w))) y →
         Reaches a f below last calls units owed 0 ahead (onward (runs (p.step f c) k) x (tally asked calls units need)) y
-    made_step k ih x owed least covers stack' heap' cost left ahead room g forth reached w last calls asked units need y fits between given same m s h st hp comes =
+    made_step k ih x owed least covers stack' heap' cost left ahead room g forth reached w last calls asked units need y fits between given same m s h st hp
+        comes =
         let onto = called_later between in
         comes_on X turn see stack heap y (omega (arith, st)) (omega (arith, hp)) onto.onward.calls comes
         (λ n z near.
@@ -415,7 +416,7 @@ module _ (S : Type 0) (p : Program S) (pace : Words S) (file : FileTree) (layout
     behind_room (Inside callee) left = omega arith
     behind_room (Outside row frame) left = omega arith
 
-    -- it goes on after a call that came back
+    -- it goes on behind a call that came back
     goes_on : (k : ℕ) → LinkOf k → (call : Asked) (go : Doing → Step S) (stack' heap' cost left ahead : ℕ) → cost + left ≤ ahead →
         IsRegularStep S p c stack' heap' (Waits call go) → StepForward S words (pace.ahead f) left (Waits call go) →
         ((u : S) → LeadsTo S u (Waits call go) → IsReached S p f c u) →
@@ -453,7 +454,7 @@ module _ (S : Type 0) (p : Program S) (pace : Words S) (file : FileTree) (layout
         record {
           theirs = served.units + took.theirs;
           no_more = omega (arith, no, sn);
-          enough = coverson most (came.before.left - came.after.left) (spent_by calls) served.units (unit_of call.callee)
+          enough = enough_on most (came.before.left - came.after.left) (spent_by calls) served.units (unit_of call.callee)
               (unit_of (asked_by came).callee) took.theirs (units_called calls) se en unit_is;
           lower = omega (arith, lower, sl, paid, one);
           spare = took.spare;
@@ -554,7 +555,7 @@ module _ (S : Type 0) (p : Program S) (pace : Words S) (file : FileTree) (layout
         record {
           theirs = served.units + 0;
           no_more = omega (arith, sn);
-          enough = coverson most (came.before.left - came.after.left) 0 served.units (unit_of call.callee) (unit_of (asked_by came).callee) 0 0 se
+          enough = enough_on most (came.before.left - came.after.left) 0 served.units (unit_of call.callee) (unit_of (asked_by came).callee) 0 0 se
               (omega arith) unit_is;
           lower = omega (arith, sl, one, unit_at_most call.callee);
           spare = 0;
@@ -607,22 +608,22 @@ module _ (S : Type 0) (p : Program S) (pace : Words S) (file : FileTree) (layout
         let on = facts_of k u w last calls asked units need between same m in
         let n = on.need in
         let fit = g.0 in
-        made_step k ih (Continues u) owed (owed - pace.owed f u) (omega arith) stack' heap' cost left ahead room g forth reached w last calls asked units need y fits between given same m
-        (p.stack c u) (p.heap u)
+        made_step k ih (Continues u) owed (owed - pace.owed f u) (omega arith) stack' heap' cost left ahead room g forth reached w last calls asked
+        units need y fits between given same m (p.stack c u) (p.heap u)
         (omega (arith, n, fit, fits)) on.heap carries
     acts k ih (Pays u) owed stack' heap' cost left ahead room g forth reached w last calls asked units need y fits between given same m carries =
         let on = facts_of k u w last calls asked (suc units) need between same m in
         let n = on.need in
         let fit = g.0 in
-        made_step k ih (Pays u) owed (suc owed - pace.owed f u) (omega arith) stack' heap' cost left ahead room g forth reached w last calls asked units need y fits between given same m
-        (p.stack c u) (p.heap u)
+        made_step k ih (Pays u) owed (suc owed - pace.owed f u) (omega arith) stack' heap' cost left ahead room g forth reached w last calls asked
+        units need y fits between given same m (p.stack c u) (p.heap u)
         (omega (arith, n, fit, fits)) on.heap carries
     acts k ih (Deepens bytes u) owed stack' heap' cost left ahead room g forth reached w last calls asked units need y fits between given same m carries =
         let on = facts_of k u w last calls asked units (max need bytes) between same m in
         let n = on.need in
         let fit = g.0 in
-        made_step k ih (Deepens bytes u) owed (owed - pace.owed f u) (omega arith) stack' heap' cost left ahead room g forth reached w last calls asked units need y fits between given same m
-        (p.stack c u) (p.heap u)
+        made_step k ih (Deepens bytes u) owed (owed - pace.owed f u) (omega arith) stack' heap' cost left ahead room g forth reached w last calls asked
+        units need y fits between given same m (p.stack c u) (p.heap u)
         (omega (arith, n, fit, fits)) on.heap carries
     acts k ih (Waits call go) owed stack' heap' cost left ahead room g forth reached w last calls asked units need y fits between given same m carries =
         owing owed units ahead last calls _ y carries.0
@@ -631,11 +632,13 @@ module _ (S : Type 0) (p : Program S) (pace : Words S) (file : FileTree) (layout
         owing owed units ahead last calls _ y carries.0
         (tails k call kept cost ahead (omega (arith, room)) asked units need y between given same carries.1)
     acts k ih (Finishes d) owed stack' heap' cost left ahead room g forth reached w last calls asked units need y fits between given same m carries =
-        made_step k ih (Finishes d) owed 0 (let none = carries.0 in omega (arith, none)) stack' heap' cost left ahead room g forth reached w last calls asked units need y fits between given same m 0 0
-        (omega arith) (omega arith) carries.1
+        let none = carries.0 in
+        made_step k ih (Finishes d) owed 0 (omega (arith, none)) stack' heap' cost left ahead room g forth reached w last calls asked units need y
+        fits between given same m 0 0 (omega arith) (omega arith) carries.1
     acts k ih (FinishesRaising d) owed stack' heap' cost left ahead room g forth reached w last calls asked units need y fits between given same m carries =
-        made_step k ih (FinishesRaising d) owed 1 (let none = carries.0 in omega (arith, none)) stack' heap' cost left ahead room g forth reached w last calls asked units need y fits between given same m 0
-        0 (omega arith) (omega arith) carries.1
+        let none = carries.0 in
+        made_step k ih (FinishesRaising d) owed 1 (omega (arith, none)) stack' heap' cost left ahead room g forth reached w last calls asked units need y
+        fits between given same m 0 0 (omega arith) (omega arith) carries.1
     acts k ih IsStuck owed stack' heap' cost left ahead room g forth reached w last calls asked units need y fits between given same m carries = absurd m
 
     stands : (s : S) {w last : World} {calls : List Came} (asked : List Asked) (units need ahead : ℕ) (x : X) →

@@ -420,18 +420,21 @@ module _ (S : Type 0) (p : Program S) (pace : Words S) (file : FileTree) (layout
     by_end last calls own e all s reach given (links.gives {v = v} {h = h} {u = u}) =
         let r = reach tt in
         let same_memory : Gave v u.memory ≡ Gave v last.memory = ap (Gave v) s.memory in
-        finish f below a w last calls own (Gives v h u) x s r (Back a (Gave v last.memory) (outer_of last)) 0 (due_gives f r.same.end) refl (λ call z is. absurd (cc))
+        finish f below a w last calls own (Gives v h u) x s r (Back a (Gave v last.memory) (outer_of last))
+        0 (due_gives f r.same.end) refl (λ call z is. absurd (cc))
         (λ k y end. subst (λ d. Back a d (outer_of last) y) same_memory (gave_back k f below a (outer_of last) y r.same.end end))
     by_end last calls own e all s reach given (links.raises {v = v} {h = h} {u = u}) =
         let r = reach tt in
         let same_memory : Threw v u.memory ≡ Threw v last.memory = ap (Threw v) s.memory in
-        finish f below a w last calls own (Raises v h u) x s r (Back a (Threw v last.memory) (outer_of last)) 0 (due_raises f r.same.end) refl (λ call z is. absurd (cc))
+        finish f below a w last calls own (Raises v h u) x s r (Back a (Threw v last.memory) (outer_of last))
+        0 (due_raises f r.same.end) refl (λ call z is. absurd (cc))
         (λ k y end. subst (λ d. Back a d (outer_of last) y) same_memory (threw_back k f below a (outer_of last) y r.same.end end))
     by_end last calls own e all s reach given links.exits = tt
     by_end last calls own e all s reach given links.improper = tt
     by_end last calls own e all s reach given (links.out_of_units {u = u}) =
         let r = reach tt in
-        finish f below a w last calls own (Stops OutOfFuel u) x s r (λ y. see y ≡ record { calls = last.made; end = Runs_on }) 1 (due_out f r.same.end) refl (λ call z is. absurd (cc))
+        finish f below a w last calls own (Stops OutOfFuel u) x s r (λ y. see y ≡ record { calls = last.made; end = Runs_on })
+        1 (due_out f r.same.end) refl (λ call z is. absurd (cc))
         (λ k y end. still_runs k f below a (outer_of last) y r.same.end end)
     by_end last calls own e all s reach given (links.in_callee {u = u} {v = v} {why = why} q fewer fit st later) =
         stopped_in last v calls own q u why s (reach tt) later fewer fit (given q u refl) st
