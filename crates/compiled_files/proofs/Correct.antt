@@ -128,9 +128,13 @@ past_end [] f e = omega arith
 past_end (g ∷ fs) zero e = absurd (cc)
 past_end (g ∷ fs) (suc f) e = let h = past_end fs f e in omega (arith, h)
 
-unless_false : {X : Type 0} (t : Bool) (P : Bool → Type 0) → P false → (t ≡ true → X) → P t ⊎ X
-unless_false true P p x = inr (x refl)
-unless_false false P p x = inl p
+-- what is owed before a line, by whether it is a branch
+abbrev owed_if : Bool → ℕ
+owed_if t = cond t 1 0
+
+owes_or : {X : Type 0} (t : Bool) → (t ≡ true → X) → (owed_if t ≡ 0) ⊎ X
+owes_or true x = inr (x refl)
+owes_or false x = inl refl
 
 -- ---- where a run begins
 
@@ -284,7 +288,7 @@ module _ (text : List ℕ) (file : FileTree) (is : IsFileOf text file) (bytes : 
                   omega (arith, behind, some));
               so = every_line Nowhere s stands.names laid entry_at c place named m (frame_of m) it.descr i next v held a k it.stands it.point
                   (finds i next refl) behind at;
-              takes = unless_false (is_branch i.op) (λ t. cond t 1 0 ≡ 0) refl
+              takes = owes_or (is_branch i.op)
                   (λ b. every_branch Nowhere s stands.names laid c place named m (frame_of m) it.descr i next v held a k b it.stands (finds i next refl)
                   behind at);
             })
