@@ -20,7 +20,7 @@ use Rattle.image_form.specs.Tables.{Tables}
 use Rattle.layout_rules.specs.Conditions.{CanBeLaid}
 use Rattle.layout_rules.specs.Laid.{IsLaidOut}
 use Rattle.lin_ir.specs.Descriptors.{NamesLives}
-use Rattle.lin_ir.specs.Formed.{GoesForward, WellFormed}
+use Rattle.lin_ir.specs.Formed.{GoesDown, WellFormed}
 use Rattle.lin_ir.specs.Keeps.{Keeps}
 use Rattle.lin_ir.specs.Meaning.{Locations, NamedAt, State, put_all, start, step}
 use Rattle.lin_ir.specs.Walks.{Reached}
@@ -108,16 +108,17 @@ nowhere_laid at = record {
 no_tail : {i : Line} {next : List Line} → Tail (i ∷ next) [] → ⊥
 no_tail t = elim t [ ]
 
-no_lines_forward : GoesForward no_lines
-no_lines_forward = record {
-  labels = λ i next stands. elim stands [ ];
-  handlers = λ i next l tries reached. absurd (no_tail (reached_tail no_lines reached));
+no_lines_down : GoesDown no_lines
+no_lines_down = record {
+  order = λ k. k;
+  labels = λ i next tries reached. absurd (no_tail (reached_tail no_lines reached));
+  steps = λ i next to tries left reached. absurd (no_tail (reached_tail no_lines reached));
+  raises = λ i next to tries left reached. absurd (no_tail (reached_tail no_lines reached));
 }
 
 no_lines_lie : (at words : ℕ) → LiesForward no_lines (nowhere_laid at) at words
 no_lines_lie at words = record {
-  labels = λ i j d h k. absurd (omega (arith, k));
-  forward = no_lines_forward;
+  down = no_lines_down;
   rises = λ fewer more h. omega arith;
   begins = omega arith;
   ends = omega arith;
@@ -223,8 +224,7 @@ module _ (text : List ℕ) (file : FileTree) (is : IsFileOf text file) (bytes : 
   lies f (of_file tree there m ds p c named names stands) =
       let e = stands.ends in
       record {
-        labels = c.regular.well.labels;
-        forward = c.regular.forward;
+        down = c.regular.down;
         rises = stands.rises;
         begins = stands.begins;
         ends = omega (arith, e);
@@ -309,7 +309,7 @@ module _ (text : List ℕ) (file : FileTree) (is : IsFileOf text file) (bytes : 
   -- ---- and all
 
   abbrev paced : Words State
-  paced = words_of lins laid_in entry_at
+  paced = words_of lins laid_in entry_at (λ f. (lies f (functions_are f)).down.order)
 
   emitted : IsEmitted file image lins named_in paced laid_in entry_at (λ f. Nowhere) has bases_hold
   emitted = record {
