@@ -24,8 +24,8 @@ first_part laid [] = 0
 first_part laid (i ∷ next) = laid.part (length next) - laid.part (suc (length next))
 
 -- A step takes the words of its line's part; before the first step there are those of the entry. Up
--- to the next unit there are at most those up to the end of the function. A branch answers for the unit
--- of an exit that has no words.
+-- to the next unit there are at most those up to the end of the function. A branch answers for the
+-- unit of an exit that has no words.
 abbrev pub words_of : (ℕ → Lin) → (ℕ → Laid) → (entry : ℕ → ℕ) → Words State
 words_of lins laid entry = record {
   cost = λ f u. first_part (laid f) u.rest;
