@@ -1,7 +1,7 @@
 -- Control comes back to a place only by an exit, and so a function takes no more instructions between two units than the code has words.
 use Rattle.std.proofs.Common.{◌≡◌, ℕ, zero, suc, ◌+◌, ◌-◌, ◌*◌, ◌≤◌, ◌<◌, Bool, true, false, cond, not, ◌||◌, nat_le, ◌⊎◌, inl, inr, List, [], ◌∷◌, length, Option, Some, None, refl, sym, ap, ◌∙◌, subst, arith}
 use Rattle.std.proofs.lemmas.Bool.{true≢false, leb-true, le-leb, cases_lt}
-use Rattle.std.proofs.lemmas.Nat.{mul-le-mul_left}
+use Rattle.std.proofs.Math.Nat.{mul-le-mul_left}
 use Rattle.bs_words.specs.Memory.{Memory}
 use Rattle.bs_words.specs.declared.types.Loc.{Loc}
 use Rattle.bs_words.specs.declared.values.Value.{Value}
@@ -24,6 +24,7 @@ use Rattle.linear_machine.specs.Relation.{Laid}
 use Rattle.linking.specs.Pace.{GoesForward, StepForward, left_behind}
 use Rattle.linking_stages.specs.Stages.{linear_program}
 use Rattle.linking_stages.proofs.Walking.{reached_walks}
+use Rattle.linking_machine.proofs.Linked.{owed_once}
 use Rattle.compiled_files.specs.Forward.{LiesForward, first_part, rank, words_upto, words_of}
 
 -- ---- words of lines by their rank
@@ -69,7 +70,7 @@ module _ (laid : Laid) (rises : (fewer more : ℕ) → fewer ≤ more → laid.p
   -- a line of greater rank comes on top
   upto_with : (less more k n : ℕ) → less < r (suc k) → r (suc k) ≤ more → suc k ≤ n → upto less n + (laid.part k - laid.part (suc k)) ≤ upto more n
   upto_with less more k zero a b h = absurd (omega (arith, h))
-  upto_with less more k (suc n) a b h = by (cases_lt k n)
+  upto_with less more k (suc n) a b h = by (cases_lt k n) (λ le. upto_with less more k n a b le)
     where
       above : cond (nat_le (r (suc k)) less) (laid.part k - laid.part (suc k)) 0 ≡ 0
       above = out (nat_le (r (suc k)) less) refl
@@ -113,14 +114,15 @@ module _ (laid : Laid) (rises : (fewer more : ℕ) → fewer ≤ more → laid.p
               at true false e u =
                   let le = leb-true (r (suc j)) less e in absurd (true≢false (sym (le-leb (r (suc j)) more (omega (arith, le, a, b))) ∙ u))
 
-      by : (k < n) ⊎ (n ≤ k) → upto less (suc n) + (laid.part k - laid.part (suc k)) ≤ upto more (suc n)
-      by (inl lt) = sooner n (upto_with less more k n a b (omega (arith, lt)))
-      by (inr le) = last n (omega (arith, le, h))
+      by : (k < n) ⊎ (n ≤ k) → (suc k ≤ n → upto less n + (laid.part k - laid.part (suc k)) ≤ upto more n) →
+          upto less (suc n) + (laid.part k - laid.part (suc k)) ≤ upto more (suc n)
+      by (inl lt) ih = sooner n (ih (omega (arith, lt)))
+      by (inr le) ih = last n (omega (arith, le, h))
 
   -- its own words are among them
   upto_own : (k n : ℕ) → suc k ≤ n → laid.part k - laid.part (suc k) ≤ upto (r (suc k)) n
   upto_own k zero h = absurd (omega (arith, h))
-  upto_own k (suc n) h = by (cases_lt k n)
+  upto_own k (suc n) h = by (cases_lt k n) (λ le. upto_own k n le)
     where
       here : (j : ℕ) → j ≡ k → laid.part k - laid.part (suc k) ≤ cond (nat_le (r (suc j)) (r (suc k))) (laid.part j - laid.part (suc j)) 0 + upto (r (suc k)) j
       here j e =
@@ -129,9 +131,9 @@ module _ (laid : Laid) (rises : (fewer more : ℕ) → fewer ≤ more → laid.p
           ap (λ t. cond t (laid.part k - laid.part (suc k)) 0) (le-leb (r (suc k)) (r (suc k)) (omega arith)) in
           omega (arith, own))
 
-      by : (k < n) ⊎ (n ≤ k) → laid.part k - laid.part (suc k) ≤ upto (r (suc k)) (suc n)
-      by (inl lt) = let rest = upto_own k n (omega (arith, lt)) in omega (arith, rest)
-      by (inr le) = here n (omega (arith, le, h))
+      by : (k < n) ⊎ (n ≤ k) → (suc k ≤ n → laid.part k - laid.part (suc k) ≤ upto (r (suc k)) n) → laid.part k - laid.part (suc k) ≤ upto (r (suc k)) (suc n)
+      by (inl lt) ih = let rest = ih (omega (arith, lt)) in omega (arith, rest)
+      by (inr le) ih = here n (omega (arith, le, h))
 
 -- ---- one function
 
@@ -194,8 +196,8 @@ module _ (m : Lin) (laid : Laid) (entry words : ℕ) (lies : LiesForward m laid 
             (tail_length (tail_target m tail t))
 
     -- so the words of the line are among those that are left, and the others are left after it
-    left_after : {to : List Line} → r (length to) < r (suc (length next)) → place_ahead to + first_part laid (i ∷ next) ≤ place_ahead (i ∷ next)
-    left_after {to} lt =
+    left_after : (to : List Line) → r (length to) < r (suc (length next)) → place_ahead to + first_part laid (i ∷ next) ≤ place_ahead (i ∷ next)
+    left_after to lt =
         let few = tail_length tail in
         upto_with laid lies.rises r (r (length to)) (r (suc (length next))) (length next) (length m.code) lt (omega arith) (omega (arith, few))
 
@@ -273,7 +275,7 @@ module _ (m : Lin) (laid : Laid) (entry words : ℕ) (lies : LiesForward m laid 
   code_forward c named [] f a here = tt
   code_forward c named (i ∷ next) f a here =
       values_forward c i next a here (named (length next)) f (values c.setting.end f i.args) (place_ahead (i ∷ next) - first_part laid (i ∷ next))
-      (λ to lt. let more = left_after i next a.tries here lt in omega (arith, more))
+      (λ to lt. let more = left_after i next a.tries here to lt in omega (arith, more))
 
   cost_within : (rest : List Line) (tries : List ℕ) → Reached m rest tries → first_part laid rest ≤ place_ahead rest
   cost_within [] tries here = omega arith

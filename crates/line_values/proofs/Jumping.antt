@@ -244,7 +244,13 @@ module _ (s : Fixed) (u : View) (are : AreRegisters u.registers) (to : ℕ) (nea
             (near_jump s (at_place (u.place + 1) u) are to (omega (arith, near_u)) near_to (jal_after reach) next);
         same = λ q. absurd (cc);
       }
-  branch_goes false e Middle reach code = record { count = 1; some = omega arith; few = omega arith; goes = goes_over 2 (omega arith) e code.0; same = λ q. refl }
+  branch_goes false e Middle reach code = record {
+    count = 1;
+    some = omega arith;
+    few = omega arith;
+    goes = goes_over 2 (omega arith) e code.0;
+    same = λ q. refl;
+  }
   branch_goes true e Far reach code =
       let next : HasCode s (u.place + 1) (far_jump 0 6 (address_of_place (u.place + 1)) (address_of_place to)) =
       subst (λ z. HasCode s (u.place + 1) (far_jump 0 6 z (address_of_place to))) next_address code.1 in
@@ -256,7 +262,13 @@ module _ (s : Fixed) (u : View) (are : AreRegisters u.registers) (to : ℕ) (nea
             (far_goes s (at_place (u.place + 1) u) are to (omega (arith, near_u)) near_to next);
         same = λ q. absurd (cc);
       }
-  branch_goes false e Far reach code = record { count = 1; some = omega arith; few = omega arith; goes = goes_over 3 (omega arith) e code.0; same = λ q. refl }
+  branch_goes false e Far reach code = record {
+    count = 1;
+    some = omega arith;
+    few = omega arith;
+    goes = goes_over 3 (omega arith) e code.0;
+    same = λ q. refl;
+  }
 
 -- ---- code lies in the image
 

@@ -356,12 +356,12 @@ module _ (s : Fixed) (n : Named) (laid : Laid) (m : Lin) (slots : m.slots ≡ la
               results = [];
             }) next file a (branches a (At l) On (Some b)))
         by_truth true count words some few all on goes =
-            lands_in s n laid m live entry c place named next v young held file a within before agrees k 1 (k1 + count) (omega (arith, some)) (omega (arith, few, all))
-            (after_label l m.code) goes.view (then_leads s k1 count v comes.view goes.view comes.leads goes.leads) goes.place
+            lands_in s n laid m live entry c place named next v young held file a within before agrees k 1 (k1 + count)
+            (omega (arith, some)) (omega (arith, few, all)) (after_label l m.code) goes.view (then_leads s k1 count v comes.view goes.view comes.leads goes.leads) goes.place
             (within_gone s laid comes.view goes.view young held a c goes.differs comes.holds.0) passes.1
         by_truth false count words some few all on goes =
-            lands_in s n laid m live entry c place named next v young held file a within before agrees k 1 (k1 + count) (omega (arith, some)) (omega (arith, few, all))
-            next goes.view (then_leads s k1 count v comes.view goes.view comes.leads goes.leads) (goes.place ∙ on)
+            lands_in s n laid m live entry c place named next v young held file a within before agrees k 1 (k1 + count)
+            (omega (arith, some)) (omega (arith, few, all)) next goes.view (then_leads s k1 count v comes.view goes.view comes.leads goes.leads) (goes.place ∙ on)
             (within_gone s laid comes.view goes.view young held a c goes.differs comes.holds.0) passes.0
 
     branched_by : (o : Option Bool) → ((b : Bool) → o ≡ Some b → Comes s v k1 (λ u. Within s laid u young 0 held a c × Tests p l u.registers b)) →

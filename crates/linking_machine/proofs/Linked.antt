@@ -67,8 +67,8 @@ data ExitsTo (u : State) : Step State → Type 0 where
   pays_so : ExitsTo u (Pays u)
   stuck_so : ExitsTo u IsStuck
 
-exit_on : (c : Place) (names : List Loc) (m : Lin) (args results : List Spot) (next : List Line) (f : Locations) (a : Around) (l : ℕ) (o : Option (List Value)) →
-    ExitsTo (record { rest = after_label l m.code; file = f; around = a })
+exit_on : (c : Place) (names : List Loc) (m : Lin) (args results : List Spot) (next : List Line) (f : Locations) (a : Around) (l : ℕ)
+    (o : Option (List Value)) → ExitsTo (record { rest = after_label l m.code; file = f; around = a })
     (on_values c names m (record { op = lin.Flow (flow.Exit l); args = args; results = results }) next f a o)
 exit_on c names m args results next f a l None = stuck_so
 exit_on c names m args results next f a l (Some []) = pays_so

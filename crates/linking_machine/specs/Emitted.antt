@@ -52,8 +52,9 @@ abbrev pub service_of : Step State → ℕ
 service_of (Waits call go) = service_in call.callee
 service_of _ = 0
 
--- The machine follows a step from a view, in at most so many instructions, where the function has so
--- many bytes of the stack in use. Where a unit is owed it is a branch, which takes an instruction.
+-- The machine follows a step from a view, in at most so many instructions, where the function has
+-- so many bytes of the stack in use. Where a unit is owed, the step is that of a branch, which takes
+-- an instruction.
 pub record FollowsLine (owed most : ℕ) (s : Fixed) (laid : Laid) (live : List Line → Type 0)
     (entry : ℕ → ℕ) (c : Below) (v : View) (used : ℕ) (x : Step State) : Type 0 where
   pub words : ℕ
