@@ -13,3 +13,5 @@ pub mod Vals
 pub mod Following
 pub mod Once
 pub mod Living
+pub mod Ends
+pub mod Turning
