@@ -3,6 +3,7 @@ use Rattle.std.proofs.Common.{◌≡◌, ◌≢◌, ℕ, zero, suc, ◌+◌, ◌
 use Rattle.std.proofs.lemmas.Bool.{true≢false, eq-eqb, eqb-true}
 use Rattle.std.specs.List.{Contains, AllPairs}
 use Rattle.bs_words.specs.declared.types.Comp.{Comp}
+use Rattle.bs_words.specs.declared.types.Comp.TheVariants as comp
 use Rattle.bs_words.specs.declared.types.Loc.{Loc}
 use Rattle.mach_ir.specs.Acts.{Target, On, At, drop_tries}
 use Rattle.mach_ir.specs.Walks.{OneOf, this, other}
@@ -71,6 +72,10 @@ exit_unwritten k l w = ⊎_elim (λ y. none_in (record { loc = l; comp = y.0 }) 
 bare_unread : (f : Flow) (l : Loc) (t : Comp) {A : Type 0} → walks.ReadsAs l t (bare f) → A
 bare_unread f l t x = absurd (none_in (record { loc = l; comp = t }) x)
 
+abbrev is_pop : Flow → Bool
+is_pop flow.PopTrap = true
+is_pop _ = false
+
 one_target : (l : ℕ) (t : Target) → OneOf t (At l ∷ []) → t ≡ At l
 one_target l t this = refl
 one_target l t (other o) = elim o [ ]
@@ -78,6 +83,44 @@ one_target l t (other o) = elim o [ ]
 on_target : (t : Target) → OneOf t (On ∷ []) → t ≡ On
 on_target t this = refl
 on_target t (other o) = elim o [ ]
+
+-- ---- places
+
+-- A place of the second function, by the code of the first: a line, the label after a branch, a branch that stands again, or
+-- the jump after that.
+pub data Where : Type 0 where
+  own_place : List Line → Where
+  label_place : List Line → Where
+  copy_place : List Line → Where
+  jump_place : List Line → Where
+
+-- the place of the first from which it is reached without a step that changes the traps
+abbrev pub code_of : Where → List Line
+code_of (own_place is) = is
+code_of (label_place is) = is
+code_of (copy_place is) = is
+code_of (jump_place is) = is
+
+abbrev pub rank_of : (ℕ → ℕ) → Where → ℕ
+rank_of order (own_place is) = 3 * order (length is) + 2
+rank_of order (label_place is) = 3 * order (length is) + 3
+rank_of order (copy_place is) = 3 * order (length is) + 2
+rank_of order (jump_place is) = 3 * order (length is) + 1
+
+lower_own : (x y : ℕ) → x < y → 3 * x + 2 < 3 * y + 2
+lower_own x y lt = omega (arith, lt)
+
+lower_label : (x y : ℕ) → x < y → 3 * x + 3 < 3 * y + 2
+lower_label x y lt = omega (arith, lt)
+
+lower_jump : (y : ℕ) → 3 * y + 1 < 3 * y + 2
+lower_jump y = omega arith
+
+past_lower : (x y : ℕ) → x < y → 3 * x + 2 < 3 * y + 1
+past_lower x y lt = omega (arith, lt)
+
+label_lower : (x : ℕ) → 3 * x + 2 < 3 * x + 3
+label_lower x = omega arith
 
 module _ (m r : Lin) (h : Turns m r) (well : WellFormed m) where
   abbrev pub T : List Line → List Line
@@ -233,18 +276,18 @@ module _ (m r : Lin) (h : Turns m r) (well : WellFormed m) where
     pub stands : Tail (line ∷ next) m.code
     pub turned : h.turns (length next) ≡ Some t
 
-  pub exit_of : {next : List Line} {t : Turn} → Copied next t → (x : Line) × ExitsToBranch m h.opens x t.head
-  exit_of {next} {t} c = (c.line, h.each c.line next t (tail_stands c.stands) c.turned)
+  pub exit_of : {next : List Line} {t : Turn} (c : Copied next t) → ExitsToBranch m h.opens c.line t.head
+  exit_of {next} {t} c = h.each c.line next t (tail_stands c.stands) c.turned
 
   -- the code after the branch
   abbrev pub rest_of : {next : List Line} {t : Turn} → Copied next t → List Line
-  rest_of c = (exit_of c).1.rest
+  rest_of c = (exit_of c).rest
 
   abbrev pub head_code : {next : List Line} {t : Turn} → Copied next t → List Line
   head_code {t = t} c = head_line t.head ∷ rest_of c
 
   pub head_tail : {next : List Line} {t : Turn} (c : Copied next t) → Tail (head_code c) m.code
-  head_tail c = let e = (exit_of c).1 in subst (λ xs. Tail xs m.code) e.leads (tail_label e.label m.code)
+  head_tail c = let e = (exit_of c) in subst (λ xs. Tail xs m.code) e.leads (tail_label e.label m.code)
 
   pub turned_code : {next : List Line} {t : Turn} (c : Copied next t) →
       T (c.line ∷ next) ≡ bare (flow.Exit t.here) ∷ bare (flow.Label t.here) ∷ (tested_again t.keeps t.head ++ T next)
@@ -263,7 +306,257 @@ module _ (m r : Lin) (h : Turns m r) (well : WellFormed m) where
   pub at_on : {next : List Line} {t : Turn} (c : Copied next t) → after_label t.head.on R.code ≡ T (rest_of c)
   at_on {next} {t} c =
       at_label t.head.on
-      (tail_next (subst (λ xs. Tail xs R.code) (opened_code t.head (head_tail c) (exit_of c).1.opened) (tail_image (head_tail c)))) once
+      (tail_next (subst (λ xs. Tail xs R.code) (opened_code t.head (head_tail c) (exit_of c).opened) (tail_image (head_tail c)))) once
 
   pub at_to : {next : List Line} {t : Turn} (c : Copied next t) → after_label t.head.to R.code ≡ T (after_label t.head.to m.code)
   at_to {next} {t} c = label_turned t.head.to (named_in (head_tail c) (other this))
+
+  -- ---- where the second function stands
+
+  -- The first stands at the one code, the second at the other.
+  pub data Stand : List Line → List Line → List ℕ → Type 0 where
+    image : {is js : List Line} {tries : List ℕ} → T is ≡ js → Stand is js tries
+    opened : {i : Line} {is js : List Line} {l : ℕ} {tries : List ℕ} → Tail (i ∷ is) m.code → h.opens (length is) ≡ Some l →
+        bare (flow.Label l) ∷ T is ≡ js → Stand is js tries
+    copied : {next js : List Line} {t : Turn} {tries : List ℕ} (c : Copied next t) → tested_again t.keeps t.head ++ T next ≡ js → Stand (head_code c) js tries
+    jumps : {next js : List Line} {t : Turn} {tries : List ℕ} {l : ℕ} (c : Copied next t) (to : Target) → OneOf to (targets (head_line t.head).op) →
+        after_label l R.code ≡ T (code_at m.code (rest_of c) to) → Reached m (head_code c) tries → bare (flow.Jump l) ∷ T next ≡ js →
+        Stand (code_at m.code (rest_of c) to) js tries
+
+  abbrev pub where_of : {is js : List Line} {tries : List ℕ} → Stand is js tries → Where
+  where_of (image {is = is} e) = own_place is
+  where_of (opened {is = is} w o e) = label_place is
+  where_of (copied c e) = copy_place (head_code c)
+  where_of (jumps c to o at r e) = jump_place (head_code c)
+
+  -- where a step leads, and that it leads down
+  pub record Goes (i : Line) (is js : List Line) (left : List ℕ) (top : Where) : Type 0 where
+    pub stand : Stand is js left
+    pub lower : (d : GoesDown m) → is_exit i.op ≡ false → rank_of d.order (where_of stand) < rank_of d.order top
+
+  -- the line of the second function does what that of the first does
+  pub data Own : List Line → Line → List Line → List ℕ → Where → Type 0 where
+    same : {i : Line} {next ks : List Line} {tries : List ℕ} {top : Where} →
+        ((t : Target) → OneOf t (targets i.op) → Goes i (code_at m.code next t) (code_at R.code ks t) (tries_after i.op tries) top) →
+        Own (i ∷ next) i ks tries top
+    opposite : {d : Head} {rest ks : List Line} {tries : List ℕ} {top : Where} → Goes (head_line d) (after_label d.to m.code) ks tries top →
+        Goes (head_line d) rest (after_label d.on R.code) tries top →
+        Own (head_line d ∷ rest) (branch_line (opposite_test d.test) d.on d.args) ks tries top
+    exits : {l n : ℕ} {next ks : List Line} {tries : List ℕ} {top : Where} → Stand (after_label l m.code) (after_label n R.code) tries →
+        Own (bare (flow.Exit l) ∷ next) (bare (flow.Exit n)) ks tries top
+
+  -- or it is passed alone
+  pub data View : List Line → Line → List Line → List ℕ → Where → Type 0 where
+    own : {is ks : List Line} {j : Line} {tries : List ℕ} {top : Where} → Own is j ks tries top → View is j ks tries top
+    past_label : {is ks : List Line} {l : ℕ} {tries : List ℕ} {top : Where} → T is ≡ ks →
+        ((d : GoesDown m) → rank_of d.order (own_place is) < rank_of d.order top) → View is (bare (flow.Label l)) ks tries top
+    past_jump : {is ks : List Line} {l : ℕ} {tries : List ℕ} {top : Where} → T is ≡ after_label l R.code →
+        ((d : GoesDown m) → rank_of d.order (own_place is) < rank_of d.order top) → View is (bare (flow.Jump l)) ks tries top
+
+  own_onto : {is ks js : List Line} {i j : Line} {tries : List ℕ} {top : Where} → i ∷ ks ≡ j ∷ js → Own is i ks tries top → Own is j js tries top
+  own_onto {is} {ks} {js} {i} {j} {tries} {top} e o =
+      subst (λ i. Own is i js tries top) (first_same i j ks js e) (subst (λ ks. Own is i ks tries top) (rest_same i j ks js e) o)
+
+  view_onto : {is ks js : List Line} {i j : Line} {tries : List ℕ} {top : Where} → i ∷ ks ≡ j ∷ js → View is i ks tries top → View is j js tries top
+  view_onto {is} {ks} {js} {i} {j} {tries} {top} e o =
+      subst (λ i. View is i js tries top) (first_same i j ks js e) (subst (λ ks. View is i ks tries top) (rest_same i j ks js e) o)
+
+  -- a step of the first goes down
+  step_down : {i : Line} {next : List Line} {tries : List ℕ} → Reached m (i ∷ next) tries → (t : Target) → OneOf t (targets i.op) → (d : GoesDown m) →
+      is_exit i.op ≡ false → d.order (length (code_at m.code next t)) < d.order (suc (length next))
+  step_down {i} {next} {tries} r t o d e = d.steps i next (code_at m.code next t) tries (tries_after i.op tries) r e (walks.goes t o)
+
+  -- to a label that the second has too
+  goes_label : {i : Line} {next : List Line} {tries : List ℕ} → Reached m (i ∷ next) tries → (l : ℕ) → OneOf (At l) (targets i.op) → {top : Where} →
+      ((order : ℕ → ℕ) → rank_of order top ≡ 3 * order (suc (length next)) + 2) →
+      Goes i (after_label l m.code) (after_label l R.code) (tries_after i.op tries) top
+  goes_label {i} {next} r l o top =
+      record {
+        stand = image (sym (label_turned l (named_in (reached_tail m r) o)));
+        lower = λ d e.
+            let lt = lower_own (d.order (length (after_label l m.code))) (d.order (suc (length next))) (step_down r (At l) o d e) in
+            let u = top d.order in
+            omega (arith, lt, u);
+      }
+
+  own_line : {i j : Line} {next ks : List Line} {tries : List ℕ} → Reached m (i ∷ next) tries → (x : Option Turn) → h.turns (length next) ≡ x → (o : Option ℕ) →
+      h.opens (length next) ≡ o → turned_line x o i ++ T next ≡ j ∷ ks → Own (i ∷ next) j ks tries (own_place (i ∷ next))
+  own_line {i} {j} {next} {ks} {tries} r None u o v e = own_onto e (same (by o v))
+    where
+      on_next : (o : Option ℕ) → h.opens (length next) ≡ o → OneOf On (targets i.op) →
+          Goes i next (label_put o ++ T next) (tries_after i.op tries) (own_place (i ∷ next))
+      on_next None v a =
+          record { stand = image refl; lower = λ d e. lower_own (d.order (length next)) (d.order (suc (length next))) (step_down r On a d e) }
+      on_next (Some l) v a =
+          record {
+            stand = opened (reached_tail m r) v refl;
+            lower = λ d e. lower_label (d.order (length next)) (d.order (suc (length next))) (step_down r On a d e);
+          }
+
+      by : (o : Option ℕ) → h.opens (length next) ≡ o → (t : Target) → OneOf t (targets i.op) →
+          Goes i (code_at m.code next t) (code_at R.code (label_put o ++ T next) t) (tries_after i.op tries) (own_place (i ∷ next))
+      by o v On a = on_next o v a
+      by o v (At l) a = goes_label r l a (λ order. refl)
+  own_line {i} {j} {next} {ks} {tries} r (Some t) u o v e =
+      let c : Copied next t = record { line = i; stands = reached_tail m r; turned = u } in
+      let x = (exit_of c) in
+      own_onto e
+      (subst (λ (i : Line). Own (i ∷ next) (bare (flow.Exit t.here)) (bare (flow.Label t.here) ∷ (tested_again t.keeps t.head ++ T next)) tries (own_place (c.line ∷ next)))
+      (sym x.is)
+      (exits
+      (subst (λ is. Stand is (after_label t.here R.code) tries) (sym x.leads)
+      (subst (λ js. Stand (head_code c) js tries) (sym (at_here c)) (copied c refl)))))
+
+  own_image : {j : Line} {ks : List Line} {tries : List ℕ} (is : List Line) → Reached m is tries → T is ≡ j ∷ ks → Own is j ks tries (own_place is)
+  own_image {j} {ks} [] r e = absurd (none_first j ks e)
+  own_image (i ∷ next) r e = own_line r (h.turns (length next)) refl (h.opens (length next)) refl e
+
+  own_copy : {j : Line} {ks next : List Line} {t : Turn} {tries : List ℕ} (c : Copied next t) → Reached m (head_code c) tries →
+      tested_again t.keeps t.head ++ T next ≡ j ∷ ks → Own (head_code c) j ks tries (copy_place (head_code c))
+  own_copy {j} {ks} {next} {t} {tries} c r e = by t.keeps e
+    where
+      to_jump : {l : ℕ} (to : Target) → OneOf to (targets (head_line t.head).op) → after_label l R.code ≡ T (code_at m.code (rest_of c) to) →
+          Goes (head_line t.head) (code_at m.code (rest_of c) to) (bare (flow.Jump l) ∷ T next) tries (copy_place (head_code c))
+      to_jump to o e = record { stand = jumps c to o e r refl; lower = λ d e. lower_jump (d.order (suc (length (rest_of c)))) }
+
+      kept : (to : Target) → OneOf to (targets (head_line t.head).op) →
+          Goes (head_line t.head) (code_at m.code (rest_of c) to) (code_at R.code (bare (flow.Jump t.head.on) ∷ T next) to) tries (copy_place (head_code c))
+      kept On o = to_jump On o (at_on c)
+      kept (At l) o = goes_label r l o (λ order. refl)
+
+      turned_over : Goes (head_line t.head) (rest_of c) (after_label t.head.on R.code) tries (copy_place (head_code c))
+      turned_over =
+          record {
+            stand = image (sym (at_on c));
+            lower = λ d e. lower_own (d.order (length (rest_of c))) (d.order (suc (length (rest_of c)))) (step_down r On this d e);
+          }
+
+      by : (b : Bool) → tested_again b t.head ++ T next ≡ j ∷ ks → Own (head_code c) j ks tries (copy_place (head_code c))
+      by true e = own_onto e (same kept)
+      by false e = own_onto e (opposite (to_jump (At t.head.to) (other this) (at_to c)) turned_over)
+
+  pub view : {is js ks : List Line} {j : Line} {tries : List ℕ} (s : Stand is js tries) → Reached m is tries → js ≡ j ∷ ks → View is j ks tries (where_of s)
+  view (image {is = is} e) r u = own (own_image is r (e ∙ u))
+  view (opened {is = is} w o e) r u = view_onto (e ∙ u) (past_label refl (λ d. label_lower (d.order (length is))))
+  view (copied c e) r u = own (own_copy c r (e ∙ u))
+  view (jumps c to o at r e) r' u =
+      view_onto (e ∙ u)
+      (past_jump (sym at)
+      (λ d. past_lower (d.order (length (code_at m.code (rest_of c) to))) (d.order (suc (length (rest_of c)))) (step_down r to o d refl)))
+
+  -- ---- walks
+
+  -- the code of the first where a walk of the second comes
+  pub record Source (js : List Line) (tries : List ℕ) : Type 0 where
+    pub code : List Line
+    pub stand : Stand code js tries
+    pub reached : Reached m code tries
+
+  stepped : {is ks : List Line} {j : Line} {tries : List ℕ} {top : Where} → View is j ks tries top → Reached m is tries → (t : Target) → OneOf t (targets j.op) →
+      Source (code_at R.code ks t) (tries_after j.op tries)
+  stepped {ks = ks} (own o) r t a = by o r t a
+    where
+      by : {is ks : List Line} {j : Line} {tries : List ℕ} {top : Where} → Own is j ks tries top → Reached m is tries → (t : Target) → OneOf t (targets j.op) →
+          Source (code_at R.code ks t) (tries_after j.op tries)
+      by (same {next = next} moves) r t a = record { code = code_at m.code next t; stand = (moves t a).stand; reached = by_step r (walks.goes t a) }
+      by (opposite {d = d} {rest = rest} holds fails) r On a = record { code = after_label d.to m.code; stand = holds.stand; reached = by_step r (walks.goes (At d.to) (other this)) }
+      by (opposite {d = d} {rest = rest} holds fails) r (At l) (other this) = record { code = rest; stand = fails.stand; reached = by_step r (walks.goes On this) }
+      by (opposite {d = d} {rest = rest} holds fails) r (At l) (other (other a)) = elim a [ ]
+      by (exits {l = l} stand) r t this = record { code = after_label l m.code; stand = stand; reached = by_step r (walks.goes (At l) this) }
+      by (exits stand) r t (other a) = elim a [ ]
+  stepped (past_label {is = is} e low) r t this = record { code = is; stand = image e; reached = r }
+  stepped (past_label e low) r t (other a) = elim a [ ]
+  stepped (past_jump {is = is} e low) r t this = record { code = is; stand = image e; reached = r }
+  stepped (past_jump e low) r t (other a) = elim a [ ]
+
+  raised : {is ks : List Line} {j : Line} {h' : ℕ} {tries : List ℕ} {top : Where} → View is j ks (h' ∷ tries) top → Reached m is (h' ∷ tries) → may_raise j.op ≡ true →
+      Source (after_label h' R.code) tries
+  raised {h' = l} (own (same moves)) r e = record { code = after_label l m.code; stand = image (handler_turned r); reached = by_raise r (walks.raises e) }
+  raised (own (opposite holds fails)) r e = absurd (true≢false (sym e))
+  raised (own (exits stand)) r e = absurd (true≢false (sym e))
+  raised (past_label u low) r e = absurd (true≢false (sym e))
+  raised (past_jump u low) r e = absurd (true≢false (sym e))
+
+  pub source : {js : List Line} {tries : List ℕ} → Reached R js tries → Source js tries
+  source at_entry = record { code = m.code; stand = image refl; reached = at_entry }
+  source (by_step r (walks.goes t o)) = let y = source r in stepped (view y.stand y.reached refl) y.reached t o
+  source (by_raise r (walks.raises e)) = let y = source r in raised (view y.stand y.reached refl) y.reached e
+
+  -- ---- what is live
+
+  abbrev Was : Loc → Comp → List Line → List ℕ → Type 0
+  Was l t js tries = (is : List Line) → Stand is js tries → Reached m is tries → Live m l t is tries
+
+  live_read : {l : Loc} {t : Comp} {is ks : List Line} {j : Line} {tries : List ℕ} {top : Where} → View is j ks tries top → walks.ReadsAs l t j → Live m l t is tries
+  live_read (own (same moves)) x = read x
+  live_read (own (opposite holds fails)) x = read x
+  live_read {l} {t} (own (exits {n = n} stand)) x = bare_unread (flow.Exit n) l t x
+  live_read {l} {t} (past_label {l = k} u low) x = bare_unread (flow.Label k) l t x
+  live_read {l} {t} (past_jump {l = k} u low) x = bare_unread (flow.Jump k) l t x
+
+  live_on : {l : Loc} {t : Comp} {is ks : List Line} {j : Line} {tries : List ℕ} {top : Where} → View is j ks tries top → Reached m is tries → (Writes j l → ⊥) →
+      (k : Target) → OneOf k (targets j.op) → Was l t (code_at R.code ks k) (tries_after j.op tries) → Live m l t is tries
+  live_on (own (same moves)) r free k o v = on free (walks.goes k o) (v _ (moves k o).stand (by_step r (walks.goes k o)))
+  live_on (own (opposite {d = d} holds fails)) r free On o v = on free (walks.goes (At d.to) (other this)) (v _ holds.stand (by_step r (walks.goes (At d.to) (other this))))
+  live_on (own (opposite holds fails)) r free (At k) (other this) v = on free (walks.goes On this) (v _ fails.stand (by_step r (walks.goes On this)))
+  live_on (own (opposite holds fails)) r free (At k) (other (other o)) v = elim o [ ]
+  live_on {l} (own (exits {l = k} stand)) r free t this v = on (exit_unwritten k l) (walks.goes (At k) this) (v _ stand (by_step r (walks.goes (At k) this)))
+  live_on (own (exits stand)) r free t (other o) v = elim o [ ]
+  live_on (past_label u low) r free k this v = v _ (image u) r
+  live_on (past_label u low) r free k (other o) v = elim o [ ]
+  live_on (past_jump u low) r free k this v = v _ (image u) r
+  live_on (past_jump u low) r free k (other o) v = elim o [ ]
+
+  live_aside : {l : Loc} {t : Comp} {is ks : List Line} {j : Line} {n : ℕ} {tries : List ℕ} {top : Where} → View is j ks (n ∷ tries) top → Reached m is (n ∷ tries) →
+      may_raise j.op ≡ true → Was l t (after_label n R.code) tries → Live m l t is (n ∷ tries)
+  live_aside (own (same moves)) r e v = aside (walks.raises e) (v _ (image (handler_turned r)) (by_raise r (walks.raises e)))
+  live_aside (own (opposite holds fails)) r e v = absurd (true≢false (sym e))
+  live_aside (own (exits stand)) r e v = absurd (true≢false (sym e))
+  live_aside (past_label u low) r e v = absurd (true≢false (sym e))
+  live_aside (past_jump u low) r e v = absurd (true≢false (sym e))
+
+  -- what is live in the second was live in the first
+  pub live_before : {l : Loc} {t : Comp} {js : List Line} {tries : List ℕ} → Live R l t js tries → {is : List Line} → Stand is js tries → Reached m is tries →
+      Live m l t is tries
+  live_before (read x) s r = live_read (view s r refl) x
+  live_before (on free (walks.goes k o) v) s r = live_on (view s r refl) r free k o (λ is s r. live_before v s r)
+  live_before (aside (walks.raises e) v) s r = live_aside (view s r refl) r e (λ is s r. live_before v s r)
+
+  -- The line of the second, where it is that of the first.
+  abbrev Moves : Line → List Line → List Line → List ℕ → Where → Type 0
+  Moves i next ks tries top = (t : Target) → OneOf t (targets i.op) → Goes i (code_at m.code next t) (code_at R.code ks t) (tries_after i.op tries) top
+
+  pub live_across : {l : Loc} {t : Comp} {i : Line} {next ks : List Line} {tries : List ℕ} {top : Where} → Moves i next ks tries top → Reached m (i ∷ next) tries →
+      LiveAcross R l t i ks tries → LiveAcross m l t i next tries
+  live_across moves r (across_step free (walks.goes k o) v) =
+      across_step free (walks.goes k o) (live_before v (moves k o).stand (by_step r (walks.goes k o)))
+  live_across moves r (across_raise (walks.raises e) v) =
+      across_raise (walks.raises e) (live_before v (image (handler_turned r)) (by_raise r (walks.raises e)))
+
+  -- what is no flow is the line of the first
+  pub data Kept (j : Line) (ks : List Line) (tries : List ℕ) : Type 0 where
+    kept_line : {next : List Line} {top : Where} → Moves j next ks tries top → Reached m (j ∷ next) tries → Kept j ks tries
+    is_way : (f : Flow) → j.op ≡ lin.Flow f → (f ≡ flow.PopTrap → ⊥) → Kept j ks tries
+
+  not_pop : (f : Flow) → is_pop f ≡ false → f ≡ flow.PopTrap → ⊥
+  not_pop f e u = true≢false (sym (ap is_pop u) ∙ e)
+
+  pub kept : {j : Line} {ks : List Line} {tries : List ℕ} → Reached R (j ∷ ks) tries → Kept j ks tries
+  kept {j} {ks} {tries} r = let y = source r in by (view y.stand y.reached refl) y.reached
+    where
+      by : {is ks : List Line} {j : Line} {tries : List ℕ} {top : Where} → View is j ks tries top → Reached m is tries → Kept j ks tries
+      by (own (same moves)) r = kept_line moves r
+      by (own (opposite {d = d} holds fails)) r = is_way (flow.Branch (opposite_test d.test) d.on) refl (not_pop _ refl)
+      by (own (exits {n = n} stand)) r = is_way (flow.Exit n) refl (not_pop _ refl)
+      by (past_label {l = l} u low) r = is_way (flow.Label l) refl (not_pop _ refl)
+      by (past_jump {l = l} u low) r = is_way (flow.Jump l) refl (not_pop _ refl)
+
+  frame_flow : (j : Line) (f : Flow) → j.op ≡ lin.Flow f → passes_frame j.op ≡ true → ⊥
+  frame_flow j f e frame = true≢false (sym frame ∙ ap passes_frame e)
+
+  pub no_addr_turned : NoAddrReached m → NoAddrReached R
+  no_addr_turned none = record { none = λ j ks tries r frame l w. by (kept r) frame l w }
+    where
+      by : {j : Line} {ks : List Line} {tries : List ℕ} → Kept j ks tries → passes_frame j.op ≡ true → (l : Loc) → LiveAcross R l comp.Addr j ks tries → ⊥
+      by {j} {ks} {tries} (kept_line {next = next} moves r) frame l w = none.none j next tries r frame l (live_across moves r w)
+      by {j} (is_way f e p) frame l w = frame_flow j f e frame
