@@ -15,3 +15,5 @@ pub mod Once
 pub mod Living
 pub mod Ends
 pub mod Turning
+pub mod TurningLines
+pub mod TurningDoes

@@ -339,7 +339,7 @@ module _ (m r : Lin) (h : Turns m r) (well : WellFormed m) where
     same : {i : Line} {next ks : List Line} {tries : List ℕ} {top : Where} →
         ((t : Target) → OneOf t (targets i.op) → Goes i (code_at m.code next t) (code_at R.code ks t) (tries_after i.op tries) top) →
         Own (i ∷ next) i ks tries top
-    opposite : {d : Head} {rest ks : List Line} {tries : List ℕ} {top : Where} → Goes (head_line d) (after_label d.to m.code) ks tries top →
+    other_way : {d : Head} {rest ks : List Line} {tries : List ℕ} {top : Where} → Goes (head_line d) (after_label d.to m.code) ks tries top →
         Goes (head_line d) rest (after_label d.on R.code) tries top →
         Own (head_line d ∷ rest) (branch_line (opposite_test d.test) d.on d.args) ks tries top
     exits : {l n : ℕ} {next ks : List Line} {tries : List ℕ} {top : Where} → Stand (after_label l m.code) (after_label n R.code) tries →
@@ -407,9 +407,31 @@ module _ (m r : Lin) (h : Turns m r) (well : WellFormed m) where
       (subst (λ is. Stand is (after_label t.here R.code) tries) (sym x.leads)
       (subst (λ js. Stand (head_code c) js tries) (sym (at_here c)) (copied c refl)))))
 
-  own_image : {j : Line} {ks : List Line} {tries : List ℕ} (is : List Line) → Reached m is tries → T is ≡ j ∷ ks → Own is j ks tries (own_place is)
+  pub own_image : {j : Line} {ks : List Line} {tries : List ℕ} (is : List Line) → Reached m is tries → T is ≡ j ∷ ks → Own is j ks tries (own_place is)
   own_image {j} {ks} [] r e = absurd (none_first j ks e)
   own_image (i ∷ next) r e = own_line r (h.turns (length next)) refl (h.opens (length next)) refl e
+
+  line_some : (x : Option Turn) (o : Option ℕ) (i : Line) (ks : List Line) → turned_line x o i ++ ks ≡ [] → ⊥
+  line_some None o i ks e = none_left i (label_put o ++ ks) e
+  line_some (Some t) o i ks e = none_left (bare (flow.Exit t.here)) (bare (flow.Label t.here) ∷ (tested_again t.keeps t.head ++ ks)) e
+
+  -- the second is at its end where the first is
+  pub image_some : (i : Line) (next : List Line) → T (i ∷ next) ≡ [] → ⊥
+  image_some i next e = line_some (h.turns (length next)) (h.opens (length next)) i (T next) e
+
+  pub stands_none : {is js : List Line} {tries : List ℕ} → Stand is js tries → js ≡ [] → is ≡ []
+  stands_none (image {is = is} e) u = by is (e ∙ u)
+    where
+      by : (is : List Line) → T is ≡ [] → is ≡ []
+      by [] e = refl
+      by (i ∷ next) e = absurd (image_some i next e)
+  stands_none (opened {is = is} {l = l} w o e) u = absurd (none_left (bare (flow.Label l)) (T is) (e ∙ u))
+  stands_none (copied {next = next} {t = t} c e) u = absurd (by t.keeps (e ∙ u))
+    where
+      by : (b : Bool) → tested_again b t.head ++ T next ≡ [] → ⊥
+      by true e = none_left (head_line t.head) (bare (flow.Jump t.head.on) ∷ T next) e
+      by false e = none_left (branch_line (opposite_test t.head.test) t.head.on t.head.args) (bare (flow.Jump t.head.to) ∷ T next) e
+  stands_none (jumps {next = next} {l = l} c to o at r e) u = absurd (none_left (bare (flow.Jump l)) (T next) (e ∙ u))
 
   own_copy : {j : Line} {ks next : List Line} {t : Turn} {tries : List ℕ} (c : Copied next t) → Reached m (head_code c) tries →
       tested_again t.keeps t.head ++ T next ≡ j ∷ ks → Own (head_code c) j ks tries (copy_place (head_code c))
@@ -433,7 +455,7 @@ module _ (m r : Lin) (h : Turns m r) (well : WellFormed m) where
 
       by : (b : Bool) → tested_again b t.head ++ T next ≡ j ∷ ks → Own (head_code c) j ks tries (copy_place (head_code c))
       by true e = own_onto e (same kept)
-      by false e = own_onto e (opposite (to_jump (At t.head.to) (other this) (at_to c)) turned_over)
+      by false e = own_onto e (other_way (to_jump (At t.head.to) (other this) (at_to c)) turned_over)
 
   pub view : {is js ks : List Line} {j : Line} {tries : List ℕ} (s : Stand is js tries) → Reached m is tries → js ≡ j ∷ ks → View is j ks tries (where_of s)
   view (image {is = is} e) r u = own (own_image is r (e ∙ u))
@@ -459,9 +481,9 @@ module _ (m r : Lin) (h : Turns m r) (well : WellFormed m) where
       by : {is ks : List Line} {j : Line} {tries : List ℕ} {top : Where} → Own is j ks tries top → Reached m is tries → (t : Target) → OneOf t (targets j.op) →
           Source (code_at R.code ks t) (tries_after j.op tries)
       by (same {next = next} moves) r t a = record { code = code_at m.code next t; stand = (moves t a).stand; reached = by_step r (walks.goes t a) }
-      by (opposite {d = d} {rest = rest} holds fails) r On a = record { code = after_label d.to m.code; stand = holds.stand; reached = by_step r (walks.goes (At d.to) (other this)) }
-      by (opposite {d = d} {rest = rest} holds fails) r (At l) (other this) = record { code = rest; stand = fails.stand; reached = by_step r (walks.goes On this) }
-      by (opposite {d = d} {rest = rest} holds fails) r (At l) (other (other a)) = elim a [ ]
+      by (other_way {d = d} {rest = rest} holds fails) r On a = record { code = after_label d.to m.code; stand = holds.stand; reached = by_step r (walks.goes (At d.to) (other this)) }
+      by (other_way {d = d} {rest = rest} holds fails) r (At l) (other this) = record { code = rest; stand = fails.stand; reached = by_step r (walks.goes On this) }
+      by (other_way {d = d} {rest = rest} holds fails) r (At l) (other (other a)) = elim a [ ]
       by (exits {l = l} stand) r t this = record { code = after_label l m.code; stand = stand; reached = by_step r (walks.goes (At l) this) }
       by (exits stand) r t (other a) = elim a [ ]
   stepped (past_label {is = is} e low) r t this = record { code = is; stand = image e; reached = r }
@@ -472,7 +494,7 @@ module _ (m r : Lin) (h : Turns m r) (well : WellFormed m) where
   raised : {is ks : List Line} {j : Line} {h' : ℕ} {tries : List ℕ} {top : Where} → View is j ks (h' ∷ tries) top → Reached m is (h' ∷ tries) → may_raise j.op ≡ true →
       Source (after_label h' R.code) tries
   raised {h' = l} (own (same moves)) r e = record { code = after_label l m.code; stand = image (handler_turned r); reached = by_raise r (walks.raises e) }
-  raised (own (opposite holds fails)) r e = absurd (true≢false (sym e))
+  raised (own (other_way holds fails)) r e = absurd (true≢false (sym e))
   raised (own (exits stand)) r e = absurd (true≢false (sym e))
   raised (past_label u low) r e = absurd (true≢false (sym e))
   raised (past_jump u low) r e = absurd (true≢false (sym e))
@@ -489,7 +511,7 @@ module _ (m r : Lin) (h : Turns m r) (well : WellFormed m) where
 
   live_read : {l : Loc} {t : Comp} {is ks : List Line} {j : Line} {tries : List ℕ} {top : Where} → View is j ks tries top → walks.ReadsAs l t j → Live m l t is tries
   live_read (own (same moves)) x = read x
-  live_read (own (opposite holds fails)) x = read x
+  live_read (own (other_way holds fails)) x = read x
   live_read {l} {t} (own (exits {n = n} stand)) x = bare_unread (flow.Exit n) l t x
   live_read {l} {t} (past_label {l = k} u low) x = bare_unread (flow.Label k) l t x
   live_read {l} {t} (past_jump {l = k} u low) x = bare_unread (flow.Jump k) l t x
@@ -497,9 +519,9 @@ module _ (m r : Lin) (h : Turns m r) (well : WellFormed m) where
   live_on : {l : Loc} {t : Comp} {is ks : List Line} {j : Line} {tries : List ℕ} {top : Where} → View is j ks tries top → Reached m is tries → (Writes j l → ⊥) →
       (k : Target) → OneOf k (targets j.op) → Was l t (code_at R.code ks k) (tries_after j.op tries) → Live m l t is tries
   live_on (own (same moves)) r free k o v = on free (walks.goes k o) (v _ (moves k o).stand (by_step r (walks.goes k o)))
-  live_on (own (opposite {d = d} holds fails)) r free On o v = on free (walks.goes (At d.to) (other this)) (v _ holds.stand (by_step r (walks.goes (At d.to) (other this))))
-  live_on (own (opposite holds fails)) r free (At k) (other this) v = on free (walks.goes On this) (v _ fails.stand (by_step r (walks.goes On this)))
-  live_on (own (opposite holds fails)) r free (At k) (other (other o)) v = elim o [ ]
+  live_on (own (other_way {d = d} holds fails)) r free On o v = on free (walks.goes (At d.to) (other this)) (v _ holds.stand (by_step r (walks.goes (At d.to) (other this))))
+  live_on (own (other_way holds fails)) r free (At k) (other this) v = on free (walks.goes On this) (v _ fails.stand (by_step r (walks.goes On this)))
+  live_on (own (other_way holds fails)) r free (At k) (other (other o)) v = elim o [ ]
   live_on {l} (own (exits {l = k} stand)) r free t this v = on (exit_unwritten k l) (walks.goes (At k) this) (v _ stand (by_step r (walks.goes (At k) this)))
   live_on (own (exits stand)) r free t (other o) v = elim o [ ]
   live_on (past_label u low) r free k this v = v _ (image u) r
@@ -510,7 +532,7 @@ module _ (m r : Lin) (h : Turns m r) (well : WellFormed m) where
   live_aside : {l : Loc} {t : Comp} {is ks : List Line} {j : Line} {n : ℕ} {tries : List ℕ} {top : Where} → View is j ks (n ∷ tries) top → Reached m is (n ∷ tries) →
       may_raise j.op ≡ true → Was l t (after_label n R.code) tries → Live m l t is (n ∷ tries)
   live_aside (own (same moves)) r e v = aside (walks.raises e) (v _ (image (handler_turned r)) (by_raise r (walks.raises e)))
-  live_aside (own (opposite holds fails)) r e v = absurd (true≢false (sym e))
+  live_aside (own (other_way holds fails)) r e v = absurd (true≢false (sym e))
   live_aside (own (exits stand)) r e v = absurd (true≢false (sym e))
   live_aside (past_label u low) r e v = absurd (true≢false (sym e))
   live_aside (past_jump u low) r e v = absurd (true≢false (sym e))
@@ -523,7 +545,7 @@ module _ (m r : Lin) (h : Turns m r) (well : WellFormed m) where
   live_before (aside (walks.raises e) v) s r = live_aside (view s r refl) r e (λ is s r. live_before v s r)
 
   -- The line of the second, where it is that of the first.
-  abbrev Moves : Line → List Line → List Line → List ℕ → Where → Type 0
+  abbrev pub Moves : Line → List Line → List Line → List ℕ → Where → Type 0
   Moves i next ks tries top = (t : Target) → OneOf t (targets i.op) → Goes i (code_at m.code next t) (code_at R.code ks t) (tries_after i.op tries) top
 
   pub live_across : {l : Loc} {t : Comp} {i : Line} {next ks : List Line} {tries : List ℕ} {top : Where} → Moves i next ks tries top → Reached m (i ∷ next) tries →
@@ -546,7 +568,7 @@ module _ (m r : Lin) (h : Turns m r) (well : WellFormed m) where
     where
       by : {is ks : List Line} {j : Line} {tries : List ℕ} {top : Where} → View is j ks tries top → Reached m is tries → Kept j ks tries
       by (own (same moves)) r = kept_line moves r
-      by (own (opposite {d = d} holds fails)) r = is_way (flow.Branch (opposite_test d.test) d.on) refl (not_pop _ refl)
+      by (own (other_way {d = d} holds fails)) r = is_way (flow.Branch (opposite_test d.test) d.on) refl (not_pop _ refl)
       by (own (exits {n = n} stand)) r = is_way (flow.Exit n) refl (not_pop _ refl)
       by (past_label {l = l} u low) r = is_way (flow.Label l) refl (not_pop _ refl)
       by (past_jump {l = l} u low) r = is_way (flow.Jump l) refl (not_pop _ refl)
