@@ -17,3 +17,4 @@ pub mod Ends
 pub mod Turning
 pub mod TurningLines
 pub mod TurningDoes
+pub mod TurningShape

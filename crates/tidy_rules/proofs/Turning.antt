@@ -168,6 +168,10 @@ module _ (m r : Lin) (h : Turns m r) (well : WellFormed m) where
       by None u = u
       by (Some t) u = let e = h.each (head_line d) next t (tail_stands w) u in absurd (true≢false (sym (exits_only (head_line d) e.label e.is)))
 
+  pub not_turned : {i : Line} {next : List Line} {l : ℕ} → Tail (i ∷ next) m.code → h.opens (length next) ≡ Some l → h.turns (length next) ≡ None
+  not_turned {i} {next} {l} w e =
+      let b = h.branches i next l (tail_stands w) e in branch_stays b.0 (subst (λ i. Tail (i ∷ next) m.code) b.1 w)
+
   pub tail_image : {is zs : List Line} → Tail is zs → Tail (T is) (T zs)
   tail_image tail_all = tail_all
   tail_image {is} (tail_more {j = j} {zs = zs} w) = then_more (Line_in zs j) (tail_image w)
@@ -336,7 +340,7 @@ module _ (m r : Lin) (h : Turns m r) (well : WellFormed m) where
 
   -- the line of the second function does what that of the first does
   pub data Own : List Line → Line → List Line → List ℕ → Where → Type 0 where
-    same : {i : Line} {next ks : List Line} {tries : List ℕ} {top : Where} →
+    same : {i : Line} {next ks : List Line} {tries : List ℕ} {top : Where} → ((order : ℕ → ℕ) → rank_of order top ≡ 3 * order (suc (length next)) + 2) →
         ((t : Target) → OneOf t (targets i.op) → Goes i (code_at m.code next t) (code_at R.code ks t) (tries_after i.op tries) top) →
         Own (i ∷ next) i ks tries top
     other_way : {d : Head} {rest ks : List Line} {tries : List ℕ} {top : Where} → Goes (head_line d) (after_label d.to m.code) ks tries top →
@@ -381,7 +385,7 @@ module _ (m r : Lin) (h : Turns m r) (well : WellFormed m) where
 
   own_line : {i j : Line} {next ks : List Line} {tries : List ℕ} → Reached m (i ∷ next) tries → (x : Option Turn) → h.turns (length next) ≡ x → (o : Option ℕ) →
       h.opens (length next) ≡ o → turned_line x o i ++ T next ≡ j ∷ ks → Own (i ∷ next) j ks tries (own_place (i ∷ next))
-  own_line {i} {j} {next} {ks} {tries} r None u o v e = own_onto e (same (by o v))
+  own_line {i} {j} {next} {ks} {tries} r None u o v e = own_onto e (same (λ order. refl) (by o v))
     where
       on_next : (o : Option ℕ) → h.opens (length next) ≡ o → OneOf On (targets i.op) →
           Goes i next (label_put o ++ T next) (tries_after i.op tries) (own_place (i ∷ next))
@@ -454,7 +458,7 @@ module _ (m r : Lin) (h : Turns m r) (well : WellFormed m) where
           }
 
       by : (b : Bool) → tested_again b t.head ++ T next ≡ j ∷ ks → Own (head_code c) j ks tries (copy_place (head_code c))
-      by true e = own_onto e (same kept)
+      by true e = own_onto e (same (λ order. refl) kept)
       by false e = own_onto e (other_way (to_jump (At t.head.to) (other this) (at_to c)) turned_over)
 
   pub view : {is js ks : List Line} {j : Line} {tries : List ℕ} (s : Stand is js tries) → Reached m is tries → js ≡ j ∷ ks → View is j ks tries (where_of s)
@@ -480,7 +484,7 @@ module _ (m r : Lin) (h : Turns m r) (well : WellFormed m) where
     where
       by : {is ks : List Line} {j : Line} {tries : List ℕ} {top : Where} → Own is j ks tries top → Reached m is tries → (t : Target) → OneOf t (targets j.op) →
           Source (code_at R.code ks t) (tries_after j.op tries)
-      by (same {next = next} moves) r t a = record { code = code_at m.code next t; stand = (moves t a).stand; reached = by_step r (walks.goes t a) }
+      by (same {next = next} rank moves) r t a = record { code = code_at m.code next t; stand = (moves t a).stand; reached = by_step r (walks.goes t a) }
       by (other_way {d = d} {rest = rest} holds fails) r On a = record { code = after_label d.to m.code; stand = holds.stand; reached = by_step r (walks.goes (At d.to) (other this)) }
       by (other_way {d = d} {rest = rest} holds fails) r (At l) (other this) = record { code = rest; stand = fails.stand; reached = by_step r (walks.goes On this) }
       by (other_way {d = d} {rest = rest} holds fails) r (At l) (other (other a)) = elim a [ ]
@@ -493,7 +497,7 @@ module _ (m r : Lin) (h : Turns m r) (well : WellFormed m) where
 
   raised : {is ks : List Line} {j : Line} {h' : ℕ} {tries : List ℕ} {top : Where} → View is j ks (h' ∷ tries) top → Reached m is (h' ∷ tries) → may_raise j.op ≡ true →
       Source (after_label h' R.code) tries
-  raised {h' = l} (own (same moves)) r e = record { code = after_label l m.code; stand = image (handler_turned r); reached = by_raise r (walks.raises e) }
+  raised {h' = l} (own (same rank moves)) r e = record { code = after_label l m.code; stand = image (handler_turned r); reached = by_raise r (walks.raises e) }
   raised (own (other_way holds fails)) r e = absurd (true≢false (sym e))
   raised (own (exits stand)) r e = absurd (true≢false (sym e))
   raised (past_label u low) r e = absurd (true≢false (sym e))
@@ -510,7 +514,7 @@ module _ (m r : Lin) (h : Turns m r) (well : WellFormed m) where
   Was l t js tries = (is : List Line) → Stand is js tries → Reached m is tries → Live m l t is tries
 
   live_read : {l : Loc} {t : Comp} {is ks : List Line} {j : Line} {tries : List ℕ} {top : Where} → View is j ks tries top → walks.ReadsAs l t j → Live m l t is tries
-  live_read (own (same moves)) x = read x
+  live_read (own (same rank moves)) x = read x
   live_read (own (other_way holds fails)) x = read x
   live_read {l} {t} (own (exits {n = n} stand)) x = bare_unread (flow.Exit n) l t x
   live_read {l} {t} (past_label {l = k} u low) x = bare_unread (flow.Label k) l t x
@@ -518,7 +522,7 @@ module _ (m r : Lin) (h : Turns m r) (well : WellFormed m) where
 
   live_on : {l : Loc} {t : Comp} {is ks : List Line} {j : Line} {tries : List ℕ} {top : Where} → View is j ks tries top → Reached m is tries → (Writes j l → ⊥) →
       (k : Target) → OneOf k (targets j.op) → Was l t (code_at R.code ks k) (tries_after j.op tries) → Live m l t is tries
-  live_on (own (same moves)) r free k o v = on free (walks.goes k o) (v _ (moves k o).stand (by_step r (walks.goes k o)))
+  live_on (own (same rank moves)) r free k o v = on free (walks.goes k o) (v _ (moves k o).stand (by_step r (walks.goes k o)))
   live_on (own (other_way {d = d} holds fails)) r free On o v = on free (walks.goes (At d.to) (other this)) (v _ holds.stand (by_step r (walks.goes (At d.to) (other this))))
   live_on (own (other_way holds fails)) r free (At k) (other this) v = on free (walks.goes On this) (v _ fails.stand (by_step r (walks.goes On this)))
   live_on (own (other_way holds fails)) r free (At k) (other (other o)) v = elim o [ ]
@@ -531,7 +535,7 @@ module _ (m r : Lin) (h : Turns m r) (well : WellFormed m) where
 
   live_aside : {l : Loc} {t : Comp} {is ks : List Line} {j : Line} {n : ℕ} {tries : List ℕ} {top : Where} → View is j ks (n ∷ tries) top → Reached m is (n ∷ tries) →
       may_raise j.op ≡ true → Was l t (after_label n R.code) tries → Live m l t is (n ∷ tries)
-  live_aside (own (same moves)) r e v = aside (walks.raises e) (v _ (image (handler_turned r)) (by_raise r (walks.raises e)))
+  live_aside (own (same rank moves)) r e v = aside (walks.raises e) (v _ (image (handler_turned r)) (by_raise r (walks.raises e)))
   live_aside (own (other_way holds fails)) r e v = absurd (true≢false (sym e))
   live_aside (own (exits stand)) r e v = absurd (true≢false (sym e))
   live_aside (past_label u low) r e v = absurd (true≢false (sym e))
@@ -567,7 +571,7 @@ module _ (m r : Lin) (h : Turns m r) (well : WellFormed m) where
   kept {j} {ks} {tries} r = let y = source r in by (view y.stand y.reached refl) y.reached
     where
       by : {is ks : List Line} {j : Line} {tries : List ℕ} {top : Where} → View is j ks tries top → Reached m is tries → Kept j ks tries
-      by (own (same moves)) r = kept_line moves r
+      by (own (same rank moves)) r = kept_line moves r
       by (own (other_way {d = d} holds fails)) r = is_way (flow.Branch (opposite_test d.test) d.on) refl (not_pop _ refl)
       by (own (exits {n = n} stand)) r = is_way (flow.Exit n) refl (not_pop _ refl)
       by (past_label {l = l} u low) r = is_way (flow.Label l) refl (not_pop _ refl)

@@ -110,7 +110,7 @@ module _ (m r : Lin) (h : turning.Turns m r) (well : WellFormed m) where
     -- a line of its own, where the second stands at what does the same
     answer_own : {is ks : List Line} {j : Line} {top : Where} (g : Locations) (a : Around) → Own m r h well is j ks a.tries top → Reached m is a.tries →
         ValsHeld c m (at is g a) → Answer (at (j ∷ ks) g a) (step c m (at is g a))
-    answer_own {ks = ks} g a (same {i = i} {next = next} moves) reached vals = steps (line_held g a moves reached vals) (by (values c.setting.end g i.args))
+    answer_own {ks = ks} g a (same {i = i} {next = next} rank moves) reached vals = steps (line_held g a moves reached vals) (by (values c.setting.end g i.args))
       where
         by : (o : Option (List Value)) → Arrive (kept.on_values c m i next g a o) (kept.on_values c Q i ks g a o)
         by None = first_stuck
