@@ -8,7 +8,7 @@ use Rattle.bs_words.specs.declared.types.Loc.{Loc}
 use Rattle.mach_ir.specs.Acts.{Target, On, At, drop_tries}
 use Rattle.mach_ir.specs.Walks.{OneOf, this, other}
 use Rattle.mach_laws.proofs.Walking.{none_in}
-use Rattle.lin_ir.specs.Formed.{label_of, labels_in, goes_to, pushes, is_exit, GoesDown, WellFormed}
+use Rattle.lin_ir.specs.Formed.{label_of, labels_in, goes_to, pushes, is_exit, is_label, GoesDown, WellFormed}
 use Rattle.lin_ir.specs.Meaning.{has_label, after_label, code_at, passes_frame}
 use Rattle.lin_ir.specs.Walks as walks
 use Rattle.lin_ir.specs.Walks.{targets, may_raise, tries_after, Writes, Reached, at_entry, by_step, by_raise, Live, read, on, aside, LiveAcross, across_step, across_raise}
@@ -102,25 +102,34 @@ code_of (copy_place is) = is
 code_of (jump_place is) = is
 
 abbrev pub rank_of : (ℕ → ℕ) → Where → ℕ
-rank_of order (own_place is) = 3 * order (length is) + 2
-rank_of order (label_place is) = 3 * order (length is) + 3
-rank_of order (copy_place is) = 3 * order (length is) + 2
-rank_of order (jump_place is) = 3 * order (length is) + 1
+rank_of order (own_place is) = 2 * order (length is) + 1
+rank_of order (label_place is) = 2 * order (length is) + 1
+rank_of order (copy_place is) = 2 * order (length is) + 1
+rank_of order (jump_place is) = 2 * order (length is)
 
-lower_own : (x y : ℕ) → x < y → 3 * x + 2 < 3 * y + 2
+lower_own : (x y : ℕ) → x < y → 2 * x + 1 < 2 * y + 1
 lower_own x y lt = omega (arith, lt)
 
-lower_label : (x y : ℕ) → x < y → 3 * x + 3 < 3 * y + 2
-lower_label x y lt = omega (arith, lt)
-
-lower_jump : (y : ℕ) → 3 * y + 1 < 3 * y + 2
+lower_jump : (y : ℕ) → 2 * y < 2 * y + 1
 lower_jump y = omega arith
 
-past_lower : (x y : ℕ) → x < y → 3 * x + 2 < 3 * y + 1
+past_lower : (x y : ℕ) → x < y → 2 * x + 1 < 2 * y
 past_lower x y lt = omega (arith, lt)
 
-label_lower : (x : ℕ) → 3 * x + 2 < 3 * x + 3
-label_lower x = omega arith
+level_own : (x y : ℕ) → x ≤ y → 2 * x + 1 ≤ 2 * y + 1
+level_own x y le = omega (arith, le)
+
+-- a label leads on
+label_leads : (l : ℕ) (f : LinOp) {A : Type 0} → is_label f ≡ true → OneOf (At l) (targets f) → A
+label_leads l (lin.Op f) e o = absurd (true≢false (sym e))
+label_leads l (lin.Flow (flow.Label k)) e (other o) = elim o [ ]
+label_leads l (lin.Flow (flow.Jump k)) e o = absurd (true≢false (sym e))
+label_leads l (lin.Flow (flow.Exit k)) e o = absurd (true≢false (sym e))
+label_leads l (lin.Flow (flow.Branch t k)) e o = absurd (true≢false (sym e))
+label_leads l (lin.Flow (flow.Switch ls)) e o = absurd (true≢false (sym e))
+label_leads l (lin.Flow (flow.PushTrap k)) e o = absurd (true≢false (sym e))
+label_leads l (lin.Flow flow.PopTrap) e o = absurd (true≢false (sym e))
+label_leads l (lin.Flow flow.EnterTrap) e o = absurd (true≢false (sym e))
 
 module _ (m r : Lin) (h : Turns m r) (well : WellFormed m) where
   abbrev pub T : List Line → List Line
@@ -336,11 +345,12 @@ module _ (m r : Lin) (h : Turns m r) (well : WellFormed m) where
   -- where a step leads, and that it leads down
   pub record Goes (i : Line) (is js : List Line) (left : List ℕ) (top : Where) : Type 0 where
     pub stand : Stand is js left
-    pub lower : (d : GoesDown m) → is_exit i.op ≡ false → rank_of d.order (where_of stand) < rank_of d.order top
+    pub lower : (d : GoesDown m) → is_exit i.op ≡ false → is_label i.op ≡ false → rank_of d.order (where_of stand) < rank_of d.order top
+    pub level : (d : GoesDown m) → is_label i.op ≡ true → rank_of d.order (where_of stand) ≤ rank_of d.order top
 
   -- the line of the second function does what that of the first does
   pub data Own : List Line → Line → List Line → List ℕ → Where → Type 0 where
-    same : {i : Line} {next ks : List Line} {tries : List ℕ} {top : Where} → ((order : ℕ → ℕ) → rank_of order top ≡ 3 * order (suc (length next)) + 2) →
+    same : {i : Line} {next ks : List Line} {tries : List ℕ} {top : Where} → ((order : ℕ → ℕ) → rank_of order top ≡ 2 * order (suc (length next)) + 1) →
         ((t : Target) → OneOf t (targets i.op) → Goes i (code_at m.code next t) (code_at R.code ks t) (tries_after i.op tries) top) →
         Own (i ∷ next) i ks tries top
     other_way : {d : Head} {rest ks : List Line} {tries : List ℕ} {top : Where} → Goes (head_line d) (after_label d.to m.code) ks tries top →
@@ -353,7 +363,7 @@ module _ (m r : Lin) (h : Turns m r) (well : WellFormed m) where
   pub data View : List Line → Line → List Line → List ℕ → Where → Type 0 where
     own : {is ks : List Line} {j : Line} {tries : List ℕ} {top : Where} → Own is j ks tries top → View is j ks tries top
     past_label : {is ks : List Line} {l : ℕ} {tries : List ℕ} {top : Where} → T is ≡ ks →
-        ((d : GoesDown m) → rank_of d.order (own_place is) < rank_of d.order top) → View is (bare (flow.Label l)) ks tries top
+        ((d : GoesDown m) → rank_of d.order (own_place is) ≤ rank_of d.order top) → View is (bare (flow.Label l)) ks tries top
     past_jump : {is ks : List Line} {l : ℕ} {tries : List ℕ} {top : Where} → T is ≡ after_label l R.code →
         ((d : GoesDown m) → rank_of d.order (own_place is) < rank_of d.order top) → View is (bare (flow.Jump l)) ks tries top
 
@@ -367,20 +377,21 @@ module _ (m r : Lin) (h : Turns m r) (well : WellFormed m) where
 
   -- a step of the first goes down
   step_down : {i : Line} {next : List Line} {tries : List ℕ} → Reached m (i ∷ next) tries → (t : Target) → OneOf t (targets i.op) → (d : GoesDown m) →
-      is_exit i.op ≡ false → d.order (length (code_at m.code next t)) < d.order (suc (length next))
-  step_down {i} {next} {tries} r t o d e = d.steps i next (code_at m.code next t) tries (tries_after i.op tries) r e (walks.goes t o)
+      is_exit i.op ≡ false → is_label i.op ≡ false → d.order (length (code_at m.code next t)) < d.order (suc (length next))
+  step_down {i} {next} {tries} r t o d e u = d.steps i next (code_at m.code next t) tries (tries_after i.op tries) r e u (walks.goes t o)
 
   -- to a label that the second has too
   goes_label : {i : Line} {next : List Line} {tries : List ℕ} → Reached m (i ∷ next) tries → (l : ℕ) → OneOf (At l) (targets i.op) → {top : Where} →
-      ((order : ℕ → ℕ) → rank_of order top ≡ 3 * order (suc (length next)) + 2) →
+      ((order : ℕ → ℕ) → rank_of order top ≡ 2 * order (suc (length next)) + 1) →
       Goes i (after_label l m.code) (after_label l R.code) (tries_after i.op tries) top
   goes_label {i} {next} r l o top =
       record {
         stand = image (sym (label_turned l (named_in (reached_tail m r) o)));
-        lower = λ d e.
-            let lt = lower_own (d.order (length (after_label l m.code))) (d.order (suc (length next))) (step_down r (At l) o d e) in
-            let u = top d.order in
-            omega (arith, lt, u);
+        lower = λ d e u.
+            let lt = lower_own (d.order (length (after_label l m.code))) (d.order (suc (length next))) (step_down r (At l) o d e u) in
+            let same = top d.order in
+            omega (arith, lt, same);
+        level = λ d e. label_leads l i.op e o;
       }
 
   own_line : {i j : Line} {next ks : List Line} {tries : List ℕ} → Reached m (i ∷ next) tries → (x : Option Turn) → h.turns (length next) ≡ x → (o : Option ℕ) →
@@ -390,11 +401,16 @@ module _ (m r : Lin) (h : Turns m r) (well : WellFormed m) where
       on_next : (o : Option ℕ) → h.opens (length next) ≡ o → OneOf On (targets i.op) →
           Goes i next (label_put o ++ T next) (tries_after i.op tries) (own_place (i ∷ next))
       on_next None v a =
-          record { stand = image refl; lower = λ d e. lower_own (d.order (length next)) (d.order (suc (length next))) (step_down r On a d e) }
+          record {
+            stand = image refl;
+            lower = λ d e u. lower_own (d.order (length next)) (d.order (suc (length next))) (step_down r On a d e u);
+            level = λ d e. level_own (d.order (length next)) (d.order (suc (length next))) (d.labels i next tries r e);
+          }
       on_next (Some l) v a =
           record {
             stand = opened (reached_tail m r) v refl;
-            lower = λ d e. lower_label (d.order (length next)) (d.order (suc (length next))) (step_down r On a d e);
+            lower = λ d e u. lower_own (d.order (length next)) (d.order (suc (length next))) (step_down r On a d e u);
+            level = λ d e. level_own (d.order (length next)) (d.order (suc (length next))) (d.labels i next tries r e);
           }
 
       by : (o : Option ℕ) → h.opens (length next) ≡ o → (t : Target) → OneOf t (targets i.op) →
@@ -443,7 +459,7 @@ module _ (m r : Lin) (h : Turns m r) (well : WellFormed m) where
     where
       to_jump : {l : ℕ} (to : Target) → OneOf to (targets (head_line t.head).op) → after_label l R.code ≡ T (code_at m.code (rest_of c) to) →
           Goes (head_line t.head) (code_at m.code (rest_of c) to) (bare (flow.Jump l) ∷ T next) tries (copy_place (head_code c))
-      to_jump to o e = record { stand = jumps c to o e r refl; lower = λ d e. lower_jump (d.order (suc (length (rest_of c)))) }
+      to_jump to o e = record { stand = jumps c to o e r refl; lower = λ d e u. lower_jump (d.order (suc (length (rest_of c)))); level = λ d e. absurd (true≢false (sym e)) }
 
       kept : (to : Target) → OneOf to (targets (head_line t.head).op) →
           Goes (head_line t.head) (code_at m.code (rest_of c) to) (code_at R.code (bare (flow.Jump t.head.on) ∷ T next) to) tries (copy_place (head_code c))
@@ -454,7 +470,8 @@ module _ (m r : Lin) (h : Turns m r) (well : WellFormed m) where
       turned_over =
           record {
             stand = image (sym (at_on c));
-            lower = λ d e. lower_own (d.order (length (rest_of c))) (d.order (suc (length (rest_of c)))) (step_down r On this d e);
+            lower = λ d e u. lower_own (d.order (length (rest_of c))) (d.order (suc (length (rest_of c)))) (step_down r On this d e u);
+            level = λ d e. absurd (true≢false (sym e));
           }
 
       by : (b : Bool) → tested_again b t.head ++ T next ≡ j ∷ ks → Own (head_code c) j ks tries (copy_place (head_code c))
@@ -463,12 +480,12 @@ module _ (m r : Lin) (h : Turns m r) (well : WellFormed m) where
 
   pub view : {is js ks : List Line} {j : Line} {tries : List ℕ} (s : Stand is js tries) → Reached m is tries → js ≡ j ∷ ks → View is j ks tries (where_of s)
   view (image {is = is} e) r u = own (own_image is r (e ∙ u))
-  view (opened {is = is} w o e) r u = view_onto (e ∙ u) (past_label refl (λ d. label_lower (d.order (length is))))
+  view (opened {is = is} w o e) r u = view_onto (e ∙ u) (past_label refl (λ d. omega arith))
   view (copied c e) r u = own (own_copy c r (e ∙ u))
   view (jumps c to o at r e) r' u =
       view_onto (e ∙ u)
       (past_jump (sym at)
-      (λ d. past_lower (d.order (length (code_at m.code (rest_of c) to))) (d.order (suc (length (rest_of c)))) (step_down r to o d refl)))
+      (λ d. past_lower (d.order (length (code_at m.code (rest_of c) to))) (d.order (suc (length (rest_of c)))) (step_down r to o d refl refl)))
 
   -- ---- walks
 

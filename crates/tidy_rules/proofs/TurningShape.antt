@@ -14,7 +14,7 @@ use Rattle.mach_ir.specs.Walks.{OneOf, this, other}
 use Rattle.mach_ir.specs.declared.mach.Test.{Test}
 use Rattle.mach_ir.specs.declared.op.Op.TheVariants as op
 use Rattle.mach_ir.specs.declared.op.Leaving.TheVariants as leaving
-use Rattle.lin_ir.specs.Formed.{comps, FlowHasForm, label_form, jump_form, exit_form, branch_form, switch_form, push_form, pop_form, enter_form, IsFormed, formed_op, formed_flow, IsHome, is_colour, is_slot, is_home, IsLocation, Locates, IsSelfMove, is_self_move, labels_in, NamesLabel, goes_to, pushes, EntersAt, enters_here, enters_below, places_of, lin_operand_seats, lin_result_seats, is_exit, GoesDown, WellFormed}
+use Rattle.lin_ir.specs.Formed.{comps, FlowHasForm, label_form, jump_form, exit_form, branch_form, switch_form, push_form, pop_form, enter_form, IsFormed, formed_op, formed_flow, IsHome, is_colour, is_slot, is_home, IsLocation, Locates, IsSelfMove, is_self_move, labels_in, NamesLabel, goes_to, pushes, EntersAt, enters_here, enters_below, places_of, lin_operand_seats, lin_result_seats, is_exit, is_label, GoesDown, WellFormed}
 use Rattle.lin_ir.specs.Walks as walks
 use Rattle.lin_ir.specs.Meaning.{after_label, code_at}
 use Rattle.lin_ir.specs.Walks.{targets, may_raise, Reached, by_step, by_raise, TrapsBalance}
@@ -85,6 +85,17 @@ may_be_new _ = false
 abbrev exit_label : LinOp → ℕ
 exit_label (lin.Flow (flow.Exit l)) = l
 exit_label _ = 0
+
+label_on : (f : LinOp) → is_label f ≡ true → OneOf On (targets f)
+label_on (lin.Op f) e = absurd (true≢false (sym e))
+label_on (lin.Flow (flow.Label k)) e = this
+label_on (lin.Flow (flow.Jump k)) e = absurd (true≢false (sym e))
+label_on (lin.Flow (flow.Exit k)) e = absurd (true≢false (sym e))
+label_on (lin.Flow (flow.Branch t k)) e = this
+label_on (lin.Flow (flow.Switch ls)) e = absurd (true≢false (sym e))
+label_on (lin.Flow (flow.PushTrap k)) e = this
+label_on (lin.Flow flow.PopTrap) e = this
+label_on (lin.Flow flow.EnterTrap) e = this
 
 is_less : (a b : ℕ) → a < b → nat_lt a b ≡ true
 is_less a b lt = ⊎_elim (λ y. y.0) (λ y. let le = y.1 in absurd (omega (arith, lt, le))) (leb_tells (suc a) b)
@@ -381,7 +392,8 @@ module _ (m r : Lin) (h : Turns m r) (regular : IsRegular m) where
   down_turned =
       record {
         order = order;
-        steps = λ j ks to tries left s e l. step_lower s e l;
+        labels = λ j ks tries s e. label_level s e;
+        steps = λ j ks to tries left s e u l. step_lower s e u l;
         raises = λ j ks to tries left s l. raise_lower s l;
       }
     where
@@ -399,25 +411,45 @@ module _ (m r : Lin) (h : Turns m r) (regular : IsRegular m) where
           rank_of d.order (where_of m r h regular.well s) < k → order (length js) < k
       to_lower s reached lt = let e = rank_at s reached in omega (arith, e, lt)
 
-      lower : {is ks : List Line} {j : Line} {tries : List ℕ} {top : Where} → View m r h regular.well is j ks tries top → Reached m is tries → is_exit j.op ≡ false →
-          (t : Target) → OneOf t (targets j.op) → order (length (code_at Q.code ks t)) < rank_of d.order top
-      lower (own (same rank moves)) reached e t o =
-          to_lower (moves t o).stand (by_step reached (walks.goes t o)) ((moves t o).lower d e)
-      lower (own (other_way {d = x} over fall)) reached e On o =
-          to_lower over.stand (by_step reached (walks.goes (At x.to) (other this))) (over.lower d refl)
-      lower (own (other_way over fall)) reached e (At l) (other this) = to_lower fall.stand (by_step reached (walks.goes On this)) (fall.lower d refl)
-      lower (own (other_way over fall)) reached e (At l) (other (other o)) = elim o [ ]
-      lower (own (exits stand)) reached e t o = absurd (true≢false e)
-      lower (past_label u low) reached e t this = to_lower (image u) reached (low d)
-      lower (past_label u low) reached e t (other o) = elim o [ ]
-      lower (past_jump u low) reached e t this = to_lower (image u) reached (low d)
-      lower (past_jump u low) reached e t (other o) = elim o [ ]
+      to_level : {is js : List Line} {left : List ℕ} {k : ℕ} (s : Stand m r h regular.well is js left) → Reached m is left →
+          rank_of d.order (where_of m r h regular.well s) ≤ k → order (length js) ≤ k
+      to_level s reached le = let e = rank_at s reached in omega (arith, e, le)
 
-      step_lower : {j : Line} {ks to : List Line} {tries left : List ℕ} → Reached Q (j ∷ ks) tries → is_exit j.op ≡ false → walks.Leads Q j ks tries to left →
-          order (length to) < order (suc (length ks))
-      step_lower s e (walks.goes t o) =
+      level : {is ks : List Line} {j : Line} {tries : List ℕ} {top : Where} → View m r h regular.well is j ks tries top → Reached m is tries → is_label j.op ≡ true →
+          order (length ks) ≤ rank_of d.order top
+      level (own (same {i = i} rank moves)) reached e =
+          let o = label_on i.op e in
+          to_level (moves On o).stand (by_step reached (walks.goes On o)) ((moves On o).level d e)
+      level (own (other_way over fall)) reached e = absurd (true≢false (sym e))
+      level (own (exits stand)) reached e = absurd (true≢false (sym e))
+      level (past_label u low) reached e = to_level (image u) reached (low d)
+      level (past_jump u low) reached e = absurd (true≢false (sym e))
+
+      label_level : {j : Line} {ks : List Line} {tries : List ℕ} → Reached Q (j ∷ ks) tries → is_label j.op ≡ true → order (length ks) ≤ order (suc (length ks))
+      label_level s e =
           let y = source m r h regular.well s in
-          let lt = lower (view m r h regular.well y.stand y.reached refl) y.reached e t o in
+          let le = level (view m r h regular.well y.stand y.reached refl) y.reached e in
+          let same = rank_at y.stand y.reached in
+          omega (arith, le, same)
+
+      lower : {is ks : List Line} {j : Line} {tries : List ℕ} {top : Where} → View m r h regular.well is j ks tries top → Reached m is tries → is_exit j.op ≡ false → is_label j.op ≡ false →
+          (t : Target) → OneOf t (targets j.op) → order (length (code_at Q.code ks t)) < rank_of d.order top
+      lower (own (same rank moves)) reached e u t o =
+          to_lower (moves t o).stand (by_step reached (walks.goes t o)) ((moves t o).lower d e u)
+      lower (own (other_way {d = x} over fall)) reached e u On o =
+          to_lower over.stand (by_step reached (walks.goes (At x.to) (other this))) (over.lower d refl refl)
+      lower (own (other_way over fall)) reached e u (At l) (other this) = to_lower fall.stand (by_step reached (walks.goes On this)) (fall.lower d refl refl)
+      lower (own (other_way over fall)) reached e u (At l) (other (other o)) = elim o [ ]
+      lower (own (exits stand)) reached e u t o = absurd (true≢false e)
+      lower (past_label same low) reached e u t o = absurd (true≢false u)
+      lower (past_jump same low) reached e u t this = to_lower (image same) reached (low d)
+      lower (past_jump same low) reached e u t (other o) = elim o [ ]
+
+      step_lower : {j : Line} {ks to : List Line} {tries left : List ℕ} → Reached Q (j ∷ ks) tries → is_exit j.op ≡ false → is_label j.op ≡ false → walks.Leads Q j ks tries to left →
+          order (length to) < order (suc (length ks))
+      step_lower s e u (walks.goes t o) =
+          let y = source m r h regular.well s in
+          let lt = lower (view m r h regular.well y.stand y.reached refl) y.reached e u t o in
           let same = rank_at y.stand y.reached in
           omega (arith, lt, same)
 
