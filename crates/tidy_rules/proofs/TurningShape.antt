@@ -441,9 +441,9 @@ module _ (m r : Lin) (h : Turns m r) (regular : IsRegular m) where
       lower (own (other_way over fall)) reached e u (At l) (other this) = to_lower fall.stand (by_step reached (walks.goes On this)) (fall.lower d refl refl)
       lower (own (other_way over fall)) reached e u (At l) (other (other o)) = elim o [ ]
       lower (own (exits stand)) reached e u t o = absurd (true≢false e)
-      lower (past_label same low) reached e u t o = absurd (true≢false u)
-      lower (past_jump same low) reached e u t this = to_lower (image same) reached (low d)
-      lower (past_jump same low) reached e u t (other o) = elim o [ ]
+      lower (past_label a low) reached e u t o = absurd (true≢false u)
+      lower (past_jump a low) reached e u t this = to_lower (image a) reached (low d)
+      lower (past_jump a low) reached e u t (other o) = elim o [ ]
 
       step_lower : {j : Line} {ks to : List Line} {tries left : List ℕ} → Reached Q (j ∷ ks) tries → is_exit j.op ≡ false → is_label j.op ≡ false → walks.Leads Q j ks tries to left →
           order (length to) < order (suc (length ks))
