@@ -18,3 +18,4 @@ pub mod Turning
 pub mod TurningLines
 pub mod TurningDoes
 pub mod TurningShape
+pub mod TurningAll

@@ -131,6 +131,19 @@ label_leads l (lin.Flow (flow.PushTrap k)) e o = absurd (true≢false (sym e))
 label_leads l (lin.Flow flow.PopTrap) e o = absurd (true≢false (sym e))
 label_leads l (lin.Flow flow.EnterTrap) e o = absurd (true≢false (sym e))
 
+-- the labels of what became of a line
+pub labels_of_line : (x : Option Turn) (o : Option ℕ) (i : Line) (rest : List Line) → ((t : Turn) → x ≡ Some t → label_of i.op ≡ []) →
+    labels_in (turned_line x o i ++ rest) ≡ label_of i.op ++ (new_labels x o ++ labels_in rest)
+labels_of_line None None i rest none = refl
+labels_of_line None (Some l) i rest none = refl
+labels_of_line (Some t) o i rest none =
+    ap (λ ls. t.here ∷ ls) (again t.keeps)
+    ∙ ap (λ ls. ls ++ (t.here ∷ labels_in rest)) (sym (none t refl))
+  where
+    again : (b : Bool) → labels_in (tested_again b t.head ++ rest) ≡ labels_in rest
+    again true = refl
+    again false = refl
+
 module _ (m r : Lin) (h : Turns m r) (well : WellFormed m) where
   abbrev pub T : List Line → List Line
   T = turned_lines h.turns h.opens
@@ -195,19 +208,7 @@ module _ (m r : Lin) (h : Turns m r) (well : WellFormed m) where
   new_after next = new_labels (h.turns (length next)) (h.opens (length next))
 
   pub labels_line : {i : Line} {next : List Line} → Tail (i ∷ next) m.code → labels_in (T (i ∷ next)) ≡ label_of i.op ++ (new_after next ++ labels_in (T next))
-  labels_line {i} {next} w = by (h.turns (length next)) refl (h.opens (length next))
-    where
-      again : (b : Bool) (t : Turn) (xs : List Line) → labels_in (tested_again b t.head ++ xs) ≡ labels_in xs
-      again true t xs = refl
-      again false t xs = refl
-
-      by : (x : Option Turn) → h.turns (length next) ≡ x → (o : Option ℕ) →
-          labels_in (turned_line x o i ++ T next) ≡ label_of i.op ++ (new_labels x o ++ labels_in (T next))
-      by None u None = refl
-      by None u (Some l) = refl
-      by (Some t) u o =
-          ap (λ ls. t.here ∷ ls) (again t.keeps t (T next))
-          ∙ ap (λ ls. ls ++ (t.here ∷ labels_in (T next))) (sym (exit_labels w u))
+  labels_line {i} {next} w = labels_of_line (h.turns (length next)) (h.opens (length next)) i (T next) (λ t u. exit_labels w u)
 
   pub label_kept : {l : ℕ} (is : List Line) → Tail is m.code → IsIn l (labels_in is) → IsIn l (labels_in (T is))
   label_kept [] w z = z
