@@ -1,13 +1,16 @@
 pub mod Turns
 pub mod Simulate
 pub mod Leaving
+pub mod LeavingDown
 pub mod LeavingDoes
 pub mod Redirecting
+pub mod RedirectingDown
 pub mod Exact
 pub mod Keeping
 pub mod Shape
 pub mod Tidied
 pub mod Whole
+pub mod Descending
 pub mod Lowered
 pub mod Vals
 pub mod Following

@@ -29,6 +29,7 @@ use Rattle.tidy_rules.specs.Leaving.{bare, LabelsBetween, none_between, label_be
 use Rattle.tidy_rules.specs.Redirecting.{goes_by, redirected, redirect, GoesOnTo, itself, and_on, ExitsTo, by_exit, Redirects, Tidies, as_it_is, then_leaves, then_redirects}
 use Rattle.tidy_rules.specs.Regular.{AtHomes, IsRegular}
 use Rattle.tidy_rules.proofs.Redirecting.{jump_same, exit_was, same_raise, same_labels, same_leaves, same_operands, same_results, T, turned, split, source, source_line, line_was, op_was}
+use Rattle.tidy_rules.proofs.RedirectingDown.{down_turned}
 use Rattle.tidy_rules.proofs.Shape.{compare, spare_free, balance_of, SameShape, leaving_regular, leaving_shape}
 
 -- ---- ends of a list
@@ -219,16 +220,6 @@ module _ (m : Lin) (to : ℕ → ℕ) (exits : ℕ → Option ℕ) (each : (l : 
       stands_on h
       (regular.well.named (bare (flow.Exit out)) (contains_of (tail_in (tail_then (between_tail p) (tail_label last m.code)))) out (goes_to this))
 
-  later_on : {k n : ℕ} {ys : List Line} → Tail ys m.code → GoesOnTo m k n → IsIn k (labels_in ys) → IsIn n (labels_in ys)
-  later_on w itself z = z
-  later_on {ys = ys} w (and_on {k = k} {n = n} {next = next} g p) z =
-      let y = later_on w g z in
-      let same : after_label k m.code ≡ after_label k ys = later_after k w regular.well.labels y in
-      let t : Tail (bare (flow.Jump n) ∷ next) (after_label k m.code) = between_tail p in
-      let u : Tail (bare (flow.Jump n) ∷ next) ys = tail_then (subst (Tail (bare (flow.Jump n) ∷ next)) same t) (tail_label k ys) in
-      later_label (tail_next u) (in_of n (labels_in next)
-      (regular.forward.labels (bare (flow.Jump n)) next (tail_stands (tail_then u w)) refl n (goes_to this)))
-
   -- ---- walks
 
   traps_turned : OneTraps R
@@ -306,58 +297,6 @@ module _ (m : Lin) (to : ℕ → ℕ) (exits : ℕ → Option ℕ) (each : (l : 
         traps = balance_turned;
       }
 
-  -- ---- where lines stand
-
-  record Stood (j : Line) (js is : List Line) : Type 0 where
-    line : Line
-    next : List Line
-    is_line : redirect to exits line ≡ j
-    is_next : L next ≡ js
-    stands : Tail (line ∷ next) is
-
-  stood : {j : Line} {js : List Line} (is xs : List Line) → L is ≡ xs → Tail (j ∷ js) xs → Stood j js is
-  stood {j} {js} is xs e tail_all =
-      let s = split m to exits each out is j js e in
-      record { line = s.line; next = s.next; is_line = s.is_line; is_next = s.is_next; stands = subst (Tail (s.line ∷ s.next)) (sym s.is_code) tail_all }
-  stood {j} {js} is xs e (tail_more {j = k} {zs = zs} t) =
-      let s = split m to exits each out is k zs e in
-      let y = stood s.next zs s.is_next t in
-      record {
-        line = y.line;
-        next = y.next;
-        is_line = y.is_line;
-        is_next = y.is_next;
-        stands = subst (Tail (y.line ∷ y.next)) (sym s.is_code)
-            (tail_more y.stands);
-      }
-
-  forward_label : (i : Line) (next : List Line) → Tail (i ∷ next) m.code → is_exit (redirected to exits i.op) ≡ false → (l : ℕ) →
-      NamesLabel l (redirected to exits i.op) → Contains (labels_in next) l
-  forward_label i next w e l n = by (names_was to exits l i.op n)
-    where
-      labels : (k : ℕ) → NamesLabel k i.op → Contains (labels_in next) k
-      labels k n = regular.forward.labels i next (tail_stands w) (exit_was to exits i.op e) k n
-
-      by : NamedBy to exits l i.op → Contains (labels_in next) l
-      by (as_before n) = labels l n
-      by (goes_on_to {k = k} n u) =
-          subst (Contains (labels_in next)) (sym u) (contains_of (later_on (tail_next w) (each k) (in_of k (labels_in next) (labels k n))))
-      by (exits_to n u x) = absurd (true≢false (sym x ∙ e))
-
-  forward_turned : GoesForward R
-  forward_turned =
-      record {
-        labels = λ j js s e l n.
-            let y = stood m.code R.code refl (stands_tail s) in
-            subst (λ ls. Contains ls l) (sym (labels_turned y.next) ∙ ap labels_in y.is_next)
-            (forward_label y.line y.next y.stands (ap (λ (j : Line). is_exit j.op) y.is_line ∙ e) l
-            (subst (λ (j : Line). NamesLabel l j.op) (sym y.is_line) n));
-        handlers = λ j js l tries r raise.
-            let x = source_line m to exits each out r in
-            subst (λ ls. Contains ls l) (sym (labels_turned x.next) ∙ ap labels_in x.is_next)
-            (regular.forward.handlers x.line x.next l tries x.reached (sym (same_raise to exits x.line.op) ∙ ap (λ (j : Line). may_raise j.op) x.is_line ∙ raise));
-      }
-
   -- a move is not redirected
   move_was : (i : Line) (j : Line) {from to' : Spot} → redirect to exits i ≡ j → IsSelfMove j from to' → IsSelfMove i from to'
   move_was i j e (is_self_move {from = a} {to = b} same) =
@@ -371,7 +310,7 @@ module _ (m : Lin) (to : ℕ → ℕ) (exits : ℕ → Option ℕ) (each : (l : 
         well = well_turned;
         homes = homes_turned;
         traps = traps_turned;
-        forward = forward_turned;
+        down = down_turned m to exits each out regular.down;
         seated = record {
           params = regular.seated.params;
           operands = λ j c. from_line (λ j. AreSeated (lin_operand_seats j.op) (places_of j.args))
