@@ -11,7 +11,7 @@ use Rattle.lin_ir.specs.declared.lin.Line.{Line}
 use Rattle.lin_ir.specs.declared.lin.Lin.{Lin}
 use Rattle.linear_rules.proofs.Homes.{IsIn, in_of}
 use Rattle.linear_rules.proofs.Walked.{Tail, tail_next, tail_stands, tail_label, reached_tail}
-use Rattle.tidy_rules.proofs.Tidied.{tail_length, later_after}
+use Rattle.tidy_rules.proofs.Ends.{tail_length, later_after}
 
 module _ (m : Lin) (once : AllPairs (λ k l. k ≢ l) (labels_in m.code)) (forward : GoesForward m) where
   -- a label that stands later

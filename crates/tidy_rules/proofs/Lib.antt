@@ -22,3 +22,4 @@ pub mod TurningLines
 pub mod TurningDoes
 pub mod TurningShape
 pub mod TurningAll
+pub mod Sizes

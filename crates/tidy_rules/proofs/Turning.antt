@@ -156,13 +156,13 @@ module _ (m r : Lin) (h : Turns m r) (well : WellFormed m) where
 
   -- ---- lines that stay
 
-  exit_turns : {i : Line} {next : List Line} {t : Turn} → Tail (i ∷ next) m.code → h.turns (length next) ≡ Some t → may_turn i.op ≡ true
+  pub exit_turns : {i : Line} {next : List Line} {t : Turn} → Tail (i ∷ next) m.code → h.turns (length next) ≡ Some t → may_turn i.op ≡ true
   exit_turns {i} {next} {t} w e = ap (λ (i : Line). may_turn i.op) (h.each i next t (tail_stands w) e).is
 
   exit_labels : {i : Line} {next : List Line} {t : Turn} → Tail (i ∷ next) m.code → h.turns (length next) ≡ Some t → label_of i.op ≡ []
   exit_labels {i} {next} {t} w e = ap (λ (i : Line). label_of i.op) (h.each i next t (tail_stands w) e).is
 
-  branch_opens : {i : Line} {next : List Line} {l : ℕ} → Tail (i ∷ next) m.code → h.opens (length next) ≡ Some l → may_turn i.op ≡ true
+  pub branch_opens : {i : Line} {next : List Line} {l : ℕ} → Tail (i ∷ next) m.code → h.opens (length next) ≡ Some l → may_turn i.op ≡ true
   branch_opens {i} {next} {l} w e = ap (λ (i : Line). may_turn i.op) (h.branches i next l (tail_stands w) e).1
 
   abbrev Line_in : List Line → Line → List Line
