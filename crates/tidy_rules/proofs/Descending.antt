@@ -1,9 +1,9 @@
 -- Where only exits lead back in the text, the number of lines that are left goes down.
-use Rattle.std.proofs.Common.{◌≡◌, ◌≢◌, ℕ, suc, ◌<◌, ◌≤◌, Bool, true, false, List, [], ◌∷◌, length, sym, ap, ◌∙◌, subst, arith}
+use Rattle.std.proofs.Common.{◌≡◌, ◌≢◌, ℕ, suc, ◌<◌, false, List, [], ◌∷◌, length, ap, arith}
 use Rattle.std.specs.List.{AllPairs}
 use Rattle.mach_ir.specs.Acts.{Target, On, At}
 use Rattle.mach_ir.specs.Walks.{OneOf}
-use Rattle.lin_ir.specs.Formed.{goes_to, labels_in, is_exit, is_label, GoesForward, GoesDown}
+use Rattle.lin_ir.specs.Formed.{goes_to, labels_in, is_exit, GoesForward, GoesDown}
 use Rattle.lin_ir.specs.Meaning.{after_label, code_at}
 use Rattle.lin_ir.specs.Walks as walks
 use Rattle.lin_ir.specs.Walks.{targets, Reached, Leads, Raises}

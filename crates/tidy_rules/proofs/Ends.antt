@@ -1,5 +1,5 @@
 -- Ends of a function's code, and the labels in them.
-use Rattle.std.proofs.Common.{◌≡◌, ◌≢◌, ℕ, suc, ◌≤◌, Bool, true, false, cond, nat_eq, ◌⊎◌, inl, inr, ⊎_elim, List, [], ◌∷◌, ◌++◌, length, refl, sym, ap, ◌∙◌, subst, arith}
+use Rattle.std.proofs.Common.{◌≡◌, ◌≢◌, ℕ, ◌≤◌, Bool, true, false, cond, nat_eq, ◌⊎◌, inl, inr, ⊎_elim, List, [], ◌∷◌, ◌++◌, length, refl, sym, ap, ◌∙◌, subst, arith}
 use Rattle.std.proofs.lemmas.Bool.{true≢false, eq-eqb, eqb-true}
 use Rattle.std.specs.List.{AllPairs}
 use Rattle.lin_ir.specs.Formed.{label_of, labels_in}
@@ -10,7 +10,7 @@ use Rattle.lin_ir.specs.declared.lin.LinOp.TheVariants as lin
 use Rattle.lin_ir.specs.declared.lin.Line.{Line}
 use Rattle.linear_rules.proofs.Homes.{IsIn, is_first, is_later}
 use Rattle.linear_rules.proofs.Marks.{all_in, pairs_here, pairs_later}
-use Rattle.linear_rules.proofs.Walked.{Tail, tail_all, tail_more, tail_next}
+use Rattle.linear_rules.proofs.Walked.{Tail, tail_all, tail_more}
 use Rattle.tidy_rules.specs.Leaving.{bare, LabelsBetween, none_between, label_between}
 use Rattle.tidy_rules.proofs.Shape.{compare}
 

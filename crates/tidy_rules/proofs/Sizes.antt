@@ -22,7 +22,7 @@ use Rattle.tidy_rules.specs.Leaving.{LeavesOften, not_once, once_more}
 use Rattle.tidy_rules.specs.Redirecting.{goes_by, redirected, redirect, Redirects, redirected_all}
 use Rattle.tidy_rules.specs.Regular.{IsRegular}
 use Rattle.tidy_rules.specs.Tidied.{IsTidied}
-use Rattle.tidy_rules.specs.Turning.{Turn, tested_again, turned_line, Turns, turned_all}
+use Rattle.tidy_rules.specs.Turning.{Turn, tested_again, turned_line, Turns}
 use Rattle.tidy_rules.proofs.Following.{redirects_all}
 use Rattle.tidy_rules.proofs.Shape.{SameShape, leaving_shape}
 use Rattle.tidy_rules.proofs.Tidied.{redirecting_regular, redirecting_shape}

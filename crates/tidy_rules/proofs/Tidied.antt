@@ -1,6 +1,6 @@
 -- What is kept of a function's shape where jumps are redirected, and in all.
-use Rattle.std.proofs.Common.{◌≡◌, ◌≢◌, ℕ, suc, ◌≤◌, Bool, true, false, cond, ⊎_elim, List, [], ◌∷◌, ◌++◌, length, All, Option, Some, None, refl, sym, ap, ◌∙◌, subst, arith}
-use Rattle.std.proofs.lemmas.Bool.{true≢false, eqb-true}
+use Rattle.std.proofs.Common.{◌≡◌, ◌≢◌, ℕ, suc, Bool, true, false, List, [], ◌∷◌, ◌++◌, length, All, Option, Some, None, refl, sym, ap, ◌∙◌, subst, arith}
+use Rattle.std.proofs.lemmas.Bool.{true≢false}
 use Rattle.std.specs.List.{Contains, AllPairs}
 use Rattle.bs_words.specs.declared.types.Comp.{Comp}
 use Rattle.mach_ir.specs.Acts.{At}
@@ -9,10 +9,9 @@ use Rattle.mach_ir.specs.Seats.{AreSeated}
 use Rattle.mach_ir.specs.Walks.{OneOf, this, other}
 use Rattle.mach_ir.specs.declared.op.Op.TheVariants as op
 use Rattle.mach_ir.specs.declared.op.Leaving.TheVariants as leaving
-use Rattle.lin_ir.specs.Formed.{comps, FlowHasForm, label_form, jump_form, exit_form, branch_form, switch_form, push_form, pop_form, enter_form, IsFormed, formed_op, formed_flow, IsHome, is_colour, is_slot, is_home, IsLocation, Locates, IsSelfMove, is_self_move, label_of, labels_in, NamesLabel, goes_to, pushes, EntersAt, enters_here, enters_below, is_exit, GoesForward, places_of, lin_operand_seats, lin_result_seats, WellFormed}
-use Rattle.lin_ir.specs.Meaning.{has_label, after_label}
+use Rattle.lin_ir.specs.Formed.{comps, FlowHasForm, label_form, jump_form, exit_form, branch_form, switch_form, push_form, pop_form, enter_form, IsFormed, formed_op, formed_flow, IsHome, is_colour, is_slot, is_home, IsLocation, Locates, IsSelfMove, is_self_move, label_of, labels_in, NamesLabel, goes_to, pushes, EntersAt, enters_here, enters_below, is_exit, places_of, lin_operand_seats, lin_result_seats, WellFormed}
 use Rattle.lin_ir.specs.Walks as walks
-use Rattle.lin_ir.specs.Walks.{targets, may_raise, Stands, Reached, TrapsBalance}
+use Rattle.lin_ir.specs.Walks.{Reached, TrapsBalance}
 use Rattle.lin_ir.specs.declared.lin.Flow.{Flow}
 use Rattle.lin_ir.specs.declared.lin.Flow.TheVariants as flow
 use Rattle.lin_ir.specs.declared.lin.LinOp.{LinOp}
@@ -21,14 +20,14 @@ use Rattle.lin_ir.specs.declared.lin.Line.{Line}
 use Rattle.lin_ir.specs.declared.lin.Lin.{Lin}
 use Rattle.lin_ir.specs.declared.lin.Spot.{Spot}
 use Rattle.linear_rules.specs.Keeps.{OneTraps}
-use Rattle.linear_rules.proofs.Homes.{IsIn, is_later, in_of, contains_of}
+use Rattle.linear_rules.proofs.Homes.{IsIn, in_of, contains_of}
 use Rattle.linear_rules.proofs.Lines.{all_of}
-use Rattle.linear_rules.proofs.Marks.{all_in, pairs_here, pairs_later}
-use Rattle.linear_rules.proofs.Walked.{Tail, tail_all, tail_more, tail_next, tail_label, tail_in, tail_stands, stands_tail, reached_tail}
-use Rattle.tidy_rules.specs.Leaving.{bare, LabelsBetween, none_between, label_between}
+use Rattle.linear_rules.proofs.Marks.{all_in}
+use Rattle.linear_rules.proofs.Walked.{tail_label, tail_in, reached_tail}
+use Rattle.tidy_rules.specs.Leaving.{bare}
 use Rattle.tidy_rules.specs.Redirecting.{goes_by, redirected, redirect, GoesOnTo, itself, and_on, ExitsTo, by_exit, Redirects, Tidies, as_it_is, then_leaves, then_redirects, then_turns}
 use Rattle.tidy_rules.specs.Regular.{AtHomes, IsRegular}
-use Rattle.tidy_rules.proofs.Redirecting.{jump_same, exit_was, same_raise, same_labels, same_leaves, same_operands, same_results, T, turned, split, source, source_line, line_was, op_was}
+use Rattle.tidy_rules.proofs.Redirecting.{jump_same, same_labels, same_leaves, same_operands, same_results, T, turned, source, source_line, line_was, op_was}
 use Rattle.tidy_rules.proofs.RedirectingDown.{down_turned}
 use Rattle.tidy_rules.proofs.Ends.{tail_then, same_tail, between_tail}
 use Rattle.tidy_rules.proofs.Shape.{spare_free, balance_of, SameShape, leaving_regular}

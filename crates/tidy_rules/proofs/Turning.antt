@@ -1,7 +1,7 @@
 -- Loops turned round: where the second function stands while the first stands at a place, where walks come, and what is live.
-use Rattle.std.proofs.Common.{◌≡◌, ◌≢◌, ℕ, zero, suc, ◌+◌, ◌*◌, ◌≤◌, ◌<◌, Bool, true, false, cond, nat_eq, nat_lt, ◌⊎◌, inl, inr, ⊎_elim, List, [], ◌∷◌, ◌++◌, length, Option, Some, None, refl, sym, ap, ◌∙◌, subst, arith}
-use Rattle.std.proofs.lemmas.Bool.{true≢false, eq-eqb, eqb-true}
-use Rattle.std.specs.List.{Contains, AllPairs}
+use Rattle.std.proofs.Common.{◌≡◌, ◌≢◌, ℕ, zero, suc, ◌+◌, ◌*◌, ◌≤◌, ◌<◌, Bool, true, false, cond, ◌⊎◌, inl, inr, ⊎_elim, List, [], ◌∷◌, ◌++◌, length, Option, Some, None, refl, sym, ap, ◌∙◌, subst, arith}
+use Rattle.std.proofs.lemmas.Bool.{true≢false}
+use Rattle.std.specs.List.{AllPairs}
 use Rattle.bs_words.specs.declared.types.Comp.{Comp}
 use Rattle.bs_words.specs.declared.types.Comp.TheVariants as comp
 use Rattle.bs_words.specs.declared.types.Loc.{Loc}
@@ -20,11 +20,11 @@ use Rattle.lin_ir.specs.declared.lin.Line.{Line}
 use Rattle.lin_ir.specs.declared.lin.Lin.{Lin}
 use Rattle.linear_rules.specs.Keeps.{NoAddrReached}
 use Rattle.linear_rules.specs.Lowered.{opposite_test}
-use Rattle.linear_rules.proofs.Homes.{IsIn, is_first, is_later, in_of, contains_of}
+use Rattle.linear_rules.proofs.Homes.{IsIn, in_of, contains_of}
 use Rattle.linear_rules.proofs.Walked.{Tail, tail_all, tail_more, tail_next, tail_label, tail_in, tail_stands, reached_tail}
 use Rattle.tidy_rules.specs.Leaving.{bare, with_code}
 use Rattle.tidy_rules.specs.Turning.{Head, Turn, branch_line, tested_again, label_put, turned_line, turned_lines, ExitsToBranch, Turns}
-use Rattle.tidy_rules.proofs.Ends.{Differ, later_label, later_after, pairs_past, at_label, has_own_label, tail_past, split_in, in_left, in_right}
+use Rattle.tidy_rules.proofs.Ends.{Differ, later_after, pairs_past, at_label, has_own_label, tail_past, split_in, in_left, in_right}
 use Rattle.tidy_rules.proofs.Leaving.{first_same, rest_same}
 
 -- ---- lines that may be turned, or have a label put after them

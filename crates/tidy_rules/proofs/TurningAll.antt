@@ -1,5 +1,5 @@
 -- All exits that lead to branches may be turned at once.
-use Rattle.std.proofs.Common.{◌≡◌, ◌≢◌, ℕ, zero, suc, ◌+◌, ◌*◌, ◌≤◌, ◌<◌, Bool, true, false, cond, ◌||◌, nat_eq, max, ◌⊎◌, inl, inr, ⊎_elim, List, [], ◌∷◌, ◌++◌, length, All, Option, Some, None, refl, sym, ap, ◌∙◌, subst, arith}
+use Rattle.std.proofs.Common.{◌≡◌, ◌≢◌, ℕ, suc, ◌+◌, ◌*◌, ◌≤◌, ◌<◌, Bool, true, false, cond, ◌||◌, nat_eq, max, ◌⊎◌, ⊎_elim, List, [], ◌∷◌, ◌++◌, length, All, Option, Some, None, refl, sym, ap, ◌∙◌, subst, arith}
 use Rattle.std.proofs.lemmas.Bool.{true≢false, eq-eqb, eqb-true}
 use Rattle.std.proofs.lemmas.List.Kept.{AllPairs-cons}
 use Rattle.std.proofs.Math.Nat.{le-max_left, le-max_right}
@@ -7,7 +7,6 @@ use Rattle.std.specs.List.{AllPairs}
 use Rattle.lin_ir.specs.Formed.{label_of, labels_in, WellFormed}
 use Rattle.lin_ir.specs.Meaning.{after_label}
 use Rattle.lin_ir.specs.Walks.{Stands, here, below}
-use Rattle.lin_ir.specs.declared.lin.Flow.{Flow}
 use Rattle.lin_ir.specs.declared.lin.Flow.TheVariants as flow
 use Rattle.lin_ir.specs.declared.lin.LinOp.{LinOp}
 use Rattle.lin_ir.specs.declared.lin.LinOp.TheVariants as lin
@@ -18,8 +17,8 @@ use Rattle.linear_rules.proofs.Homes.{IsIn, is_first, is_later}
 use Rattle.linear_rules.proofs.Lines.{all_of}
 use Rattle.linear_rules.proofs.Marks.{all_in, pairs_here}
 use Rattle.linear_rules.proofs.Walked.{Tail, tail_all, tail_next, tail_label, tail_stands, stands_tail}
-use Rattle.tidy_rules.specs.Leaving.{bare, with_code}
-use Rattle.tidy_rules.specs.Turning.{Head, Turn, branch_line, turned_line, turned_lines, ExitsToBranch, Turns, next_free, label_here, label_on, head_by, head_at, stands_first, exit_head, turn_for, line_turn, turn_at, is_on, is_led_to, opened_at, turned_all}
+use Rattle.tidy_rules.specs.Leaving.{bare}
+use Rattle.tidy_rules.specs.Turning.{Head, Turn, turned_lines, ExitsToBranch, Turns, next_free, label_here, label_on, head_by, head_at, stands_first, exit_head, turn_for, line_turn, turn_at, is_on, is_led_to, opened_at, turned_all}
 use Rattle.tidy_rules.proofs.Ends.{Differ, tail_length, same_tail, later_label, pairs_past, in_left, in_right, split_in}
 use Rattle.tidy_rules.proofs.Leaving.{first_same}
 use Rattle.tidy_rules.proofs.Turning.{head_line, new_labels, labels_of_line}

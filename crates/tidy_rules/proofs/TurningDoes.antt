@@ -1,14 +1,12 @@
 -- Loops turned round: the function does what it did.
-use Rattle.std.proofs.Common.{◌≡◌, ℕ, Bool, true, false, ◌⊎◌, inl, inr, ⊎_elim, List, [], ◌∷◌, ◌++◌, length, Option, Some, None, refl, sym, ap, ◌∙◌, subst}
+use Rattle.std.proofs.Common.{◌≡◌, ℕ, Bool, true, false, List, [], ◌∷◌, Option, Some, None, refl, sym, ap, ◌∙◌, subst}
 use Rattle.std.proofs.lemmas.Bool.{true≢false}
-use Rattle.std.specs.List.{Contains}
 use Rattle.bs_words.specs.Memory.{Memory, sizes}
 use Rattle.bs_words.specs.declared.types.Comp.TheVariants as comp
-use Rattle.bs_words.specs.declared.types.Loc.{Loc}
 use Rattle.bs_words.specs.declared.values.Value.{Value}
 use Rattle.cmm_meaning.specs.State.{Doing}
 use Rattle.mach_ir.specs.Acts.{Around, Target, On, At, opposite, truth_of, branches}
-use Rattle.mach_ir.specs.Runs.{Place, Step, Continues, Pays, IsStuck, first_tally, entered}
+use Rattle.mach_ir.specs.Runs.{Place, Step, Continues, first_tally, entered}
 use Rattle.mach_ir.specs.Walks.{OneOf, this, other}
 use Rattle.mach_ir.specs.declared.mach.MachOp.{MachOp}
 use Rattle.mach_ir.specs.declared.op.Op.{Op}
@@ -19,25 +17,24 @@ use Rattle.lin_ir.specs.Walks as walks
 use Rattle.lin_ir.specs.Walks.{targets, tries_after, Reached, at_entry, by_step, by_raise, LiveAcross}
 use Rattle.lin_ir.specs.declared.lin.Flow.{Flow}
 use Rattle.lin_ir.specs.declared.lin.Flow.TheVariants as flow
-use Rattle.lin_ir.specs.declared.lin.LinOp.{LinOp}
 use Rattle.lin_ir.specs.declared.lin.LinOp.TheVariants as lin
 use Rattle.lin_ir.specs.declared.lin.Line.{Line}
 use Rattle.lin_ir.specs.declared.lin.Lin.{Lin}
 use Rattle.linear_rules.specs.Kept as kept
 use Rattle.linear_rules.specs.Kept.{step, ValsHeld}
 use Rattle.linear_rules.specs.Lowered.{opposite_test}
-use Rattle.linear_rules.proofs.Homes.{IsIn, is_first, is_later, in_of, contains_of}
+use Rattle.linear_rules.proofs.Homes.{in_of, contains_of}
 use Rattle.linear_rules.proofs.Opposite.{truth_opposite}
-use Rattle.linear_rules.proofs.Walked.{Tail, tail_all, tail_next}
+use Rattle.linear_rules.proofs.Walked.{tail_all}
 use Rattle.tidy_rules.specs.Keeps.{Begins, KeepsLin}
 use Rattle.tidy_rules.specs.Leaving.{bare}
 use Rattle.tidy_rules.specs.Regular.{IsRegular}
 use Rattle.tidy_rules.specs.Turning as turning
-use Rattle.tidy_rules.specs.Turning.{Head, Turn, branch_line, tested_again}
+use Rattle.tidy_rules.specs.Turning.{branch_line}
 use Rattle.tidy_rules.proofs.Turns.{turns}
 use Rattle.tidy_rules.proofs.Simulate.{Arrives, both_continue, both_pay, first_stuck, goes_alone, Answers, stays, stuck, steps, Closed, Leads, acts, simulates, alike_goes}
 use Rattle.tidy_rules.proofs.Leaving.{first_same, rest_same}
-use Rattle.tidy_rules.proofs.Turning.{T, R, Where, own_place, Stand, image, opened, copied, jumps, Goes, Own, same, other_way, exits, View, own, past_label, past_jump, head_line, own_image, view, Moves, live_across, no_addr_turned, handler_turned, image_some, stands_none}
+use Rattle.tidy_rules.proofs.Turning.{T, R, Where, Stand, image, Own, same, other_way, exits, View, own, past_label, past_jump, head_line, own_image, view, Moves, live_across, no_addr_turned, handler_turned, image_some, stands_none}
 use Rattle.tidy_rules.proofs.TurningLines.{From, was_line, new_line, new_flow, from_line}
 
 none_first : (j : Line) (js : List Line) → [] ≡ j ∷ js → ⊥

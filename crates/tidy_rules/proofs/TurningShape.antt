@@ -1,19 +1,16 @@
 -- Loops turned round: what is kept of the function's shape.
-use Rattle.std.proofs.Common.{◌≡◌, ◌≢◌, ℕ, suc, ◌+◌, ◌*◌, ◌≤◌, ◌<◌, Bool, true, false, cond, nat_eq, nat_lt, ◌⊎◌, inl, inr, ⊎_elim, List, [], ◌∷◌, ◌++◌, length, All, Option, Some, None, refl, sym, ap, ◌∙◌, subst, arith}
+use Rattle.std.proofs.Common.{◌≡◌, ◌≢◌, ℕ, suc, ◌+◌, ◌≤◌, ◌<◌, Bool, true, false, cond, nat_eq, nat_lt, ◌⊎◌, ⊎_elim, List, [], ◌∷◌, ◌++◌, length, All, Option, Some, None, refl, sym, ap, ◌∙◌, subst, arith}
 use Rattle.std.proofs.lemmas.Bool.{true≢false, eq-eqb, eqb-true}
 use Rattle.std.proofs.lemmas.Bool.Decides.{leb_tells}
-use Rattle.std.specs.List.{Contains, AllPairs}
 use Rattle.bs_words.specs.declared.types.Comp.{Comp}
 use Rattle.bs_words.specs.declared.operators.CmpOp.{CmpOp}
 use Rattle.bs_words.specs.declared.operators.IntOp.TheVariants as operator
 use Rattle.mach_ir.specs.declared.op.Right.{Right}
 use Rattle.mach_ir.specs.Acts.{Target, On, At}
-use Rattle.mach_ir.specs.Forms.{results_of, IsRight, a_register, a_constant, IsTested, holds, fails, signed, unsigned}
+use Rattle.mach_ir.specs.Forms.{IsRight, a_register, a_constant, IsTested, holds, fails, signed, unsigned}
 use Rattle.mach_ir.specs.Seats.{AreSeated, anywhere}
 use Rattle.mach_ir.specs.Walks.{OneOf, this, other}
 use Rattle.mach_ir.specs.declared.mach.Test.{Test}
-use Rattle.mach_ir.specs.declared.op.Op.TheVariants as op
-use Rattle.mach_ir.specs.declared.op.Leaving.TheVariants as leaving
 use Rattle.lin_ir.specs.Formed.{comps, FlowHasForm, label_form, jump_form, exit_form, branch_form, switch_form, push_form, pop_form, enter_form, IsFormed, formed_op, formed_flow, IsHome, is_colour, is_slot, is_home, IsLocation, Locates, IsSelfMove, is_self_move, labels_in, NamesLabel, goes_to, pushes, EntersAt, enters_here, enters_below, places_of, lin_operand_seats, lin_result_seats, is_exit, is_label, GoesDown, WellFormed}
 use Rattle.lin_ir.specs.Walks as walks
 use Rattle.lin_ir.specs.Meaning.{after_label, code_at}
@@ -27,17 +24,16 @@ use Rattle.lin_ir.specs.declared.lin.Lin.{Lin}
 use Rattle.lin_ir.specs.declared.lin.Spot.{Spot}
 use Rattle.linear_rules.specs.Keeps.{OneTraps}
 use Rattle.linear_rules.specs.Lowered.{opposite_test}
-use Rattle.linear_rules.proofs.Homes.{IsIn, is_first, is_later, in_of, contains_of}
+use Rattle.linear_rules.proofs.Homes.{IsIn, in_of, contains_of}
 use Rattle.linear_rules.proofs.Lines.{all_of}
 use Rattle.linear_rules.proofs.Marks.{all_in}
-use Rattle.linear_rules.proofs.Walked.{Tail, tail_all, tail_more, tail_next, tail_in, tail_stands, reached_tail}
-use Rattle.tidy_rules.specs.Leaving.{bare}
+use Rattle.linear_rules.proofs.Walked.{Tail, tail_all, tail_more, tail_next, reached_tail}
 use Rattle.tidy_rules.specs.Regular.{AtHomes, IsRegular}
-use Rattle.tidy_rules.specs.Turning.{Head, Turn, branch_line, tested_again, label_put, turned_line, Turns}
+use Rattle.tidy_rules.specs.Turning.{Head, Turn, tested_again, label_put, turned_line, Turns}
 use Rattle.tidy_rules.proofs.Ends.{tail_length}
 use Rattle.tidy_rules.proofs.Shape.{spare_free, balance_of}
-use Rattle.tidy_rules.proofs.Turning.{may_turn, head_line, Where, own_place, label_place, copy_place, jump_place, code_of, rank_of, T, R, once, code_stays, tail_image, label_kept, handler_turned, Copied, exit_of, head_code, turned_code, not_turned, Stand, image, opened, copied, jumps, where_of, Goes, Own, same, other_way, exits, View, own, past_label, past_jump, view, source, Kept, kept_line, is_way, kept}
-use Rattle.tidy_rules.proofs.TurningLines.{IsNew, new_exit, new_label, new_branch, new_jump, From, was_line, new_line, new_flow, from_line}
+use Rattle.tidy_rules.proofs.Turning.{may_turn, head_line, Where, own_place, label_place, copy_place, jump_place, code_of, rank_of, T, R, once, code_stays, tail_image, label_kept, handler_turned, Copied, exit_of, head_code, turned_code, not_turned, Stand, image, opened, copied, jumps, where_of, same, other_way, exits, View, own, past_label, past_jump, view, source, Kept, kept_line, is_way, kept}
+use Rattle.tidy_rules.proofs.TurningLines.{IsNew, new_exit, new_label, new_branch, new_jump, From, was_line, new_line, from_line}
 
 -- ---- forms
 
@@ -284,12 +280,13 @@ module _ (m r : Lin) (h : Turns m r) (regular : IsRegular m) where
           (cond (nat_eq (suc (suc (suc (suc n)))) (suc n)) (jump_place (exit_code i))
           (cond (nat_eq (suc (suc (suc (suc n)))) (suc (suc n))) (copy_place (exit_code i)) (own_place (i ∷ next)))
           ≡ own_place (i ∷ next))
-      four =
-          (omega arith,
-          ap (λ b. cond b (jump_place (exit_code i))
-          (cond (nat_eq (suc (suc (suc (suc n)))) (suc (suc n))) (copy_place (exit_code i)) (own_place (i ∷ next))))
-          (not_same (suc (suc (suc (suc n)))) (suc n) (omega arith))
-          ∙ ap (λ b. cond b (copy_place (exit_code i)) (own_place (i ∷ next))) (not_same (suc (suc (suc (suc n)))) (suc (suc n)) (omega arith)))
+      four = (
+        omega arith,
+        ap (λ b. cond b (jump_place (exit_code i))
+            (cond (nat_eq (suc (suc (suc (suc n)))) (suc (suc n))) (copy_place (exit_code i)) (own_place (i ∷ next))))
+            (not_same (suc (suc (suc (suc n)))) (suc n) (omega arith))
+            ∙ ap (λ b. cond b (copy_place (exit_code i)) (own_place (i ∷ next))) (not_same (suc (suc (suc (suc n)))) (suc (suc n)) (omega arith)),
+      )
 
       by : (b : Bool) → (n < suc (suc (length (tested_again b t.head ++ L next)))) ×
           (cond (nat_eq (suc (suc (length (tested_again b t.head ++ L next)))) (suc n)) (jump_place (exit_code i))
