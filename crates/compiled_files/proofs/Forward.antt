@@ -18,7 +18,7 @@ use Rattle.lin_ir.specs.declared.lin.Line.{Line}
 use Rattle.lin_ir.specs.declared.lin.LinOp.{LinOp}
 use Rattle.lin_ir.specs.declared.lin.LinOp.TheVariants as lin
 use Rattle.linear_rules.proofs.Walked.{Tail, tail_next, tail_label, tail_target, reached_tail}
-use Rattle.tidy_rules.proofs.Tidied.{tail_length}
+use Rattle.tidy_rules.proofs.Ends.{tail_length}
 use Rattle.tidy_rules.proofs.Turns.{Turns, goes_in, exits_in, jumps_in, unwinds_in, pushes_in, asks_in, replaces_in, ends_in, raising_in, stuck_in, turns}
 use Rattle.linear_machine.specs.Relation.{Laid}
 use Rattle.linking.specs.Pace.{GoesForward, StepForward, left_behind}

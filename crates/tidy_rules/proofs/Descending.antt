@@ -1,9 +1,9 @@
 -- Where only exits lead back in the text, the number of lines that are left goes down.
-use Rattle.std.proofs.Common.{◌≡◌, ◌≢◌, ℕ, suc, ◌<◌, ◌≤◌, Bool, true, false, List, [], ◌∷◌, length, sym, ap, ◌∙◌, subst, arith}
+use Rattle.std.proofs.Common.{◌≡◌, ◌≢◌, ℕ, suc, ◌<◌, false, List, [], ◌∷◌, length, ap, arith}
 use Rattle.std.specs.List.{AllPairs}
 use Rattle.mach_ir.specs.Acts.{Target, On, At}
 use Rattle.mach_ir.specs.Walks.{OneOf}
-use Rattle.lin_ir.specs.Formed.{goes_to, labels_in, is_exit, is_label, GoesForward, GoesDown}
+use Rattle.lin_ir.specs.Formed.{goes_to, labels_in, is_exit, GoesForward, GoesDown}
 use Rattle.lin_ir.specs.Meaning.{after_label, code_at}
 use Rattle.lin_ir.specs.Walks as walks
 use Rattle.lin_ir.specs.Walks.{targets, Reached, Leads, Raises}
@@ -11,7 +11,7 @@ use Rattle.lin_ir.specs.declared.lin.Line.{Line}
 use Rattle.lin_ir.specs.declared.lin.Lin.{Lin}
 use Rattle.linear_rules.proofs.Homes.{IsIn, in_of}
 use Rattle.linear_rules.proofs.Walked.{Tail, tail_next, tail_stands, tail_label, reached_tail}
-use Rattle.tidy_rules.proofs.Tidied.{tail_length, later_after}
+use Rattle.tidy_rules.proofs.Ends.{tail_length, later_after}
 
 module _ (m : Lin) (once : AllPairs (λ k l. k ≢ l) (labels_in m.code)) (forward : GoesForward m) where
   -- a label that stands later

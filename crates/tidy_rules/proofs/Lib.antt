@@ -16,3 +16,10 @@ pub mod Vals
 pub mod Following
 pub mod Once
 pub mod Living
+pub mod Ends
+pub mod Turning
+pub mod TurningLines
+pub mod TurningDoes
+pub mod TurningShape
+pub mod TurningAll
+pub mod Sizes
