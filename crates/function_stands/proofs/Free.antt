@@ -17,7 +17,7 @@ use Rattle.lin_ir.specs.declared.lin.LinOp.{LinOp}
 use Rattle.lin_ir.specs.declared.lin.LinOp.TheVariants as lin
 use Rattle.linear_rules.proofs.Homes.{IsIn, is_first}
 use Rattle.linear_rules.proofs.Walked.{stands_tail, tail_next, tail_stands}
-use Rattle.tidy_rules.proofs.Tidied.{later_after}
+use Rattle.tidy_rules.proofs.Ends.{later_after}
 use Rattle.function_stands.proofs.Parts.{Place, place_stays}
 
 -- ---- the label
