@@ -167,14 +167,6 @@ abbrev pub is_exit : LinOp → Bool
 is_exit (lin.Flow (flow.Exit l)) = true
 is_exit _ = false
 
--- Only an exit, which is a unit, leads back: any other label that a line names comes later, and so
--- does the handler of a raise.
-pub record GoesForward (m : Lin) : Type 0 where
-  pub labels : (i : Line) (next : List Line) → Stands i next m.code → is_exit i.op ≡ false →
-      (l : ℕ) → NamesLabel l i.op → Contains (labels_in next) l
-  pub handlers : (i : Line) (next : List Line) (l : ℕ) (tries : List ℕ) →
-      Reached m (i ∷ next) (l ∷ tries) → may_raise i.op ≡ true → Contains (labels_in next) l
-
 abbrev pub is_label : LinOp → Bool
 is_label (lin.Flow (flow.Label l)) = true
 is_label _ = false

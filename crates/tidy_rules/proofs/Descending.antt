@@ -3,12 +3,13 @@ use Rattle.std.proofs.Common.{◌≡◌, ◌≢◌, ℕ, suc, ◌<◌, false, Li
 use Rattle.std.specs.List.{AllPairs}
 use Rattle.mach_ir.specs.Acts.{Target, On, At}
 use Rattle.mach_ir.specs.Walks.{OneOf}
-use Rattle.lin_ir.specs.Formed.{goes_to, labels_in, is_exit, GoesForward, GoesDown}
+use Rattle.lin_ir.specs.Formed.{goes_to, labels_in, is_exit, GoesDown}
 use Rattle.lin_ir.specs.Meaning.{after_label, code_at}
 use Rattle.lin_ir.specs.Walks as walks
 use Rattle.lin_ir.specs.Walks.{targets, Reached, Leads, Raises}
 use Rattle.lin_ir.specs.declared.lin.Line.{Line}
 use Rattle.lin_ir.specs.declared.lin.Lin.{Lin}
+use Rattle.linear_rules.specs.Forward.{GoesForward}
 use Rattle.linear_rules.proofs.Homes.{IsIn, in_of}
 use Rattle.linear_rules.proofs.Walked.{Tail, tail_next, tail_stands, tail_label, reached_tail}
 use Rattle.tidy_rules.proofs.Ends.{tail_length, later_after}
