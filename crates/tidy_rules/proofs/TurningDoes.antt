@@ -71,7 +71,8 @@ module _ (m r : Lin) (h : turning.Turns m r) (well : WellFormed m) where
     flow_held : (j : Line) (js : List Line) (g : Locations) (a : Around) → passes_frame j.op ≡ false → ValsHeld c Q (at (j ∷ js) g a)
     flow_held j js g a none = record { held = λ k ks same frame l w. absurd (passes_none j k js ks same none frame) }
 
-    line_held : {i : Line} {next ks : List Line} {top : Where} (g : Locations) (a : Around) → Moves m r h well i next ks a.tries top → Reached m (i ∷ next) a.tries →
+    line_held : {i : Line} {next ks : List Line} {top : Where} (g : Locations) (a : Around) → Moves m r h well i next ks a.tries top →
+        Reached m (i ∷ next) a.tries →
         ValsHeld c m (at (i ∷ next) g a) → ValsHeld c Q (at (i ∷ ks) g a)
     line_held {i} {next} {ks} g a moves reached vals =
         record {
@@ -85,7 +86,8 @@ module _ (m r : Lin) (h : turning.Turns m r) (well : WellFormed m) where
 
     -- ---- a line of both
 
-    leads : {i : Line} {next ks : List Line} {top : Where} (g : Locations) (a : Around) → Moves m r h well i next ks a.tries top → Reached m (i ∷ next) a.tries →
+    leads : {i : Line} {next ks : List Line} {top : Where} (g : Locations) (a : Around) → Moves m r h well i next ks a.tries top →
+        Reached m (i ∷ next) a.tries →
         Leads c m (step c Q) (ValsHeld c Q) Rel Q i next ks g g a.tries
     leads {i} {next} {ks} g a moves reached =
         record {
@@ -107,7 +109,8 @@ module _ (m r : Lin) (h : turning.Turns m r) (well : WellFormed m) where
     -- a line of its own, where the second stands at what does the same
     answer_own : {is ks : List Line} {j : Line} {top : Where} (g : Locations) (a : Around) → Own m r h well is j ks a.tries top → Reached m is a.tries →
         ValsHeld c m (at is g a) → Answer (at (j ∷ ks) g a) (step c m (at is g a))
-    answer_own {ks = ks} g a (same {i = i} {next = next} rank moves) reached vals = steps (line_held g a moves reached vals) (by (values c.setting.end g i.args))
+    answer_own {ks = ks} g a (same {i = i} {next = next} rank moves) reached vals =
+        steps (line_held g a moves reached vals) (by (values c.setting.end g i.args))
       where
         by : (o : Option (List Value)) → Arrive (kept.on_values c m i next g a o) (kept.on_values c Q i ks g a o)
         by None = first_stuck
