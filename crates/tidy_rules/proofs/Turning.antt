@@ -54,12 +54,6 @@ new_labels None None = []
 new_labels None (Some l) = l ∷ []
 new_labels (Some t) o = t.here ∷ []
 
-none_some : {A : Type 0} (x : A) → None ≡ Some x → ⊥
-none_some x e = cc
-
-same_some : {A : Type 0} (x y : A) → Some x ≡ Some y → x ≡ y
-same_some x y e = cc
-
 none_first : (j : Line) (js : List Line) → [] ≡ j ∷ js → ⊥
 none_first j js e = cc
 
@@ -75,14 +69,6 @@ bare_unread f l t x = absurd (none_in (record { loc = l; comp = t }) x)
 abbrev is_pop : Flow → Bool
 is_pop flow.PopTrap = true
 is_pop _ = false
-
-one_target : (l : ℕ) (t : Target) → OneOf t (At l ∷ []) → t ≡ At l
-one_target l t this = refl
-one_target l t (other o) = elim o [ ]
-
-on_target : (t : Target) → OneOf t (On ∷ []) → t ≡ On
-on_target t this = refl
-on_target t (other o) = elim o [ ]
 
 -- ---- places
 
@@ -523,10 +509,10 @@ module _ (m r : Lin) (h : Turns m r) (well : WellFormed m) where
   stepped (past_jump {is = is} e low) r t this = record { code = is; stand = image e; reached = r }
   stepped (past_jump e low) r t (other a) = elim a [ ]
 
-  raised : {is ks : List Line} {j : Line} {h' : ℕ} {tries : List ℕ} {top : Where} → View is j ks (h' ∷ tries) top → Reached m is (h' ∷ tries) →
+  raised : {is ks : List Line} {j : Line} {n : ℕ} {tries : List ℕ} {top : Where} → View is j ks (n ∷ tries) top → Reached m is (n ∷ tries) →
       may_raise j.op ≡ true →
-      Source (after_label h' R.code) tries
-  raised {h' = l} (own (same rank moves)) r e = record { code = after_label l m.code; stand = image (handler_turned r); reached = by_raise r (walks.raises e) }
+      Source (after_label n R.code) tries
+  raised {n = l} (own (same rank moves)) r e = record { code = after_label l m.code; stand = image (handler_turned r); reached = by_raise r (walks.raises e) }
   raised (own (other_way holds fails)) r e = absurd (true≢false (sym e))
   raised (own (exits stand)) r e = absurd (true≢false (sym e))
   raised (past_label u low) r e = absurd (true≢false (sym e))

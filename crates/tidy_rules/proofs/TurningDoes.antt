@@ -37,9 +37,6 @@ use Rattle.tidy_rules.proofs.Leaving.{first_same, rest_same}
 use Rattle.tidy_rules.proofs.Turning.{T, R, Where, Stand, image, Own, same, other_way, exits, View, own, past_label, past_jump, head_line, own_image, view, Moves, live_across, no_addr_turned, handler_turned, image_some, stands_none}
 use Rattle.tidy_rules.proofs.TurningLines.{From, was_line, new_line, new_flow, from_line}
 
-none_first : (j : Line) (js : List Line) → [] ≡ j ∷ js → ⊥
-none_first j js e = cc
-
 module _ (m r : Lin) (h : turning.Turns m r) (well : WellFormed m) where
   abbrev L : List Line → List Line
   L = T m r h well
@@ -93,7 +90,7 @@ module _ (m r : Lin) (h : turning.Turns m r) (well : WellFormed m) where
         record {
           on = λ vs t b g' o e u. (g', u, goes t b o e g');
           bare = λ t b n o e. goes t b o e g;
-          aside = λ h' b raise e. caught h' b raise (subst (Reached m (i ∷ next)) e reached);
+          aside = λ k b raise e. caught k b raise (subst (Reached m (i ∷ next)) e reached);
         }
       where
         goes : (t : Target) (b : Around) → OneOf t (targets i.op) → b.tries ≡ tries_after i.op a.tries → (f : Locations) → Rel (at (code_at m.code next t) f b)
@@ -102,9 +99,9 @@ module _ (m r : Lin) (h : turning.Turns m r) (well : WellFormed m) where
             rel (subst (Stands (code_at m.code next t) (code_at Q.code ks t)) (sym e) (moves t o).stand)
             (subst (Reached m (code_at m.code next t)) (sym e) (by_step reached (walks.goes t o)))
 
-        caught : (h' : ℕ) (b : Around) → walks.may_raise i.op ≡ true → Reached m (i ∷ next) (h' ∷ b.tries) → Rel (at (after_label h' m.code) g b)
-            (at (after_label h' Q.code) g b)
-        caught h' b raise s = rel (image (handler_turned m r h well s)) (by_raise s (walks.raises raise))
+        caught : (k : ℕ) (b : Around) → walks.may_raise i.op ≡ true → Reached m (i ∷ next) (k ∷ b.tries) → Rel (at (after_label k m.code) g b)
+            (at (after_label k Q.code) g b)
+        caught k b raise s = rel (image (handler_turned m r h well s)) (by_raise s (walks.raises raise))
 
     -- a line of its own, where the second stands at what does the same
     answer_own : {is ks : List Line} {j : Line} {top : Where} (g : Locations) (a : Around) → Own m r h well is j ks a.tries top → Reached m is a.tries →
