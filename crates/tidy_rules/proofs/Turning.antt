@@ -54,12 +54,6 @@ new_labels None None = []
 new_labels None (Some l) = l ∷ []
 new_labels (Some t) o = t.here ∷ []
 
-none_some : {A : Type 0} (x : A) → None ≡ Some x → ⊥
-none_some x e = cc
-
-same_some : {A : Type 0} (x y : A) → Some x ≡ Some y → x ≡ y
-same_some x y e = cc
-
 none_first : (j : Line) (js : List Line) → [] ≡ j ∷ js → ⊥
 none_first j js e = cc
 
@@ -75,14 +69,6 @@ bare_unread f l t x = absurd (none_in (record { loc = l; comp = t }) x)
 abbrev is_pop : Flow → Bool
 is_pop flow.PopTrap = true
 is_pop _ = false
-
-one_target : (l : ℕ) (t : Target) → OneOf t (At l ∷ []) → t ≡ At l
-one_target l t this = refl
-one_target l t (other o) = elim o [ ]
-
-on_target : (t : Target) → OneOf t (On ∷ []) → t ≡ On
-on_target t this = refl
-on_target t (other o) = elim o [ ]
 
 -- ---- places
 
@@ -218,7 +204,8 @@ module _ (m r : Lin) (h : Turns m r) (well : WellFormed m) where
       (λ u. in_right (label_of i.op) (in_right (new_after next) (label_kept next (tail_next w) u)))
       (split_in (label_of i.op) (labels_in next) z))
 
-  label_after : (l : ℕ) (is : List Line) → Tail is m.code → AllPairs Differ (labels_in (T is)) → IsIn l (labels_in is) → after_label l (T is) ≡ T (after_label l is)
+  label_after : (l : ℕ) (is : List Line) → Tail is m.code → AllPairs Differ (labels_in (T is)) → IsIn l (labels_in is) →
+      after_label l (T is) ≡ T (after_label l is)
   label_after l [] w pairs z = refl
   label_after l (i ∷ next) w pairs z = by (has_label l i.op) refl (λ once y. label_after l next (tail_next w) once y)
     where
@@ -226,7 +213,8 @@ module _ (m r : Lin) (h : Turns m r) (well : WellFormed m) where
       below (inl u) e = absurd (true≢false (sym (has_own_label l i.op u) ∙ e))
       below (inr u) e = u
 
-      by : (b : Bool) → has_label l i.op ≡ b → (AllPairs Differ (labels_in (T next)) → IsIn l (labels_in next) → after_label l (T next) ≡ T (after_label l next)) →
+      by : (b : Bool) → has_label l i.op ≡ b →
+          (AllPairs Differ (labels_in (T next)) → IsIn l (labels_in next) → after_label l (T next) ≡ T (after_label l next)) →
           after_label l (T (i ∷ next)) ≡ T (cond b next (after_label l next))
       by true e ih =
           ap (after_label l) (code_stays w (label_stays l i.op e))
@@ -422,8 +410,8 @@ module _ (m r : Lin) (h : Turns m r) (well : WellFormed m) where
       let c : Copied next t = record { line = i; stands = reached_tail m r; turned = u } in
       let x = (exit_of c) in
       own_onto e
-      (subst (λ (i : Line). Own (i ∷ next) (bare (flow.Exit t.here)) (bare (flow.Label t.here) ∷ (tested_again t.keeps t.head ++ T next)) tries (own_place (c.line ∷ next)))
-      (sym x.is)
+      (subst (λ (i : Line). Own (i ∷ next) (bare (flow.Exit t.here)) (bare (flow.Label t.here) ∷ (tested_again t.keeps t.head ++ T next)) tries
+      (own_place (c.line ∷ next))) (sym x.is)
       (exits
       (subst (λ is. Stand is (after_label t.here R.code) tries) (sym x.leads)
       (subst (λ js. Stand (head_code c) js tries) (sym (at_here c)) (copied c refl)))))
@@ -460,7 +448,12 @@ module _ (m r : Lin) (h : Turns m r) (well : WellFormed m) where
     where
       to_jump : {l : ℕ} (to : Target) → OneOf to (targets (head_line t.head).op) → after_label l R.code ≡ T (code_at m.code (rest_of c) to) →
           Goes (head_line t.head) (code_at m.code (rest_of c) to) (bare (flow.Jump l) ∷ T next) tries (copy_place (head_code c))
-      to_jump to o e = record { stand = jumps c to o e r refl; lower = λ d e u. lower_jump (d.order (suc (length (rest_of c)))); level = λ d e. absurd (true≢false (sym e)) }
+      to_jump to o e =
+          record {
+            stand = jumps c to o e r refl;
+            lower = λ d e u. lower_jump (d.order (suc (length (rest_of c))));
+            level = λ d e. absurd (true≢false (sym e));
+          }
 
       kept : (to : Target) → OneOf to (targets (head_line t.head).op) →
           Goes (head_line t.head) (code_at m.code (rest_of c) to) (code_at R.code (bare (flow.Jump t.head.on) ∷ T next) to) tries (copy_place (head_code c))
@@ -496,15 +489,18 @@ module _ (m r : Lin) (h : Turns m r) (well : WellFormed m) where
     pub stand : Stand code js tries
     pub reached : Reached m code tries
 
-  stepped : {is ks : List Line} {j : Line} {tries : List ℕ} {top : Where} → View is j ks tries top → Reached m is tries → (t : Target) → OneOf t (targets j.op) →
+  stepped : {is ks : List Line} {j : Line} {tries : List ℕ} {top : Where} → View is j ks tries top → Reached m is tries → (t : Target) →
+      OneOf t (targets j.op) →
       Source (code_at R.code ks t) (tries_after j.op tries)
   stepped {ks = ks} (own o) r t a = by o r t a
     where
       by : {is ks : List Line} {j : Line} {tries : List ℕ} {top : Where} → Own is j ks tries top → Reached m is tries → (t : Target) → OneOf t (targets j.op) →
           Source (code_at R.code ks t) (tries_after j.op tries)
       by (same {next = next} rank moves) r t a = record { code = code_at m.code next t; stand = (moves t a).stand; reached = by_step r (walks.goes t a) }
-      by (other_way {d = d} {rest = rest} holds fails) r On a = record { code = after_label d.to m.code; stand = holds.stand; reached = by_step r (walks.goes (At d.to) (other this)) }
-      by (other_way {d = d} {rest = rest} holds fails) r (At l) (other this) = record { code = rest; stand = fails.stand; reached = by_step r (walks.goes On this) }
+      by (other_way {d = d} {rest = rest} holds fails) r On a =
+          record { code = after_label d.to m.code; stand = holds.stand; reached = by_step r (walks.goes (At d.to) (other this)) }
+      by (other_way {d = d} {rest = rest} holds fails) r (At l) (other this) =
+          record { code = rest; stand = fails.stand; reached = by_step r (walks.goes On this) }
       by (other_way {d = d} {rest = rest} holds fails) r (At l) (other (other a)) = elim a [ ]
       by (exits {l = l} stand) r t this = record { code = after_label l m.code; stand = stand; reached = by_step r (walks.goes (At l) this) }
       by (exits stand) r t (other a) = elim a [ ]
@@ -513,9 +509,10 @@ module _ (m r : Lin) (h : Turns m r) (well : WellFormed m) where
   stepped (past_jump {is = is} e low) r t this = record { code = is; stand = image e; reached = r }
   stepped (past_jump e low) r t (other a) = elim a [ ]
 
-  raised : {is ks : List Line} {j : Line} {h' : ℕ} {tries : List ℕ} {top : Where} → View is j ks (h' ∷ tries) top → Reached m is (h' ∷ tries) → may_raise j.op ≡ true →
-      Source (after_label h' R.code) tries
-  raised {h' = l} (own (same rank moves)) r e = record { code = after_label l m.code; stand = image (handler_turned r); reached = by_raise r (walks.raises e) }
+  raised : {is ks : List Line} {j : Line} {n : ℕ} {tries : List ℕ} {top : Where} → View is j ks (n ∷ tries) top → Reached m is (n ∷ tries) →
+      may_raise j.op ≡ true →
+      Source (after_label n R.code) tries
+  raised {n = l} (own (same rank moves)) r e = record { code = after_label l m.code; stand = image (handler_turned r); reached = by_raise r (walks.raises e) }
   raised (own (other_way holds fails)) r e = absurd (true≢false (sym e))
   raised (own (exits stand)) r e = absurd (true≢false (sym e))
   raised (past_label u low) r e = absurd (true≢false (sym e))
@@ -531,17 +528,20 @@ module _ (m r : Lin) (h : Turns m r) (well : WellFormed m) where
   abbrev Was : Loc → Comp → List Line → List ℕ → Type 0
   Was l t js tries = (is : List Line) → Stand is js tries → Reached m is tries → Live m l t is tries
 
-  live_read : {l : Loc} {t : Comp} {is ks : List Line} {j : Line} {tries : List ℕ} {top : Where} → View is j ks tries top → walks.ReadsAs l t j → Live m l t is tries
+  live_read : {l : Loc} {t : Comp} {is ks : List Line} {j : Line} {tries : List ℕ} {top : Where} → View is j ks tries top → walks.ReadsAs l t j →
+      Live m l t is tries
   live_read (own (same rank moves)) x = read x
   live_read (own (other_way holds fails)) x = read x
   live_read {l} {t} (own (exits {n = n} stand)) x = bare_unread (flow.Exit n) l t x
   live_read {l} {t} (past_label {l = k} u low) x = bare_unread (flow.Label k) l t x
   live_read {l} {t} (past_jump {l = k} u low) x = bare_unread (flow.Jump k) l t x
 
-  live_on : {l : Loc} {t : Comp} {is ks : List Line} {j : Line} {tries : List ℕ} {top : Where} → View is j ks tries top → Reached m is tries → (Writes j l → ⊥) →
+  live_on : {l : Loc} {t : Comp} {is ks : List Line} {j : Line} {tries : List ℕ} {top : Where} → View is j ks tries top → Reached m is tries →
+      (Writes j l → ⊥) →
       (k : Target) → OneOf k (targets j.op) → Was l t (code_at R.code ks k) (tries_after j.op tries) → Live m l t is tries
   live_on (own (same rank moves)) r free k o v = on free (walks.goes k o) (v _ (moves k o).stand (by_step r (walks.goes k o)))
-  live_on (own (other_way {d = d} holds fails)) r free On o v = on free (walks.goes (At d.to) (other this)) (v _ holds.stand (by_step r (walks.goes (At d.to) (other this))))
+  live_on (own (other_way {d = d} holds fails)) r free On o v =
+      on free (walks.goes (At d.to) (other this)) (v _ holds.stand (by_step r (walks.goes (At d.to) (other this))))
   live_on (own (other_way holds fails)) r free (At k) (other this) v = on free (walks.goes On this) (v _ fails.stand (by_step r (walks.goes On this)))
   live_on (own (other_way holds fails)) r free (At k) (other (other o)) v = elim o [ ]
   live_on {l} (own (exits {l = k} stand)) r free t this v = on (exit_unwritten k l) (walks.goes (At k) this) (v _ stand (by_step r (walks.goes (At k) this)))
@@ -551,7 +551,8 @@ module _ (m r : Lin) (h : Turns m r) (well : WellFormed m) where
   live_on (past_jump u low) r free k this v = v _ (image u) r
   live_on (past_jump u low) r free k (other o) v = elim o [ ]
 
-  live_aside : {l : Loc} {t : Comp} {is ks : List Line} {j : Line} {n : ℕ} {tries : List ℕ} {top : Where} → View is j ks (n ∷ tries) top → Reached m is (n ∷ tries) →
+  live_aside : {l : Loc} {t : Comp} {is ks : List Line} {j : Line} {n : ℕ} {tries : List ℕ} {top : Where} → View is j ks (n ∷ tries) top →
+      Reached m is (n ∷ tries) →
       may_raise j.op ≡ true → Was l t (after_label n R.code) tries → Live m l t is (n ∷ tries)
   live_aside (own (same rank moves)) r e v = aside (walks.raises e) (v _ (image (handler_turned r)) (by_raise r (walks.raises e)))
   live_aside (own (other_way holds fails)) r e v = absurd (true≢false (sym e))
@@ -570,7 +571,8 @@ module _ (m r : Lin) (h : Turns m r) (well : WellFormed m) where
   abbrev pub Moves : Line → List Line → List Line → List ℕ → Where → Type 0
   Moves i next ks tries top = (t : Target) → OneOf t (targets i.op) → Goes i (code_at m.code next t) (code_at R.code ks t) (tries_after i.op tries) top
 
-  pub live_across : {l : Loc} {t : Comp} {i : Line} {next ks : List Line} {tries : List ℕ} {top : Where} → Moves i next ks tries top → Reached m (i ∷ next) tries →
+  pub live_across : {l : Loc} {t : Comp} {i : Line} {next ks : List Line} {tries : List ℕ} {top : Where} → Moves i next ks tries top →
+      Reached m (i ∷ next) tries →
       LiveAcross R l t i ks tries → LiveAcross m l t i next tries
   live_across moves r (across_step free (walks.goes k o) v) =
       across_step free (walks.goes k o) (live_before v (moves k o).stand (by_step r (walks.goes k o)))

@@ -37,9 +37,6 @@ use Rattle.tidy_rules.proofs.Leaving.{first_same, rest_same}
 use Rattle.tidy_rules.proofs.Turning.{T, R, Where, Stand, image, Own, same, other_way, exits, View, own, past_label, past_jump, head_line, own_image, view, Moves, live_across, no_addr_turned, handler_turned, image_some, stands_none}
 use Rattle.tidy_rules.proofs.TurningLines.{From, was_line, new_line, new_flow, from_line}
 
-none_first : (j : Line) (js : List Line) → [] ≡ j ∷ js → ⊥
-none_first j js e = cc
-
 module _ (m r : Lin) (h : turning.Turns m r) (well : WellFormed m) where
   abbrev L : List Line → List Line
   L = T m r h well
@@ -71,7 +68,8 @@ module _ (m r : Lin) (h : turning.Turns m r) (well : WellFormed m) where
     flow_held : (j : Line) (js : List Line) (g : Locations) (a : Around) → passes_frame j.op ≡ false → ValsHeld c Q (at (j ∷ js) g a)
     flow_held j js g a none = record { held = λ k ks same frame l w. absurd (passes_none j k js ks same none frame) }
 
-    line_held : {i : Line} {next ks : List Line} {top : Where} (g : Locations) (a : Around) → Moves m r h well i next ks a.tries top → Reached m (i ∷ next) a.tries →
+    line_held : {i : Line} {next ks : List Line} {top : Where} (g : Locations) (a : Around) → Moves m r h well i next ks a.tries top →
+        Reached m (i ∷ next) a.tries →
         ValsHeld c m (at (i ∷ next) g a) → ValsHeld c Q (at (i ∷ ks) g a)
     line_held {i} {next} {ks} g a moves reached vals =
         record {
@@ -85,13 +83,14 @@ module _ (m r : Lin) (h : turning.Turns m r) (well : WellFormed m) where
 
     -- ---- a line of both
 
-    leads : {i : Line} {next ks : List Line} {top : Where} (g : Locations) (a : Around) → Moves m r h well i next ks a.tries top → Reached m (i ∷ next) a.tries →
+    leads : {i : Line} {next ks : List Line} {top : Where} (g : Locations) (a : Around) → Moves m r h well i next ks a.tries top →
+        Reached m (i ∷ next) a.tries →
         Leads c m (step c Q) (ValsHeld c Q) Rel Q i next ks g g a.tries
     leads {i} {next} {ks} g a moves reached =
         record {
           on = λ vs t b g' o e u. (g', u, goes t b o e g');
           bare = λ t b n o e. goes t b o e g;
-          aside = λ h' b raise e. caught h' b raise (subst (Reached m (i ∷ next)) e reached);
+          aside = λ k b raise e. caught k b raise (subst (Reached m (i ∷ next)) e reached);
         }
       where
         goes : (t : Target) (b : Around) → OneOf t (targets i.op) → b.tries ≡ tries_after i.op a.tries → (f : Locations) → Rel (at (code_at m.code next t) f b)
@@ -100,14 +99,15 @@ module _ (m r : Lin) (h : turning.Turns m r) (well : WellFormed m) where
             rel (subst (Stands (code_at m.code next t) (code_at Q.code ks t)) (sym e) (moves t o).stand)
             (subst (Reached m (code_at m.code next t)) (sym e) (by_step reached (walks.goes t o)))
 
-        caught : (h' : ℕ) (b : Around) → walks.may_raise i.op ≡ true → Reached m (i ∷ next) (h' ∷ b.tries) → Rel (at (after_label h' m.code) g b)
-            (at (after_label h' Q.code) g b)
-        caught h' b raise s = rel (image (handler_turned m r h well s)) (by_raise s (walks.raises raise))
+        caught : (k : ℕ) (b : Around) → walks.may_raise i.op ≡ true → Reached m (i ∷ next) (k ∷ b.tries) → Rel (at (after_label k m.code) g b)
+            (at (after_label k Q.code) g b)
+        caught k b raise s = rel (image (handler_turned m r h well s)) (by_raise s (walks.raises raise))
 
     -- a line of its own, where the second stands at what does the same
     answer_own : {is ks : List Line} {j : Line} {top : Where} (g : Locations) (a : Around) → Own m r h well is j ks a.tries top → Reached m is a.tries →
         ValsHeld c m (at is g a) → Answer (at (j ∷ ks) g a) (step c m (at is g a))
-    answer_own {ks = ks} g a (same {i = i} {next = next} rank moves) reached vals = steps (line_held g a moves reached vals) (by (values c.setting.end g i.args))
+    answer_own {ks = ks} g a (same {i = i} {next = next} rank moves) reached vals =
+        steps (line_held g a moves reached vals) (by (values c.setting.end g i.args))
       where
         by : (o : Option (List Value)) → Arrive (kept.on_values c m i next g a o) (kept.on_values c Q i ks g a o)
         by None = first_stuck

@@ -328,7 +328,8 @@ module _ (m r : Lin) (h : Turns m r) (regular : IsRegular m) where
       ap (λ js. where_in m.code (length js)) (sym e) ∙ ap (where_in m.code) (two_more t.keeps t.head (L next))
       ∙ found (suc (suc (length (L next)))) c.stands (omega arith) (let four = four_more c in omega (arith, four))
       ∙ ap (λ x. where_line x (h.opens (length next)) c.line next (suc (suc (length (L next))))) c.turned
-      ∙ ap (λ b. cond b (jump_place (exit_code c.line)) (cond (nat_eq (suc (suc (length (L next)))) (suc (suc (length (L next))))) (copy_place (exit_code c.line)) (own_place (c.line ∷ next))))
+      ∙ ap (λ b. cond b (jump_place (exit_code c.line)) (cond (nat_eq (suc (suc (length (L next)))) (suc (suc (length (L next)))))
+      (copy_place (exit_code c.line)) (own_place (c.line ∷ next))))
       (not_same (suc (suc (length (L next)))) (suc (length (L next))) (omega arith))
       ∙ ap (λ b. cond b (copy_place (exit_code c.line)) (own_place (c.line ∷ next))) (eq-eqb (suc (suc (length (L next)))) (suc (suc (length (L next)))) refl)
       ∙ ap copy_place (head_found c)
@@ -336,7 +337,8 @@ module _ (m r : Lin) (h : Turns m r) (regular : IsRegular m) where
       ap (λ js. where_in m.code (length js)) (sym e)
       ∙ found (suc (length (L next))) c.stands (omega arith) (let four = four_more c in omega (arith, four))
       ∙ ap (λ x. where_line x (h.opens (length next)) c.line next (suc (length (L next)))) c.turned
-      ∙ ap (λ b. cond b (jump_place (exit_code c.line)) (cond (nat_eq (suc (length (L next))) (suc (suc (length (L next))))) (copy_place (exit_code c.line)) (own_place (c.line ∷ next))))
+      ∙ ap (λ b. cond b (jump_place (exit_code c.line)) (cond (nat_eq (suc (length (L next))) (suc (suc (length (L next)))))
+      (copy_place (exit_code c.line)) (own_place (c.line ∷ next))))
       (eq-eqb (suc (length (L next))) (suc (length (L next))) refl)
       ∙ ap jump_place (head_found c)
 
@@ -412,7 +414,8 @@ module _ (m r : Lin) (h : Turns m r) (regular : IsRegular m) where
           rank_of d.order (where_of m r h regular.well s) ≤ k → order (length js) ≤ k
       to_level s reached le = let e = rank_at s reached in omega (arith, e, le)
 
-      level : {is ks : List Line} {j : Line} {tries : List ℕ} {top : Where} → View m r h regular.well is j ks tries top → Reached m is tries → is_label j.op ≡ true →
+      level : {is ks : List Line} {j : Line} {tries : List ℕ} {top : Where} → View m r h regular.well is j ks tries top → Reached m is tries →
+          is_label j.op ≡ true →
           order (length ks) ≤ rank_of d.order top
       level (own (same {i = i} rank moves)) reached e =
           let o = label_on i.op e in
@@ -429,7 +432,8 @@ module _ (m r : Lin) (h : Turns m r) (regular : IsRegular m) where
           let same = rank_at y.stand y.reached in
           omega (arith, le, same)
 
-      lower : {is ks : List Line} {j : Line} {tries : List ℕ} {top : Where} → View m r h regular.well is j ks tries top → Reached m is tries → is_exit j.op ≡ false → is_label j.op ≡ false →
+      lower : {is ks : List Line} {j : Line} {tries : List ℕ} {top : Where} → View m r h regular.well is j ks tries top → Reached m is tries →
+          is_exit j.op ≡ false → is_label j.op ≡ false →
           (t : Target) → OneOf t (targets j.op) → order (length (code_at Q.code ks t)) < rank_of d.order top
       lower (own (same rank moves)) reached e u t o =
           to_lower (moves t o).stand (by_step reached (walks.goes t o)) ((moves t o).lower d e u)
@@ -442,7 +446,8 @@ module _ (m r : Lin) (h : Turns m r) (regular : IsRegular m) where
       lower (past_jump a low) reached e u t this = to_lower (image a) reached (low d)
       lower (past_jump a low) reached e u t (other o) = elim o [ ]
 
-      step_lower : {j : Line} {ks to : List Line} {tries left : List ℕ} → Reached Q (j ∷ ks) tries → is_exit j.op ≡ false → is_label j.op ≡ false → walks.Leads Q j ks tries to left →
+      step_lower : {j : Line} {ks to : List Line} {tries left : List ℕ} → Reached Q (j ∷ ks) tries → is_exit j.op ≡ false → is_label j.op ≡ false →
+          walks.Leads Q j ks tries to left →
           order (length to) < order (suc (length ks))
       step_lower s e u (walks.goes t o) =
           let y = source m r h regular.well s in
@@ -450,7 +455,8 @@ module _ (m r : Lin) (h : Turns m r) (regular : IsRegular m) where
           let same = rank_at y.stand y.reached in
           omega (arith, lt, same)
 
-      caught : {is ks : List Line} {j : Line} {l : ℕ} {tries : List ℕ} {top : Where} → View m r h regular.well is j ks (l ∷ tries) top → Reached m is (l ∷ tries) →
+      caught : {is ks : List Line} {j : Line} {l : ℕ} {tries : List ℕ} {top : Where} → View m r h regular.well is j ks (l ∷ tries) top →
+          Reached m is (l ∷ tries) →
           may_raise j.op ≡ true → order (length (after_label l Q.code)) < rank_of d.order top
       caught {l = l} {tries = tries} (own (same {i = i} {next = next} rank moves)) reached e =
           let lt = d.raises i next (after_label l m.code) (l ∷ tries) tries reached (walks.raises e) in
