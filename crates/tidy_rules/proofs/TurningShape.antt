@@ -3,11 +3,8 @@ use Rattle.std.proofs.Common.{◌≡◌, ◌≢◌, ℕ, suc, ◌+◌, ◌≤◌
 use Rattle.std.proofs.lemmas.Bool.{true≢false, eq-eqb, eqb-true}
 use Rattle.std.proofs.lemmas.Bool.Decides.{leb_tells}
 use Rattle.bs_words.specs.declared.types.Comp.{Comp}
-use Rattle.bs_words.specs.declared.operators.CmpOp.{CmpOp}
-use Rattle.bs_words.specs.declared.operators.IntOp.TheVariants as operator
-use Rattle.mach_ir.specs.declared.op.Right.{Right}
 use Rattle.mach_ir.specs.Acts.{Target, On, At}
-use Rattle.mach_ir.specs.Forms.{IsRight, a_register, a_constant, IsTested, holds, fails, signed, unsigned}
+use Rattle.mach_ir.specs.Forms.{IsTested}
 use Rattle.mach_ir.specs.Seats.{AreSeated, anywhere}
 use Rattle.mach_ir.specs.Walks.{OneOf, this, other}
 use Rattle.mach_ir.specs.declared.mach.Test.{Test}
@@ -22,6 +19,7 @@ use Rattle.lin_ir.specs.declared.lin.LinOp.TheVariants as lin
 use Rattle.lin_ir.specs.declared.lin.Line.{Line}
 use Rattle.lin_ir.specs.declared.lin.Lin.{Lin}
 use Rattle.lin_ir.specs.declared.lin.Spot.{Spot}
+use Rattle.linear_rules.proofs.Opposite.{tested_opposite}
 use Rattle.linear_rules.specs.Keeps.{OneTraps}
 use Rattle.linear_rules.specs.Lowered.{opposite_test}
 use Rattle.linear_rules.proofs.Homes.{IsIn, in_of, contains_of}
@@ -36,20 +34,6 @@ use Rattle.tidy_rules.proofs.Turning.{may_turn, head_line, Where, own_place, lab
 use Rattle.tidy_rules.proofs.TurningLines.{IsNew, new_exit, new_label, new_branch, new_jump, From, was_line, new_line, from_line}
 
 -- ---- forms
-
-signed_right : {f g : CmpOp} {r : Right} {rest : List Comp} → IsRight (operator.Cmp f) r rest → IsRight (operator.Cmp g) r rest
-signed_right a_register = a_register
-signed_right (a_constant e) = a_constant e
-
-unsigned_right : {f g : CmpOp} {r : Right} {rest : List Comp} → IsRight (operator.CmpU f) r rest → IsRight (operator.CmpU g) r rest
-unsigned_right a_register = a_register
-unsigned_right (a_constant e) = a_constant e
-
-tested_opposite : {t : Test} {args : List Comp} → IsTested t args → IsTested (opposite_test t) args
-tested_opposite holds = fails
-tested_opposite fails = holds
-tested_opposite (signed r) = signed (signed_right r)
-tested_opposite (unsigned r) = unsigned (unsigned_right r)
 
 flow_not_op : (f : Flow) {g : _} → lin.Flow f ≡ lin.Op g → ⊥
 flow_not_op f e = cc
