@@ -1,10 +1,13 @@
 -- What holds of the Linear function.
-use Rattle.std.proofs.Common.{◌≡◌, ℕ, ◌≤◌, true, ⊎_elim, Result, Ok, Err, sym, ◌∙◌, subst, arith}
+use Rattle.std.proofs.Common.{◌≡◌, ℕ, ◌≤◌, true, ⊎_elim, Result, Ok, Err, length, sym, ap, subst, arith}
+use Rattle.std.specs.List.{Contains}
 use Rattle.std.specs.Prelude.{IfOk}
+use Rattle.mach_ir.specs.Formed as mach_formed
 use Rattle.mach_ir.specs.Formed.{WellFormed}
 use Rattle.mach_ir.specs.Placed.{FullyPlaced}
 use Rattle.mach_ir.specs.Seats.{Seated}
 use Rattle.mach_ir.specs.declared.mach.Mach.{Mach}
+use Rattle.lin_ir.specs.Formed.{labels_in}
 use Rattle.lin_ir.specs.declared.lin.Lin.{Lin}
 use Rattle.lin_laws.specs.Graph.{AreNumbered}
 use Rattle.lin_flow.proofs.Begun.{are_numbered}
@@ -18,8 +21,8 @@ use Rattle.tidy_rules.specs.Tidied.{IsTidied}
 use Rattle.tidy_rules.proofs.Following.{tidied_tidies}
 use Rattle.tidy_rules.proofs.Keeping.{keeps_tidied}
 use Rattle.tidy_rules.proofs.Lowered.{lowered_regular}
-use Rattle.tidy_rules.proofs.Shape.{SameShape}
-use Rattle.tidy_rules.proofs.Tidied.{tidied_regular, tidied_shape}
+use Rattle.tidy_rules.proofs.Sizes.{KeepsShape, tidied_shape, ways_few}
+use Rattle.tidy_rules.proofs.Tidied.{tidied_regular}
 use Rattle.tidy_rules.proofs.Whole.{tidy_tight, tidied_keeps, tidied_no_addr}
 use Rattle.linear_pass.specs.Linear.{IsSlotOf, OneForEach, IsLinearOf}
 use Rattle.linear_pass.proofs.Named.{no_spare, all_homes}
@@ -46,25 +49,29 @@ module _ (p : Mach) (well : WellFormed p) (placed : FullyPlaced p) where
   is_linear r seated t =
       let keeps : KeepsReached p (lowered p) = lowered_keeps_reached p well placed in
       let first : IsRegular (lowered p) = lowered_regular p well placed seated in
-      let tidies : Tidies (lowered p) r = tidied_tidies t in
+      let tidies : Tidies (lowered p) r = tidied_tidies first t in
       let regular : IsRegular r = tidied_regular tidies first in
-      let shape : SameShape (lowered p) r = tidied_shape tidies first in
+      let shape : KeepsShape (lowered p) r = tidied_shape t first in
       let shape_lines = shape.lines in
+      let shape_labels = shape.few_labels in
+      let ways = ways_few (slot_number p) p.code in
+      let own_labels : length (labels_in (lowered p).code) ≡ length (mach_formed.labels_in p.code) = ap length (lowered_labels p) in
       let lines = lowered_lines p in
       let slots : r.slots ≡ slot_count p = shape.slots in
       record {
         made = t;
-        reached = keeps_tidied keeps tidies;
+        reached = keeps_tidied keeps first tidies;
         keeps = λ safe named exact. tidied_keeps keeps first tidies t.tidy safe named exact;
         no_addr = λ safe. tidied_no_addr keeps first tidies t.tidy safe;
         tidy = t.tidy;
         tight = tidy_tight r regular t.tidy;
         regular = regular;
         slots = subst (OneForEach p) (sym slots) (one_for_each p);
-        labels = shape.labels ∙ lowered_labels p;
+        labels = λ l among. shape.labels l (subst (λ ls. Contains ls l) (sym (lowered_labels p)) among);
+        labels_few = omega (arith, shape_labels, ways, own_labels);
         spare_dead = no_spare r regular.homes;
         named = all_homes r regular.homes;
-        lines = omega (arith, shape_lines, lines);
+        lines = omega (arith, shape_lines, lines, ways);
         slots_few = λ s size. subst (λ n. n ≤ s.registers) (sym slots) (lowered_slots p placed s size);
       }
 

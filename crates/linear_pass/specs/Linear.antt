@@ -62,16 +62,19 @@ pub record IsLinearOf (p : Mach) (r : Lin) : Type 0 where
   -- itself is for its type, and no jump leads to where control comes without it.
   pub tidy : IsTidy r
   pub tight : IsTight r
-  -- It is well formed, seated and goes forward but for exits; t0 does not occur; every walk reaches a
-  -- place with the same pushed traps.
+  -- It is well formed and seated; control comes back to a place only by an exit; t0 does not occur;
+  -- every walk reaches a place with the same pushed traps.
   pub regular : IsRegular r
   pub slots : OneForEach p r.slots
-  -- its labels are those of the Mach function, in their order
-  pub labels : labels_in r.code ≡ mach_formed.labels_in p.code
+  -- The labels of the Mach function stand in it, and at most one more for each instruction: where loops
+  -- are turned round there are others.
+  pub labels : (l : ℕ) → Contains (mach_formed.labels_in p.code) l → Contains (labels_in r.code) l
+  pub labels_few : length (labels_in r.code) ≤
+      length (mach_formed.labels_in p.code) + length p.code
   -- t0 is live nowhere after a frame point, and no descriptor names it
   pub spare_dead : (i : Line) (next : List Line) (t : Comp) → Stands i next r.code →
       LiveAt r spare t i next → ⊥
   pub named : (ds : List Descr) → AreExact r ds → All (NamesHomes r) ds
-  -- at most two lines for each instruction, and one for each try that an exit ends
-  pub lines : length r.code ≤ 2 * length p.code + tries_ended p.code
+  -- at most five lines for each instruction, and one for each try that an exit ends
+  pub lines : length r.code ≤ 5 * length p.code + tries_ended p.code
   pub slots_few : (s : Size) → HasSize p s → r.slots ≤ s.registers

@@ -12,8 +12,9 @@ use mach_ir::Mach;
 use std::alloc::{AllocError, Global};
 
 /// The Linear function of a Mach function all of whose registers have places: its operations over
-/// places, structures as labels, jumps and branches, tries as traps; then what has no use is left
-/// out (OCaml's `asmcomp/linearize.ml`).
+/// places, structures as labels, jumps and branches, tries as traps (OCaml's
+/// `asmcomp/linearize.ml`); then loops are turned round, their tests again at their ends, and what
+/// has no use is left out.
 ///
 /// The only error is want of memory, which more lines or slots than a number can count are too.
 pub fn linear(alloc: Global, mach: &Mach) -> Result<Lin, AllocError>
