@@ -9,6 +9,7 @@ use Rattle.mach_ir.specs.Placed.{FullyPlaced}
 use Rattle.mach_ir.specs.Walks.{OneOf, this}
 use Rattle.mach_ir.specs.Walks as mach_walks
 use Rattle.mach_ir.specs.declared.op.Leaving.TheVariants as leaving
+use Rattle.mach_ir.specs.declared.op.Op.{Op}
 use Rattle.mach_ir.specs.declared.op.Op.TheVariants as op
 use Rattle.mach_ir.specs.declared.reg.Reg.{Reg}
 use Rattle.mach_ir.specs.declared.mach.Mark.TheVariants as mark
@@ -16,11 +17,13 @@ use Rattle.mach_ir.specs.declared.mach.MachOp.{MachOp}
 use Rattle.mach_ir.specs.declared.mach.MachOp.TheVariants as mach
 use Rattle.mach_ir.specs.declared.mach.Instr.{Instr}
 use Rattle.mach_ir.specs.declared.mach.Mach.{Mach}
+use Rattle.lin_ir.specs.Formed as formed_lin
 use Rattle.lin_ir.specs.Formed.{labels_in, label_of, goes_to}
 use Rattle.lin_ir.specs.Keeps.{IsNamedIn}
 use Rattle.lin_ir.specs.Meaning.{has_label, after_label}
 use Rattle.lin_ir.specs.Walks.{Reached, at_entry, by_step, by_raise, targets}
 use Rattle.lin_ir.specs.Walks as walks
+use Rattle.lin_ir.specs.declared.lin.Flow.{Flow}
 use Rattle.lin_ir.specs.declared.lin.Flow.TheVariants as flow
 use Rattle.lin_ir.specs.declared.lin.LinOp.{LinOp}
 use Rattle.lin_ir.specs.declared.lin.LinOp.TheVariants as lin
@@ -38,12 +41,16 @@ use Rattle.linear_rules.proofs.Standing.{is_at}
 use Rattle.linear_rules.proofs.Walked.{Tail, tail_all, tail_more, tail_next, tail_in, tail_stands, reached_tail}
 use Rattle.tidy_rules.specs.Leaving.{LabelsBetween, none_between, label_between, IsUseless, unreached, unread, skipped, without, with_code, is_landing}
 use Rattle.tidy_rules.specs.Leaving as leaving_out
-use Rattle.tidy_rules.specs.Redirecting.{redirect, Tidies, as_it_is, then_leaves, then_redirects}
+use Rattle.tidy_rules.specs.Redirecting.{redirect, Tidies, as_it_is, then_leaves, then_redirects, then_turns}
 use Rattle.tidy_rules.specs.Regular.{IsRegular}
 use Rattle.tidy_rules.proofs.Leaving.{Comes, there, before, comes_tail, comes_line, self_goes, useless_landing, in_code}
 use Rattle.tidy_rules.proofs.Leaving as left
 use Rattle.tidy_rules.proofs.Redirecting.{line_was, op_was}
 use Rattle.tidy_rules.proofs.Redirecting as turned
+use Rattle.tidy_rules.proofs.Handlers.{handler_stands}
+use Rattle.tidy_rules.proofs.Tidied.{tidied_regular}
+use Rattle.tidy_rules.proofs.Turning as round
+use Rattle.tidy_rules.proofs.TurningLines.{From, was_line, new_line, new_flow, from_line}
 
 -- ---- tries
 
@@ -101,29 +108,46 @@ comes_shallow h (there {code = code} {tries = tries} r) = h code tries r
 comes_shallow h (before w c) = comes_shallow h c
 
 -- Walks of the tidy function come with the traps of walks of the first.
-pub tidied_shallow : {m r : Lin} (k : ℕ) → Tidies m r → IsShallow k m → IsShallow k r
-tidied_shallow k as_it_is h = h
-tidied_shallow k (then_leaves {q = q} {r = r} t l) h =
-    let more = tidied_shallow k t h in
+pub tidied_shallow : {m r : Lin} (k : ℕ) → IsRegular m → Tidies m r → IsShallow k m → IsShallow k r
+tidied_shallow k regular as_it_is h = h
+tidied_shallow k regular (then_leaves {q = q} {r = r} t l) h =
+    let more = tidied_shallow k regular t h in
     subst (IsShallow k) (sym l.is) (λ code tries x. comes_shallow more (left.source q l.goes l.each x).reached)
-tidied_shallow k (then_redirects {q = q} {r = r} t l) h =
-    let more = tidied_shallow k t h in
+tidied_shallow k regular (then_redirects {q = q} {r = r} t l) h =
+    let more = tidied_shallow k regular t h in
     subst (IsShallow k) (sym l.is) (λ code tries x. let y = turned.source q l.to l.exits l.each l.out x in more y.code tries y.reached)
+tidied_shallow k regular (then_turns {q = q} {r = r} t l) h =
+    let more = tidied_shallow k regular t h in
+    let well = (tidied_regular t regular).well in
+    subst (IsShallow k) (sym l.is) (λ code tries x. let y = round.source q r l well x in more y.code tries y.reached)
 
 -- ---- operations
 
 -- An operation of the tidy function is one of the first.
-pub tidied_named : {m r : Lin} (Named : MachOp → Type 0) → Tidies m r → IsNamedIn Named r → IsNamedIn Named m
-tidied_named Named as_it_is n = n
-tidied_named Named (then_leaves {q = q} t l) n =
-    tidied_named Named t
+pub tidied_named : {m r : Lin} (Named : MachOp → Type 0) → IsRegular m → Tidies m r → IsNamedIn Named r → IsNamedIn Named m
+tidied_named Named regular as_it_is n = n
+tidied_named Named regular (then_leaves {q = q} t l) n =
+    tidied_named Named regular t
     (let x = subst (IsNamedIn Named) l.is n in
     record { line = x.line; among = contains_of (in_code q l.goes l.each x.line q.code (in_of x.line (without l.goes q.code) x.among)); op = x.op; is = x.is; named = x.named })
-tidied_named Named (then_redirects {q = q} t l) n =
-    tidied_named Named t
+tidied_named Named regular (then_redirects {q = q} t l) n =
+    tidied_named Named regular t
     (let x = subst (IsNamedIn Named) l.is n in
     let y = line_was q l.to l.exits l.each l.out x.line q.code (in_of x.line (map (redirect l.to l.exits) q.code) x.among) in
     record { line = y.0; among = contains_of y.1; op = x.op; is = op_was q l.to l.exits l.each l.out y.0.op x.op (ap (λ (j : Line). j.op) y.2 ∙ x.is); named = x.named })
+tidied_named Named regular (then_turns {q = q} {r = r} t l) n =
+    let x = subst (IsNamedIn Named) l.is n in
+    tidied_named Named regular t (by x.line x.op x.is x.named (from_line q r l well q.code tail_all (in_of x.line (round.T q r l well q.code) x.among)))
+  where
+    well : formed_lin.WellFormed q
+    well = (tidied_regular t regular).well
+
+    no_op : (f : Flow) (g : Op) → lin.Flow f ≡ lin.Op g → ⊥
+    no_op f g e = cc
+
+    by : (j : Line) (g : Op) → j.op ≡ lin.Op g → Named (mach.Op g) → From q r l well j → IsNamedIn Named q
+    by j g e named (was_line z) = record { line = j; among = contains_of z; op = g; is = e; named = named }
+    by j g e named (new_line z) = let y = new_flow q r l well z in absurd (no_op y.0 g (sym y.1 ∙ e))
 
 -- ---- the end of the code
 
@@ -180,14 +204,6 @@ label_closed l (closes_later {i = i} {is = is} c) z = by (has_label l i.op) refl
     by true e ih = c
     by false e ih = ih (behind l i.op z e)
 
-past : {l : ℕ} {ls : List ℕ} (ks : List ℕ) → IsIn l ls → IsIn l (ks ++ ls)
-past [] z = z
-past (k ∷ ks) z = is_later (past ks z)
-
-in_whole : {l : ℕ} {ys zs : List Line} → Tail ys zs → IsIn l (labels_in ys) → IsIn l (labels_in zs)
-in_whole tail_all z = z
-in_whole (tail_more {j = j} t) z = past (label_of j.op) (in_whole t z)
-
 goes_on_closed : {i : Line} {next : List Line} → Closed (i ∷ next) → OneOf On (targets i.op) → Closed next
 goes_on_closed closes o = elim o [ ]
 goes_on_closed (closes_later c) o = c
@@ -198,8 +214,7 @@ reached_closed m regular closed (by_step r (walks.goes On o)) = goes_on_closed (
 reached_closed m regular closed (by_step {i = i} r (walks.goes (At l) o)) =
     label_closed l closed (in_of l (labels_in m.code) (regular.well.named i (contains_of (tail_in (reached_tail m r))) l (goes_to o)))
 reached_closed m regular closed (by_raise {i = i} {next = next} r (walks.raises {h = h} {tries = tries} e)) =
-    label_closed h closed
-    (in_whole (tail_next (reached_tail m r)) (in_of h (labels_in next) (regular.forward.handlers i next h tries r e)))
+    label_closed h closed (handler_stands m regular.well r)
 
 -- no walk comes to the end of the code
 abbrev pub IsUnended : Lin → Type 0
@@ -253,10 +268,17 @@ no_turned to exits [] e = refl
 no_turned to exits (i ∷ is) e = absurd (no_lines _ _ e)
 
 -- The tidy function is left as the first is.
-pub tidied_unended : {m r : Lin} → Tidies m r → IsUnended m → IsUnended r
-tidied_unended as_it_is h = h
-tidied_unended (then_leaves {q = q} t l) h = subst IsUnended (sym l.is) (leaving_unended q l.goes l.each (tidied_unended t h))
-tidied_unended (then_redirects {q = q} t l) h =
-    let more = tidied_unended t h in
+pub tidied_unended : {m r : Lin} → IsRegular m → Tidies m r → IsUnended m → IsUnended r
+tidied_unended regular as_it_is h = h
+tidied_unended regular (then_leaves {q = q} t l) h = subst IsUnended (sym l.is) (leaving_unended q l.goes l.each (tidied_unended regular t h))
+tidied_unended regular (then_redirects {q = q} t l) h =
+    let more = tidied_unended regular t h in
     subst IsUnended (sym l.is)
     (λ tries r. let y = turned.source q l.to l.exits l.each l.out r in more tries (subst (λ code. Reached q code tries) (no_turned l.to l.exits y.code y.same) y.reached))
+tidied_unended regular (then_turns {q = q} {r = r} t l) h =
+    let more = tidied_unended regular t h in
+    let well = (tidied_regular t regular).well in
+    subst IsUnended (sym l.is)
+    (λ tries x.
+    let y = round.source q r l well x in
+    more tries (subst (λ code. Reached q code tries) (round.stands_none q r l well y.stand refl) y.reached))

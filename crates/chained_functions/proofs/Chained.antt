@@ -33,6 +33,7 @@ use Rattle.linear_rules.proofs.Lines.{all_of, named_from}
 use Rattle.linear_rules.proofs.Marks.{all_in, instr}
 use Rattle.tidy_rules.specs.Redirecting.{Tidies}
 use Rattle.tidy_rules.proofs.Following.{tidied_tidies}
+use Rattle.tidy_rules.specs.Regular.{IsRegular}
 use Rattle.tidy_rules.proofs.Lowered.{lowered_regular}
 use Rattle.linear_pass.specs.Linear.{IsLinearOf}
 use Rattle.line_stands.specs.Lines as line
@@ -90,12 +91,16 @@ offset_of_line (lin.Flow f) h = tt
 
 module _ {defined : List ℕ → Option DefinedSymbol} {tree : FunctionTree} (accepted : IsAccepted defined tree) {q : Mach} (is : IsPlacedFor tree q) {m : Lin}
     (linear : IsLinearOf q m) where
+  -- the lowered function
+  first : IsRegular (lowered q)
+  first = lowered_regular q is.formed is.placed is.seated
+
   tidies : Tidies (lowered q) m
-  tidies = tidied_tidies linear.made
+  tidies = tidied_tidies first linear.made
 
   -- No more traps are pushed at a place than tries stand round one of the text.
   pub depth : (code : List Line) (traps : List ℕ) → Traps m code traps → length traps ≤ tries tree
-  depth code traps (by_walk r) = tidied_shallow (tries tree) tidies (lowered_shallow q is.formed is.placed (tries tree) is.tries) code traps r
+  depth code traps (by_walk r) = tidied_shallow (tries tree) first tidies (lowered_shallow q is.formed is.placed (tries tree) is.tries) code traps r
   depth code traps (unreached out) = omega arith
 
   offsets_fit : All (λ (i : Line). line.OffsetFits i.op) m.code
@@ -105,7 +110,7 @@ module _ {defined : List ℕ → Option DefinedSymbol} {tree : FunctionTree} (ac
       fits j z g e =
           let here : IsNamedIn (λ f. f ≡ mach.Op g) m = record { line = j; among = contains_of z; op = g; is = e; named = refl } in
           let was : kept.IsNamedIn (λ f. f ≡ mach.Op g) q =
-          named_from (slot_number q) (λ f. f ≡ mach.Op g) q (lowered q) refl (tidied_named (λ f. f ≡ mach.Op g) tidies here) in
+          named_from (slot_number q) (λ f. f ≡ mach.Op g) q (lowered q) refl (tidied_named (λ f. f ≡ mach.Op g) first tidies here) in
           subst OffsetFits was.named
           (all_in (λ (i : Instr). OffsetFits i.op) is.offsets (in_of was.instr q.code was.among))
 
@@ -143,7 +148,7 @@ module _ {defined : List ℕ → Option DefinedSymbol} {tree : FunctionTree} (ac
         spare_dead = linear.spare_dead;
         within = within fit;
         offsets = offsets_fit;
-        unended = tidied_unended tidies (lowered_unended q (lowered_regular q is.formed is.placed is.seated) is.ends);
+        unended = tidied_unended first tidies (lowered_unended q first is.ends);
         exact = made.exact;
         count = made.count;
         homes = linear.named ds made.exact;

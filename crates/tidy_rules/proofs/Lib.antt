@@ -17,6 +17,7 @@ pub mod Following
 pub mod Once
 pub mod Living
 pub mod Ends
+pub mod Handlers
 pub mod Turning
 pub mod TurningLines
 pub mod TurningDoes

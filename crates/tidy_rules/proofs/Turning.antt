@@ -25,6 +25,7 @@ use Rattle.linear_rules.proofs.Walked.{Tail, tail_all, tail_more, tail_next, tai
 use Rattle.tidy_rules.specs.Leaving.{bare, with_code}
 use Rattle.tidy_rules.specs.Turning.{Head, Turn, branch_line, tested_again, label_put, turned_line, turned_lines, ExitsToBranch, Turns}
 use Rattle.tidy_rules.proofs.Ends.{Differ, later_after, pairs_past, at_label, has_own_label, tail_past, split_in, in_left, in_right}
+use Rattle.tidy_rules.proofs.Handlers.{handler_stands}
 use Rattle.tidy_rules.proofs.Leaving.{first_same, rest_same}
 
 -- ---- lines that may be turned, or have a label put after them
@@ -234,41 +235,8 @@ module _ (m r : Lin) (h : Turns m r) (well : WellFormed m) where
   pub named_in : {i : Line} {next : List Line} {l : ℕ} → Tail (i ∷ next) m.code → OneOf (At l) (targets i.op) → IsIn l (labels_in m.code)
   named_in {i} {next} {l} w o = in_of l (labels_in m.code) (well.named i (contains_of (tail_in w)) l (goes_to o))
 
-  -- handlers that are pushed have their labels
-  data AllNamed : List ℕ → Type 0 where
-    none_named : AllNamed []
-    one_more : {l : ℕ} {ls : List ℕ} → IsIn l (labels_in m.code) → AllNamed ls → AllNamed (l ∷ ls)
-
-  all_dropped : {ts : List ℕ} (n : ℕ) → AllNamed ts → AllNamed (drop_tries n ts)
-  all_dropped zero a = a
-  all_dropped (suc n) none_named = none_named
-  all_dropped (suc n) (one_more z a) = all_dropped n a
-
-  all_after : {ts : List ℕ} (f : LinOp) → ((l : ℕ) → f ≡ lin.Flow (flow.PushTrap l) → IsIn l (labels_in m.code)) → AllNamed ts → AllNamed (tries_after f ts)
-  all_after (lin.Op f) push a = a
-  all_after (lin.Flow (flow.Label l)) push a = a
-  all_after (lin.Flow (flow.Jump l)) push a = a
-  all_after (lin.Flow (flow.Exit l)) push a = a
-  all_after (lin.Flow (flow.Branch t l)) push a = a
-  all_after (lin.Flow (flow.Switch ls)) push a = a
-  all_after (lin.Flow (flow.PushTrap l)) push a = one_more (push l refl) a
-  all_after (lin.Flow flow.PopTrap) push a = all_dropped 1 a
-  all_after (lin.Flow flow.EnterTrap) push a = a
-
-  all_behind : {l : ℕ} {ls : List ℕ} → AllNamed (l ∷ ls) → AllNamed ls
-  all_behind (one_more z a) = a
-
-  first_named : {l : ℕ} {ls : List ℕ} → AllNamed (l ∷ ls) → IsIn l (labels_in m.code)
-  first_named (one_more z a) = z
-
-  tries_named : {is : List Line} {tries : List ℕ} → Reached m is tries → AllNamed tries
-  tries_named at_entry = none_named
-  tries_named (by_step {i = i} r (walks.goes t o)) =
-      all_after i.op (λ l e. in_of l (labels_in m.code) (well.named i (contains_of (tail_in (reached_tail m r))) l (pushes e))) (tries_named r)
-  tries_named (by_raise r (walks.raises e)) = all_behind (tries_named r)
-
   pub handler_turned : {is : List Line} {l : ℕ} {tries : List ℕ} → Reached m is (l ∷ tries) → T (after_label l m.code) ≡ after_label l R.code
-  handler_turned {l = l} r = sym (label_turned l (first_named (tries_named r)))
+  handler_turned {l = l} r = sym (label_turned l (handler_stands m well r))
 
   -- ---- copies of a branch
 
