@@ -11,14 +11,14 @@ use Rattle.bs_fault.specs.declared.fault.Fault.TheVariants as fault
 use Rattle.bs_fault.specs.Limits.{longest_text}
 use Rattle.bs_fault.specs.Reported.{here, one_if, one_of, Faultless}
 use Rattle.bs_words.specs.External.{External}
-use Rattle.bs_words.specs.Fits.{data_start}
+use Rattle.bs_words.specs.Fits.{data_limit, data_start}
 use Rattle.bs_words.specs.Symbol.{IsSymbol, caml_bound_error}
 use Rattle.bs_words.specs.declared.types.Comp.{Comp}
 use Rattle.bs_words.specs.declared.types.Comp.TheVariants as comp
 use Rattle.bs_words.specs.declared.types.Ty.{Ty}
 use Rattle.bs_words.specs.declared.types.Ty.TheVariants as ty
 use Rattle.cmm_data.specs.Contents.{root_at, roots_among}
-use Rattle.cmm_data.specs.Faults.{data_limit, keeps_rule, first_fault}
+use Rattle.cmm_data.specs.Faults.{keeps_rule, first_fault}
 use Rattle.cmm_data.specs.Placement.{PlacedItem, DataSymbolTree, size_at, items_from, start_behind, end_behind, lists_behind, lists_of, items_of_lists, symbols_of}
 use Rattle.cmm_data.proofs.Steps.{end-within}
 use Rattle.cmm_data.proofs.Walk.{sound-first, sound-list, start-within}

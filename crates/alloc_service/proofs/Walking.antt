@@ -177,7 +177,7 @@ abbrev pub IsAbove : Bool → ℕ → ℕ → Type 0
 IsAbove true at b = Unit {0}
 IsAbove false at b = at ≤ b
 
--- a frame behind the first one begins in the stack
+-- a frame after the first one begins in the stack
 abbrev pub BeginsLow : Bool → ℕ → Type 0
 BeginsLow true at = Unit {0}
 BeginsLow false at = at ≤ 0x40000000

@@ -16,8 +16,9 @@ ghost use Rattle.alloc_service.specs.Forward.{IsLow, Redirects, forward, poured,
 
 use crate::forward::forward;
 use crate::stack::{STACK_END, descriptor_of};
+use bs_words::DATA_START;
 use image_form::Image;
-use rv_machine::start::{DATA_START, FILLER};
+use rv_machine::start::FILLER;
 use rv_machine::{BlockPlace, CODE_START, Memory, Table};
 
 // ---- the words of blocks

@@ -11,8 +11,8 @@ ghost use Rattle.alloc_service.specs.Forward.{root_by, roots_by};
 ghost use Rattle.alloc_service.specs.Surveyed.{stack_of};
 
 use crate::stack::{STACK_END, descriptor_of, is_frame};
+use bs_words::DATA_START;
 use image_form::{DescRow, Image};
-use rv_machine::start::DATA_START;
 use rv_machine::{CODE_START, Memory, Table};
 
 /// What stands on the stack.

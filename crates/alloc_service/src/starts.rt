@@ -14,7 +14,7 @@ pub fn half_start(half: u64) -> u64
     if half == 0 { LOWER_HALF } else { UPPER_HALF }
 }
 
-/// Adds the starts of blocks that lie one behind the other from an address on, with a gap before each.
+/// Adds the starts of blocks that lie one after the other from an address on, with a gap before each.
 pub fn add_spaced(starts: &mut Vec<u64>, gap: u64, from: u64, blocks: &[BlockPlace])
     requires room { vec_len starts.old + length blocks.now ≤ vec_capacity starts.old }
     requires gap { gap ≤ 24 }

@@ -8,13 +8,10 @@ ghost use Rattle.image_form.specs.Tables.{sym};
 ghost use Rattle.layout_rules.specs.Laid.{cell_bytes, sym_of};
 
 use crate::source::Source;
-use bs_words::{List, Name, Value};
+use bs_words::{DATA_START, List, Name, Value};
 use cmm_data::DataSymbol;
 use image_form::SymRow;
 use std::alloc::{AllocError, Global};
-
-/// The address of the first byte of static data.
-const DATA_START: u32 = 0x1000_0000;
 
 /// The row of a symbol.
 fn row(alloc: Global, symbol: &DataSymbol) -> Result<SymRow, AllocError>
@@ -22,7 +19,7 @@ fn row(alloc: Global, symbol: &DataSymbol) -> Result<SymRow, AllocError>
 {
     Ok(SymRow {
         name: Name::from_vec(Vec::from_slice(alloc, symbol.name.as_bytes())?),
-        offset: symbol.address.saturating_sub(DATA_START),
+        offset: symbol.address.saturating_sub(DATA_START as u32),
     })
 }
 
@@ -70,7 +67,7 @@ impl<'a, 'b> Source<'a, 'b> {
     {
         let mut roots = Vec::new(alloc);
         for address in self.data.roots.as_slice() {
-            roots.push(address.saturating_sub(DATA_START))?;
+            roots.push(address.saturating_sub(DATA_START as u32))?;
         }
         Ok(List::from_vec(roots))
     }

@@ -41,7 +41,7 @@ and_false : (x : Bool) → (x && false) ≡ false
 and_false true = refl
 and_false false = refl
 
--- the members behind an `insert`
+-- the members after an `insert`
 pub has-inserted : (xs : List Bool) (k j : ℕ) → k < length xs → has (set xs k true) j ≡ (has xs j || (k == j))
 has-inserted xs k j within =
     elim (cases_eq j k) [
@@ -51,7 +51,7 @@ has-inserted xs k j within =
           get_or-set_other xs k j true false ne ∙ (or_false (has xs j) ∙ ap (λ (b : Bool). has xs j || b) (sym (ne_eqb k j (λ e. ne (sym e)))))
     ]
 
--- the members behind a `remove`
+-- the members after a `remove`
 pub has-removed : (xs : List Bool) (k j : ℕ) → k < length xs → has (set xs k false) j ≡ (has xs j && not (k == j))
 has-removed xs k j within =
     elim (cases_eq j k) [

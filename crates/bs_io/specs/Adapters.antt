@@ -1,4 +1,4 @@
--- What stands behind an adapter.
+-- What stands after an adapter.
 use Rattle.bs_io.specs.declared.adapters.ReadSource.{ReadSource}
 use Rattle.bs_io.specs.declared.adapters.WriteSink.{WriteSink}
 

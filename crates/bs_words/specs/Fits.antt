@@ -13,6 +13,10 @@ use Rattle.bs_words.specs.declared.values.Value.TheVariants.{Word, Block, Functi
 abbrev pub data_start : ℕ
 data_start = 0x10000000
 
+-- the most bytes of it, the built-in list counted
+abbrev pub data_limit : ℕ
+data_limit = 16777216
+
 -- a word that the mover takes for no block: an odd one, or an address of static data
 abbrev pub is_still : ℕ → ℕ → Bool
 is_still end w = (w % 2 == 1) || (nat_le data_start w && nat_le w end)

@@ -80,7 +80,7 @@ abbrev pub cell_of_block : ℕ → ℕ → Cell
 cell_of_block serial zero = InHeader serial
 cell_of_block serial (suc index) = InBlock serial index
 
--- the cell of a block of so many cells where so many bytes, from here on behind the header's first byte,
+-- the cell of a block of so many cells where so many bytes, from here on after the header's first byte,
 -- lie in it
 abbrev pub in_block : ℕ → Option ℕ → ℕ → ℕ → Option Cell
 in_block serial None from bytes = None

@@ -5,6 +5,7 @@
 #![tactic(auto)]
 
 pub mod arithmetic;
+pub mod data;
 pub mod list;
 pub mod name;
 pub mod operators;
@@ -12,6 +13,7 @@ pub mod types;
 pub mod values;
 
 pub use arithmetic::{add, div, mul, mulh, rem, sar, sext, shl, shr, signed, sub};
+pub use data::{BOUND_ERROR, DATA_LIMIT, DATA_START};
 pub use list::List;
 pub use name::Name;
 pub use operators::{CmpOp, IntOp};

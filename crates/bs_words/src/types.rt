@@ -1,4 +1,5 @@
 //! The types of Cmm: machine components, static types, results, memory chunks and places.
+ghost use Rattle.std.specs.Prelude.{◌≡◌};
 
 /// The component of a parameter or a result. `Float` is read, and refused as a fault.
 #[derive(Clone, Copy, PartialEq, Eq, Debug)]
@@ -7,6 +8,22 @@ pub enum Comp {
     Val,
     Addr,
     Float,
+}
+
+impl Comp {
+    ghost use Rattle.bs_words.specs.Fits.{type_of_comp};
+
+    /// The type of a value with this component; no value is read as a float.
+    pub fn ty(self) -> Ty
+        ensures { result ≡ type_of_comp self }
+    {
+        match self {
+            Comp::Int => Ty::Int,
+            Comp::Val => Ty::Val,
+            Comp::Addr => Ty::Addr,
+            Comp::Float => Ty::Never,
+        }
+    }
 }
 
 /// The static type of an expression.

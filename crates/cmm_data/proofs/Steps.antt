@@ -4,13 +4,13 @@ use Rattle.std.specs.List.{cons_option}
 use Rattle.std.specs.Option.{option_to_list}
 use Rattle.std.proofs.lemmas.List.Elements.{filter_map-append}
 use Rattle.std.proofs.lemmas.Grind.{flat_map-append}
-use Rattle.bs_words.specs.Fits.{data_start}
+use Rattle.bs_words.specs.Fits.{data_limit, data_start}
 use Rattle.bs_words.specs.declared.values.Value.{Value}
 use Rattle.bs_words.specs.declared.values.Value.TheVariants as value
 use Rattle.bs_words.specs.Memory.{StaticList}
 use Rattle.cmm_tree.specs.Tree.{DatumTree, Define, Byte, Half, Int, Val, Address, Skip, Align, Text, Global, AFloat, DataItemTree, DataListTree}
 use Rattle.cmm_data.specs.Placement.{PlacedItem, PlacedList, DataSymbolTree, symbol_at, symbols_among, size_at, items_from, end_of_items, start_behind, end_behind, lists_behind, items_of_lists}
-use Rattle.cmm_data.specs.Faults.{data_limit, first_fault}
+use Rattle.cmm_data.specs.Faults.{first_fault}
 use Rattle.cmm_data.specs.Contents.{DataByte, Plain, integer, zeros, symbol_bytes, bytes_at, bytes_of_items, root_at, roots_among, static_list, cells_of}
 use Rattle.cmm_data.proofs.Walk.{sound-first}
 

@@ -1,12 +1,12 @@
--- The faults of lists one behind the other.
+-- The faults of lists one after the other.
 use Rattle.std.proofs.Common.{◌≡◌, ◌∙◌, ℕ, ◌+◌, ◌≤◌, Bool, true, false, cond, ◌&&◌, nat_le, nat_lt, List, [], ◌∷◌, ◌++◌, Option, Some, None, refl, ap, sym, arith}
 use Rattle.std.proofs.lemmas.Grind.{common_steps}
-use Rattle.bs_words.specs.Fits.{data_start}
+use Rattle.bs_words.specs.Fits.{data_limit, data_start}
 use Rattle.bs_fault.specs.declared.fault.Fault.{Fault}
 use Rattle.bs_fault.specs.declared.fault.Fault.TheVariants.{DataTooLarge, DataItem}
 use Rattle.cmm_tree.specs.Tree.{DataListTree, DataItemTree}
 use Rattle.cmm_data.specs.Placement.{PlacedItem, size_at, items_from, start_behind, end_behind, lists_behind, items_of_lists}
-use Rattle.cmm_data.specs.Faults.{data_limit, keeps_rule, fault_on, or_later, first_fault}
+use Rattle.cmm_data.specs.Faults.{keeps_rule, fault_on, or_later, first_fault}
 
 or_later-assoc : (a b c : Option Fault) → or_later a (or_later b c) ≡ or_later (or_later a b) c
 or_later-assoc None b c = refl
@@ -25,7 +25,7 @@ first_fault-next end d lists fault h =
     first_fault-append (items_from (start_behind end) d.items) (items_of_lists (lists_behind (end_behind end d) lists))
     ∙ ap (λ (f : Option Fault). or_later f (first_fault (items_of_lists (lists_behind (end_behind end d) lists)))) h
 
--- where there is none, it is the first one behind that list
+-- where there is none, it is the first one after that list
 pub first_fault-behind : (end : ℕ) (d : DataListTree) (lists : List DataListTree) →
     first_fault (items_from (start_behind end) d.items) ≡ None →
     first_fault (items_of_lists (lists_behind end (d ∷ lists))) ≡ first_fault (items_of_lists (lists_behind (end_behind end d) lists))
@@ -80,7 +80,7 @@ sound-first address i items h none =
 none-both : (a b : Option Fault) → or_later a b ≡ None → (a ≡ None) × (b ≡ None)
 none-both a b h = (none-first a b h, none-later a b h)
 
--- the next list has no fault, nor have those behind it
+-- the next list has no fault, nor have those after it
 pub sound-list : (end : ℕ) (d : DataListTree) (lists : List DataListTree) →
     first_fault (items_of_lists (lists_behind end (d ∷ lists))) ≡ None →
     (first_fault (items_from (start_behind end) d.items) ≡ None)

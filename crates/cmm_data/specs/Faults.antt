@@ -1,6 +1,6 @@
 -- What is wrong with static data: it is too large, or an item breaks its rule.
 use Rattle.std.specs.Prelude.{◌≡◌, ℕ, ◌+◌, ◌%◌, Bool, true, cond, ◌&&◌, not, ◌==◌, nat_lt, nat_le, List, [], ◌∷◌, Option, Some, None, pos, negsuc, int_le, ℤ}
-use Rattle.bs_words.specs.Fits.{data_start}
+use Rattle.bs_words.specs.Fits.{data_start, data_limit}
 use Rattle.bs_words.specs.Word.{signed_of}
 use Rattle.bs_fault.specs.declared.fault.Fault.{Fault}
 use Rattle.bs_fault.specs.declared.fault.Fault.TheVariants.{DataTooLarge, DataItem}
@@ -8,11 +8,7 @@ use Rattle.bs_fault.specs.FaultLines.{fault_place}
 use Rattle.cmm_tree.specs.Tree.{DatumTree, Byte, Half, Val, Address, Skip, Align, FileTree}
 use Rattle.cmm_data.specs.Placement.{PlacedItem, placed_items, size_at, is_unit, is_negative}
 
--- the most bytes of static data, the built-in list counted
-abbrev pub data_limit : ℕ
-data_limit = 16777216
-
--- whether the data passes its limit with this item: it does not pass it before the item, and does behind it
+-- whether the data passes its limit with this item: it does not pass it before the item, and does after it
 abbrev pub passes_limit : PlacedItem → Bool
 passes_limit i =
     nat_le i.address (data_start + data_limit) && nat_lt (data_start + data_limit) (i.address + size_at i.address i.datum)

@@ -59,7 +59,7 @@ pub record PlacedItem : Type 0 where
   pub address : ℕ
   pub datum : DatumTree
 
--- items one behind the other, from an address on
+-- items one after the other, from an address on
 abbrev pub items_from : ℕ → List DataItemTree → List PlacedItem
 items_from address [] = []
 items_from address (i ∷ items) =
@@ -76,14 +76,14 @@ pub record PlacedList : Type 0 where
   pub end : ℕ
   pub items : List PlacedItem
 
--- a list begins at the next multiple of 8 behind the end of the data before it
+-- a list begins at the next multiple of 8 after the end of the data before it
 abbrev pub start_behind : ℕ → ℕ
 start_behind end = end + to_multiple end 8
 
 abbrev pub end_behind : ℕ → DataListTree → ℕ
 end_behind end d = end_of_items (start_behind end) d.items
 
--- lists in order, behind the end of the data before them
+-- lists in order, after the end of the data before them
 abbrev pub lists_behind : ℕ → List DataListTree → List PlacedList
 lists_behind end [] = []
 lists_behind end (d ∷ lists) =
@@ -152,11 +152,11 @@ definition_of_data s = record { name = s.name; value = value.Word s.address }
 abbrev pub defined_at : ℕ → List DataItemTree → List Definition
 defined_at address items = map definition_of_data (symbols_among (items_from address items))
 
--- what a list behind this end of the data defines
+-- what a list after this end of the data defines
 abbrev pub defined_by_list : ℕ → DataListTree → List Definition
 defined_by_list end d = defined_at (start_behind end) d.items
 
--- what items of a file define, behind so many functions and behind the end of the data before them
+-- what items of a file define, after so many functions and after the end of the data before them
 abbrev pub defined_from : ℕ → ℕ → List ItemTree → List Definition
 defined_from functions end [] = []
 defined_from functions end (AFunction f ∷ items) =

@@ -3,12 +3,12 @@ ghost use Rattle.std.specs.Prelude.{◌≡◌, ◌+◌, ◌%◌, ◌≤◌, ◌<
 ghost use Rattle.bs_words.specs.Contents.{contents};
 ghost use Rattle.cmm_tree.specs.View.{file_view, data_item_view, datum_view};
 ghost use Rattle.cmm_data.specs.Placement.{items_from, end_of_items};
-ghost use Rattle.cmm_data.specs.Faults.{data_limit, is_within, keeps_rule, fault_on, first_fault, data_fault_of};
-ghost use Rattle.bs_words.specs.Fits.{data_start};
+ghost use Rattle.cmm_data.specs.Faults.{is_within, keeps_rule, fault_on, first_fault, data_fault_of};
+ghost use Rattle.bs_words.specs.Fits.{data_limit, data_start};
 
-use crate::size::{DATA_LIMIT, DATA_START, is_negative, is_unit, size_at, start_behind};
+use crate::size::{is_negative, is_unit, size_at, start_behind};
 use bs_fault::Fault;
-use bs_words::signed;
+use bs_words::{DATA_LIMIT, DATA_START, signed};
 use cmm_tree::{DataItem, Datum, File, Item};
 
 /// The first fault of the static data of a file, in the order of its text: the item with which the data
@@ -73,6 +73,9 @@ fn keeps_rule(address: u64, datum: &Datum) -> bool
         Datum::Address { .. } => address % 8 == 0,
         Datum::Skip(Some(count)) => !is_negative(*count),
         Datum::Align(Some(unit)) => is_unit(*unit),
-        _ => true,
+        Datum::Byte(None) | Datum::Half(None) | Datum::Val(None) => true,
+        Datum::Skip(None) | Datum::Align(None) => true,
+        Datum::Define(_) | Datum::Int(_) | Datum::Text(_) | Datum::Global { .. } | Datum::Float =>
+            true,
     }
 }

@@ -142,12 +142,15 @@ impl Filling {
             Datum::Val(word) => self.put_integer(8, *word),
             Datum::Address { name, .. } => self.put_symbol(symbols.value_of(name.as_bytes())),
             Datum::Text(bytes) => self.put_bytes(bytes.as_slice()),
-            _ => self.put_zeros(size_at(address, datum)),
+            Datum::Define(_) | Datum::Skip(_) | Datum::Align(_) => {
+                self.put_zeros(size_at(address, datum))
+            }
+            Datum::Global { .. } | Datum::Float => self.put_zeros(size_at(address, datum)),
         }
     }
 }
 
-/// The byte at the index, or 0 behind the last one.
+/// The byte at the index, or 0 after the last one.
 fn byte_at(bytes: &[u8], index: usize) -> u8
     ensures { result ≡ slice_index bytes.now index }
 {

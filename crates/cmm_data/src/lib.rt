@@ -14,5 +14,4 @@ mod symbols;
 pub use data_map::{DataCells, DataMap, DataSymbol};
 pub use fault::data_fault;
 pub use place::place_data;
-pub use size::{DATA_LIMIT, DATA_START};
-pub use symbols::{BOUND_ERROR, SymbolTable};
+pub use symbols::SymbolTable;

@@ -1,20 +1,20 @@
 //! Where static data lies, and what its cells hold.
 ghost use Rattle.std.specs.Prelude.{◌≡◌, ◌%◌, ◌+◌, ◌<◌, ◌≤◌, ◌^◌, ◌++◌, [], ◌∷◌, None, map, IfOk};
 ghost use Rattle.std.specs.Option.{option_to_list};
-ghost use Rattle.bs_words.specs.Fits.{data_start};
+ghost use Rattle.bs_words.specs.Fits.{data_limit, data_start};
 ghost use Rattle.cmm_tree.specs.View.{file_view, data_item_view, datum_view};
 ghost use Rattle.cmm_data.specs.Placement.{items_from, end_of_items, symbol_at, symbols_among};
 ghost use Rattle.bs_words.specs.Symbol.{caml_bound_error};
-ghost use Rattle.cmm_data.specs.Faults.{data_limit, first_fault, data_fault_of};
+ghost use Rattle.cmm_data.specs.Faults.{first_fault, data_fault_of};
 ghost use Rattle.cmm_data.specs.Contents.{static_list, is_root_datum, root_at, roots_among};
 ghost use Rattle.cmm_data.specs.Symbols.{value_in};
 ghost use Rattle.cmm_data.specs.Map.{symbol_view, cells_view, IsMapOf};
 
 use crate::data_map::{DataCells, DataMap, DataSymbol};
 use crate::filling::Filling;
-use crate::size::{DATA_START, size_at, start_behind};
-use crate::symbols::{BOUND_ERROR, SymbolTable};
-use bs_words::{List, Name, Value};
+use crate::size::{size_at, start_behind};
+use crate::symbols::SymbolTable;
+use bs_words::{BOUND_ERROR, DATA_START, List, Name, Value};
 use cmm_tree::{DataItem, Datum, File, Item};
 use std::alloc::{AllocError, Global};
 
@@ -160,6 +160,8 @@ fn is_root(datum: &Datum) -> bool
     match datum {
         Datum::Val(_) => true,
         Datum::Address { root, .. } => *root,
-        _ => false,
+        Datum::Define(_) | Datum::Byte(_) | Datum::Half(_) | Datum::Int(_) => false,
+        Datum::Skip(_) | Datum::Align(_) | Datum::Text(_) => false,
+        Datum::Global { .. } | Datum::Float => false,
     }
 }

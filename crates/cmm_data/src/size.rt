@@ -7,12 +7,6 @@ ghost use Rattle.cmm_data.specs.Placement.{to_multiple, is_unit, is_negative, sk
 use bs_words::signed;
 use cmm_tree::Datum;
 
-/// The address of the first byte of static data.
-pub const DATA_START: u64 = 0x1000_0000;
-
-/// The most bytes of static data, the built-in list counted.
-pub const DATA_LIMIT: u64 = 16_777_216;
-
 /// From an address to the next multiple of a unit.
 pub(crate) fn to_multiple(address: u64, unit: u64) -> u64
     requires { 0 < unit }
@@ -89,7 +83,7 @@ fn align_size(address: u64, unit: Option<u64>) -> u64
     }
 }
 
-/// Where a list behind this end of the data begins: at the next multiple of 8.
+/// Where a list after this end of the data begins: at the next multiple of 8.
 pub(crate) fn start_behind(end: u64) -> u64
     requires { end < 2 ^ 63 }
     ensures { result ≡ start_behind end }

@@ -1,19 +1,16 @@
 //! The values of the symbols of a file.
 ghost use Rattle.std.specs.Prelude.{◌≡◌, ◌+◌, ◌≤◌, [], ◌∷◌, None, map, IfOk};
 ghost use Rattle.std.specs.Option.{option_to_list};
-ghost use Rattle.bs_words.specs.Fits.{data_start};
+ghost use Rattle.bs_words.specs.Fits.{data_limit, data_start};
 ghost use Rattle.cmm_tree.specs.View.{file_view, data_item_view, datum_view};
 ghost use Rattle.cmm_data.specs.Placement.{items_from, end_of_items, symbol_at, definition_of_data, defined_at};
-ghost use Rattle.cmm_data.specs.Faults.{data_limit, first_fault, data_fault_of};
+ghost use Rattle.cmm_data.specs.Faults.{first_fault, data_fault_of};
 
-use crate::size::{DATA_START, size_at, start_behind};
-use bs_words::Value;
+use crate::size::{size_at, start_behind};
+use bs_words::{BOUND_ERROR, DATA_START, Value};
 use cmm_tree::{DataItem, Datum, File, Item};
 use std::alloc::{AllocError, Global};
 use std::collections::BTreeMap;
-
-/// The symbol of the built-in list, which a failed test of an index raises.
-pub const BOUND_ERROR: &[u8] = b"caml_bound_error";
 
 /// The symbols of a file and what they stand for: a function by its number among the file's functions, or
 /// the address of static data. Of a symbol that is defined twice it has the first definition in the text.
@@ -77,7 +74,9 @@ impl<'a> SymbolTable<'a> {
     {
         match datum {
             Datum::Define(name) => self.define(name.as_bytes(), Value::Word(address)),
-            _ => Ok(()),
+            Datum::Byte(_) | Datum::Half(_) | Datum::Int(_) | Datum::Val(_) => Ok(()),
+            Datum::Address { .. } | Datum::Skip(_) | Datum::Align(_) | Datum::Text(_) => Ok(()),
+            Datum::Global { .. } | Datum::Float => Ok(()),
         }
     }
 

@@ -34,7 +34,7 @@ value_same (Exits label values h w) f g p = refl
 value_same (Raises v h w) f g p = refl
 value_same (Stops why w) f g p = refl
 
--- the item at an index, and those behind it
+-- the item at an index, and those after it
 pub from_here : {A : Type 0} (xs : List A) (i : ℕ) (x : A) → i < length xs → x ≡ get_or xs i x → drop i xs ≡ x ∷ drop (i + 1) xs
 from_here xs i x lt this =
     drop-cons xs i x lt ∙ ap (λ y. y ∷ drop (suc i) xs) (sym this) ∙ ap (λ k. x ∷ drop k xs) (sym (add-one i))

@@ -110,7 +110,7 @@ operated_by s (form.Exit' label_at label shape arguments) tail callee values h w
 operated_by s _ tail callee values h w = improper w
 
 -- the operands that are left, last to first, and what they have come to before, last to first; and the values
--- of those behind them, first to last
+-- of those after them, first to last
 abbrev pub fills_in : Surroundings → Form → Bool
     → Option Value → List Expr → List (Option Value) → List Value
     → Here → World → Evaluation
@@ -139,7 +139,7 @@ after_waiting s (form.App' p at type callee shape arguments result result_at) ta
 after_waiting s f tail before h w =
     fills_in s f tail None (reverse (operands_of f)) (reverse before) [] h w
 
--- the operands that are left, last to first, and what those behind them have come to, first to last
+-- the operands that are left, last to first, and what those after them have come to, first to last
 abbrev pub waits_for : Surroundings → Form → Bool → List Expr → List (Option Value) → Here → World → Evaluation
 waits_for s f tail [] before h w = after_waiting s f tail before h w
 waits_for s f tail (e ∷ operands) before h w =

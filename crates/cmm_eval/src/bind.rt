@@ -15,7 +15,7 @@ use crate::here::Here;
 use crate::machine::Machine;
 use bs_words::{Kind, Ty, Value};
 use cmm_tree::{Binding, Declared, Form, Param};
-use cmm_values::{fits, misfit, type_of_comp};
+use cmm_values::{fits, misfit};
 use std::alloc::AllocError;
 
 impl<'a> Machine<'a> {
@@ -68,7 +68,7 @@ fn type_bound(declared: &Option<Declared>, ty: Ty) -> Ty
 {
     match declared {
         None => ty,
-        Some(declared) => type_of_comp(declared.comp),
+        Some(declared) => declared.comp.ty(),
     }
 }
 
@@ -90,7 +90,7 @@ pub(crate) fn fit_parameters(end: u64, params: &[Param], values: &[Value]) -> bo
         return false;
     }
     for (param, value) in params.iter().zip(values) {
-        if !fits(end, type_of_comp(param.comp), *value) {
+        if !fits(end, param.comp.ty(), *value) {
             return false;
         }
     }
@@ -104,7 +104,7 @@ pub(crate) fn first_misfit(end: u64, params: &[Param], values: &[Value]) -> Opti
         or_improper result w go ≡ entered end (params_view params.now) values.now w go }
 {
     for (param, value) in params.iter().zip(values) {
-        let ty = type_of_comp(param.comp);
+        let ty = param.comp.ty();
         if !fits(end, ty, *value) {
             return Some(misfit(ty));
         }
@@ -125,7 +125,7 @@ pub(crate) fn bind_params<'a>(
         (params_view params.entry.now)) values.now (here_view here.old)) }
 {
     for (param, value) in params.iter().zip(values) {
-        here.bind(&param.name, type_of_comp(param.comp), false, *value)?;
+        here.bind(&param.name, param.comp.ty(), false, *value)?;
     }
     Ok(())
 }

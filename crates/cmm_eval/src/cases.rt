@@ -62,7 +62,7 @@ fn takes(handler: &Handler, within: bool, label: &Label) -> bool
     ensures { result ≡ (same_label (label_view label.now) (label_view handler.now.label) && not
         (is_bare (label_view label.now) && within)) }
 {
-    same_label(label, &handler.label) && is_visible(within, label)
+    label.same(&handler.label) && is_visible(within, label)
 }
 
 fn is_visible(within: bool, label: &Label) -> bool
@@ -71,20 +71,6 @@ fn is_visible(within: bool, label: &Label) -> bool
     match label {
         Label::Bare => !within,
         Label::Named(_) | Label::Done | Label::Again => true,
-    }
-}
-
-fn same_label(label: &Label, other: &Label) -> bool
-    ensures { result ≡ same_label (label_view label.now) (label_view other.now) }
-{
-    match label {
-        Label::Named(name) => match other {
-            Label::Named(other) => name.same(other),
-            Label::Bare | Label::Done | Label::Again => false,
-        },
-        Label::Bare => matches!(other, Label::Bare),
-        Label::Done => matches!(other, Label::Done),
-        Label::Again => matches!(other, Label::Again),
     }
 }
 

@@ -8,7 +8,7 @@ use Rattle.cmm_grammar.specs.Faults.{Unexpected, TooDeep, EndsInside, Stands}
 use Rattle.cmm_grammar.specs.Reading.{Outcome, Read, Stops, Stuck, Deep, items_at}
 use Rattle.cmm_grammar.proofs.Places.{begins_less, items_begin, read_items, stuck_end, stuck_token, deep_token}
 
--- a text begins with the tokens before, and none with this one behind them, where parentheses nest no deeper than they may
+-- a text begins with the tokens before, and none with this one after them, where parentheses nest no deeper than they may
 pub record Bars (before : List TokenTree) (bad : TokenTree) : Type 0 where
   pub so_far : Begins nesting before
   pub no_further : Begins nesting (before ++ (bad ∷ [])) → ⊥

@@ -69,7 +69,7 @@ forms_sound fine (suc n) e less at = sound AnExpression (form at) e (fine e at) 
 pub shortens : FineForms → (s : Sort) (d : ℕ) (r : Rule s) → Solid r → Fine r d → Shortens (reads r d)
 shortens forms s d r solid fine = solid_shortens s d r solid (sound s r d fine (forms_sound forms d))
 
--- the lists begin again behind the first
+-- the lists begin again after the first
 pub fine_again : (s t : Sort) (d : ℕ) (stop : TokenTree → Bool) (r : Rule s) (k : List (Value s) → Rule t) (a : Value s)
     → Fine (Until s t stop r k) d
     → Fine (Until s t stop r (λ v. k (a ∷ v))) d
@@ -142,7 +142,7 @@ not_labelled_read s t d r k other e (o ∷ []) [] is h one = bind_on _ _ e [] on
 not_labelled_read s t d r k other e (o ∷ []) (n ∷ rest) is h one =
     cond_off (is_open o && is_name n) _ _ (ap (λ v. v && is_name n) (alone_closed d o e h)) ∙ bind_on _ _ e (n ∷ rest) one
 
--- the rest of the tokens, behind those of two parts
+-- the rest of the tokens, after those of two parts
 behind_two : {A : Type 0} (o : Reader A) (xs ys rest : List TokenTree) → o ((xs ++ ys) ++ rest) ≡ o (xs ++ (ys ++ rest))
 behind_two o xs ys rest = ap o (append_assoc xs ys rest)
 

@@ -1,4 +1,4 @@
--- What may be finished: from nothing, and behind what was spelled.
+-- What may be finished: from nothing, and after what was spelled.
 use Rattle.std.proofs.Common.{◌≡◌, ℕ, zero, suc, Bool, true, false, cond, not, List, [], ◌∷◌, ◌++◌, Some, None, refl, sym, subst}
 use Rattle.std.proofs.lemmas.List.{append-nil}
 use Rattle.cmm_lex.specs.Token.{TokenTree}

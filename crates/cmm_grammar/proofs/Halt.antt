@@ -82,7 +82,7 @@ wrapped s t e r f q xs before forced x wrap =
       spells = subst (λ (v : List TokenTree). Spells t f q g.value v) (regroup xs before forced x.more g.more) g.spells;
     }
 
--- reading stops in a part, behind tokens that were read
+-- reading stops in a part, after tokens that were read
 pub behind : (s t : Sort) (d : ℕ) (r : Rule s) (q : Rule t) (why : Why) (xs ts middle : List TokenTree) (left : ℕ)
     → ts ≡ xs ++ middle
     → Halted s d r why middle left

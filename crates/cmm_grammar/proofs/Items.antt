@@ -49,7 +49,7 @@ items_next d two t ts =
     next_step (reads an_item d) (item_short d two) (length ts) (suc (length ts)) (reads an_item d (t ∷ ts))
     (λ i rest e. let l = item_short d two (t ∷ ts) i rest e in omega (arith, l))
 
--- behind an item
+-- after an item
 items_past : (d : ℕ) → 2 ≤ d → (i : ItemPart) (xs : List TokenTree) → Spells AnItem d an_item i xs → (ws : List TokenTree)
     → items_at d (xs ++ ws) ≡ bind (items_at d ws) (before_others (length xs) i)
 items_past d two i [] h ws = absurd (omega (arith, solid_some AnItem d an_item i [] h item_solid))

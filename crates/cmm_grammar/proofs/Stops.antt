@@ -68,7 +68,7 @@ too_deep s q u us why left fine is stops f p =
     let x = stops_inj Deep why (suc (length us)) left p in
     halted_as s 0 q Deep why (u ∷ us) (suc (length us)) left (at_too_deep s q u us fine is stops f) x.0 x.1
 
--- ---- one token, and one rule behind another
+-- ---- one token, and one rule after another
 
 pub one_halts : (s : Sort) (d : ℕ) (f : TokenTree → Option (Value s)) → AllFine s d (One s f) → Halts s d (One s f)
 one_halts s d f fine [] why left p = at_end s d (One s f) why left fine (λ e l. refl) p
@@ -101,7 +101,7 @@ then_halts forms s t d r k fine so one next ts why left p = go (bind_stops (read
 a_close_bracket : TokenTree
 a_close_bracket = of_kind (kind.Sign sign.CloseBracket)
 
--- behind an opening bracket stands none that closes it
+-- after an opening bracket stands none that closes it
 bracket_stop : (d : ℕ) (t : TokenTree) (cs : List TokenTree) → is_open_bracket t ≡ true
     → ((zs : List TokenTree) → Alike cs zs → bracket_at t.at zs ≡ Stops Stuck (length zs))
     → Halted AnExpression d Expr Stuck (t ∷ cs) (length cs)

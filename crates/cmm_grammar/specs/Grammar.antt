@@ -1,6 +1,6 @@
 -- The grammar of Cmm texts: what stands in each form, and the tree that it gives.
 --
--- A star in a comment is any number, a plus at least one. A rule that stands behind a parenthesis holds the
+-- A star in a comment is any number, a plus at least one. A rule that stands after a parenthesis holds the
 -- one that closes it too.
 use Rattle.std.specs.Prelude.{ℕ, Bool, true, false, List, [], ◌∷◌, Option, Some, None, option_map, is_some}
 use Rattle.bs_words.specs.declared.types.Chunk.{Chunk}
@@ -178,7 +178,7 @@ chunk_rest starts.Signed k = do
   k (Some (signed_chunk w))
 chunk_rest starts.Float k = k None
 
--- the rest behind a chunk, or behind none, which is val
+-- the rest after a chunk, or after none, which is val
 unfoldable pub chunked : (Option Chunk → ℕ → Rule AnExpression) → Option (TokenTree × ChunkWord) → Rule AnExpression
 chunked rest None = rest (Some chunk.Val) 0
 chunked rest (Some w) = chunk_rest w.1 (λ chunk. rest chunk w.0.at)
@@ -269,7 +269,7 @@ case_body numbers = do
     end ← a_token ends_case
     give (record { indexes = numbers; body = sequence e es; goes_on = is_case end }))
 
--- what stands behind the first `case` of a case: integer : (case integer :)* expr+, and the next `case`, or )
+-- what stands after the first `case` of a case: integer : (case integer :)* expr+, and the next `case`, or )
 unfoldable pub a_case : Rule ACase
 a_case = do
   i ← case_number
@@ -298,7 +298,7 @@ parameters = until is_close a_parameter (λ ps. do
   close
   give ps)
 
--- behind the name of a labelled handler: param* )
+-- after the name of a labelled handler: param* )
 unfoldable pub label_rest : TokenTree → Rule ALabel
 label_rest name = do
   ps ← parameters
@@ -328,7 +328,7 @@ unfoldable pub more_handlers : Bool → Rule (Listed AHandler)
 more_handlers true = repeat (λ (h : HandlerPart). h.goes_on) next_handler
 more_handlers false = give []
 
--- behind the first label: its handler, and those that `and` joins to it
+-- after the first label: its handler, and those that `and` joins to it
 unfoldable pub labelled_handlers : ℕ → Expression → HeadPart → Rule AnExpression
 labelled_handlers at body label = do
   h ← handler_rest label
@@ -339,7 +339,7 @@ labelled_handlers at body label = do
 abbrev pub bare_catch : ℕ → Expression → Expression → Expression
 bare_catch at body handler = Catch at body (Handle (place_of handler) Bare [] handler NoHandler)
 
--- behind the first expression of a handler without a label: expr* )
+-- after the first expression of a handler without a label: expr* )
 unfoldable pub bare_handler : ℕ → Expression → Expression → Rule AnExpression
 bare_handler at body e = do
   es ← operands
@@ -371,7 +371,7 @@ try_form at = do
   handler ← sequence_to_close
   give (Try at body name.at name.text handler)
 
--- what stands behind the word of a form that opens at this place
+-- what stands after the word of a form that opens at this place
 unfoldable pub form_of : ℕ → ℕ → Head → Rule AnExpression
 form_of at word_at head.Let = let_form at a_binding
 form_of at word_at head.Letmut = let_form at a_mutable_binding

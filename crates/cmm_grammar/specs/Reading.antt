@@ -93,7 +93,7 @@ one_by f (t ∷ ts) = given (f t) ts
 abbrev pub Forms : Type 0
 Forms = ℕ → ℕ → Reader Expression
 
--- one level deeper, behind the parenthesis; at the last level its place is too deep
+-- one level deeper, after the parenthesis; at the last level its place is too deep
 abbrev pub deeper : {A : Type 0} → ℕ → (ℕ → Forms → Reader A) → Forms → Reader A
 deeper zero inner forms ts = Stops Deep (suc (length ts))
 deeper (suc d) inner forms ts = inner d (λ j. forms (suc j)) ts

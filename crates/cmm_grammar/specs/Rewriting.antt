@@ -4,7 +4,7 @@ use Rattle.bs_words.specs.declared.operators.IntOp.TheVariants as op
 use Rattle.bs_words.specs.declared.types.Chunk.{Chunk}
 use Rattle.cmm_tree.specs.Tree.{Expression, NoMore, More, NoHandler, Handle, LabelTree, Done, Again, Integer, Operator, Load, Store, Catch, Exit, Seq, If, Nothing}
 
--- ---- arrays: the address of element i is the array's where i is the integer 0, lies a known offset behind it
+-- ---- arrays: the address of element i is the array's where i is the integer 0, lies a known offset after it
 -- where i is another integer, and else an offset that is computed
 
 abbrev pub element_by : ℕ → Expression → ℕ → Expression

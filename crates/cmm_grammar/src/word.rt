@@ -1,7 +1,7 @@
 //! What the words of the grammar begin.
 use bs_words::{Chunk, IntOp};
 
-/// What the word behind a parenthesis begins, of the forms of expressions.
+/// What the word after a parenthesis begins, of the forms of expressions.
 #[derive(Clone, Copy)]
 pub enum Head {
     Let,

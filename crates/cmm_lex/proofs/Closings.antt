@@ -6,7 +6,7 @@ use Rattle.cmm_lex.specs.Scanning.{behind_string, behind_comments, behind_braces
 use Rattle.cmm_lex.specs.Strings.{IsEscape, letter, code, IsInside, closing, plain, escape}
 use Rattle.cmm_lex.proofs.Escapes.{plain-on, code-plain}
 
--- bytes up to the end, and those behind
+-- bytes up to the end, and those after
 pub record Closed (P : List ℕ → Type 0) (bytes rest : List ℕ) : Type 0 where
   pub inside : List ℕ
   pub ends : P inside

@@ -3,7 +3,7 @@ use Rattle.std.proofs.Common.{◌≡◌, ℕ, ◌+◌, ◌-◌, ◌≤◌, ◌<�
 use Rattle.cmm_lex.specs.Scanning.{behind_comments, comment_step}
 use Rattle.cmm_lex.proofs.Pairs.{some_pair}
 
--- what is behind the comments, and what is left and open
+-- what is after the comments, and what is left and open
 pub record StepTo (n : ℕ) (bytes : List ℕ) (m : ℕ) (rest : List ℕ) : Type 0 where
   pub same : behind_comments n bytes ≡ behind_comments m rest
   pub shorter : length rest < length bytes

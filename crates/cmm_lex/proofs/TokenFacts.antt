@@ -19,7 +19,7 @@ sign-spelled s text (is_sign u t e) = e
 
 -- ---- places
 
--- tokens that stand one behind the other between two places, each with a byte at least
+-- tokens that stand one after the other between two places, each with a byte at least
 pub data Rising (last : ℕ) : ℕ → List TokenTree → Type 0 where
   none : (first : ℕ) → first ≤ last → Rising last first []
   one : (first : ℕ) (t : TokenTree) (ts : List TokenTree)

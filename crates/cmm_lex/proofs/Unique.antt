@@ -417,7 +417,7 @@ stop-same f g e = cc
 abbrev Same : List TokenTree → Option Fault → List TokenTree → Option Fault → Type 0
 Same ts f us g = (ts ≡ us) × (f ≡ g)
 
--- behind a gap
+-- after a gap
 gap-same : (at : ℕ) (bytes text rest : List ℕ) (ts us : List TokenTree) (f g : Option Fault)
     → bytes ≡ text ++ rest
     → move at (text ++ rest) ≡ Skip (length text)
@@ -450,7 +450,7 @@ token-cons at k j text text' ts us kinds texts tails =
     (subst (λ (v : List ℕ). ◌≡◌ {A = List TokenTree} (record { at = at; kind = k; text = text } ∷ ts) (record { at = at; kind = k; text = v } ∷ us)) texts
     (ap (λ (v : List TokenTree). record { at = at; kind = k; text = text } ∷ v) tails))
 
--- behind a token
+-- after a token
 token-same : (at : ℕ) (k : TokenKind) (bytes text rest : List ℕ) (ts us : List TokenTree) (f g : Option Fault)
     → bytes ≡ text ++ rest
     → move at (text ++ rest) ≡ Take k (length text)

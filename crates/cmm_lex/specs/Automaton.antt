@@ -171,7 +171,7 @@ is_dead (Operator part) = false
 is_dead (Done k) = false
 is_dead Dead = true
 
--- the state behind these bytes
+-- the state after these bytes
 abbrev pub run : State → List ℕ → State
 run s [] = s
 run s (b ∷ bs) = run (after s b) bs

@@ -16,7 +16,7 @@ opening AString = 34 ∷ []
 opening AComment = 40 ∷ 42 ∷ []
 opening Braces = 123 ∷ []
 
--- The bytes of a string behind its opening quote, up to the closing one: a backslash takes the byte after
+-- The bytes of a string after its opening quote, up to the closing one: a backslash takes the byte after
 -- it along.
 pub data EndsString : List ℕ → Type 0 where
   quote : EndsString (34 ∷ [])
@@ -35,12 +35,12 @@ pub data EndsComments : ℕ → List ℕ → Type 0 where
       → EndsComments (n + 1) bytes
       → EndsComments (n + 1) (b ∷ bytes)
 
--- The bytes of a text in braces behind its `{`, up to the next `}`.
+-- The bytes of a text in braces after its `{`, up to the next `}`.
 pub data EndsBraces : List ℕ → Type 0 where
   brace : EndsBraces (125 ∷ [])
   brace_byte : (b : ℕ) (bytes : List ℕ) → (b ≡ 125 → ⊥) → EndsBraces bytes → EndsBraces (b ∷ bytes)
 
--- the bytes behind the opening, up to the end
+-- the bytes after the opening, up to the end
 abbrev pub Ends : Enclosed → List ℕ → Type 0
 Ends AString inside = EndsString inside
 Ends AComment inside = EndsComments 1 inside

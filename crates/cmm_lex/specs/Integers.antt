@@ -33,7 +33,7 @@ largest_decimal false = 2 ^ 63 - 1
 abbrev pub decimal_word : Bool → List ℕ → Option ℕ
 decimal_word negative text = word_up_to (largest_decimal negative) negative (number_after 10 0 (decimal_digits text))
 
--- behind the sign: `0x`, `0o` and `0b` begin digits of a base, all else is decimal
+-- after the sign: `0x`, `0o` and `0b` begin digits of a base, all else is decimal
 abbrev pub unsigned_value : Bool → List ℕ → Option ℕ
 unsigned_value negative (first ∷ letter ∷ digits) =
     cond (letter == 120) (based_word 16 negative digits)

@@ -76,7 +76,7 @@ abbrev pub first_range : List TokenTree → Option Fault
 first_range [] = None
 first_range (t ∷ ts) = cond (is_out_of_range t.kind t.text) (Some (IntRange t.at)) (first_range ts)
 
--- the place behind the last byte of a token
+-- the place after the last byte of a token
 abbrev pub end_of : TokenTree → ℕ
 end_of t = t.at + length t.text
 

@@ -21,13 +21,13 @@ use Rattle.cmm_lex.specs.Lexing.{IsGap, IsFault, is_out_of_range}
 use Rattle.cmm_lex.specs.Strings.{coded, is_code, escaped, IsInside}
 use Rattle.cmm_lex.specs.Tokens.{IsToken, Longest}
 
--- the bytes behind a string's closing quote
+-- the bytes after a string's closing quote
 abbrev pub behind_string : List ℕ → Option (List ℕ)
 behind_string [] = None
 behind_string (b ∷ []) = cond (b == 34) (Some []) None
 behind_string (b ∷ c ∷ bs) = cond (b == 34) (Some (c ∷ bs)) (cond (b == 92) (behind_string bs) (behind_string (c ∷ bs)))
 
--- the bytes behind so many open comments
+-- the bytes after so many open comments
 abbrev pub behind_comments : ℕ → List ℕ → Option (List ℕ)
 behind_comments zero bytes = Some bytes
 behind_comments (suc n) [] = None
@@ -36,7 +36,7 @@ behind_comments (suc n) (b ∷ c ∷ bs) =
     cond (b == 40 && c == 42) (behind_comments (suc (suc n)) bs)
     (cond (b == 42 && c == 41) (behind_comments n bs) (behind_comments (suc n) (c ∷ bs)))
 
--- the bytes behind the next `}`
+-- the bytes after the next `}`
 abbrev pub behind_braces : List ℕ → Option (List ℕ)
 behind_braces [] = None
 behind_braces (b ∷ bs) = cond (b == 125) (Some bs) (behind_braces bs)
@@ -57,12 +57,12 @@ comment_step n (b ∷ []) = Some (n, [])
 comment_step n (b ∷ c ∷ bs) =
     cond (b == 40 && c == 42) (Some (n + 1, bs)) (cond (b == 42 && c == 41) (Some (n - 1, bs)) (Some (n, c ∷ bs)))
 
--- the byte of three decimal digits up to 255, and the bytes behind them
+-- the byte of three decimal digits up to 255, and the bytes after them
 abbrev pub code_of : List ℕ → Option (ℕ × List ℕ)
 code_of (a ∷ b ∷ c ∷ bs) = cond (is_code a b c) (Some (coded a b c, bs)) None
 code_of _ = None
 
--- the byte of an escape whose backslash stands before, and the bytes behind it
+-- the byte of an escape whose backslash stands before, and the bytes after it
 abbrev pub first_unescaped : List ℕ → Option (ℕ × List ℕ)
 first_unescaped [] = None
 first_unescaped (a ∷ []) = Some (escaped a, [])
@@ -82,7 +82,7 @@ abbrev pub is_bad : List ℕ → Bool
 is_bad [] = false
 is_bad (b ∷ bs) = (b == 92) && not (begins_escape bs)
 
--- the byte that a string goes on with, and the bytes behind it
+-- the byte that a string goes on with, and the bytes after it
 abbrev pub next_byte : List ℕ → Option (ℕ × List ℕ)
 next_byte [] = None
 next_byte (b ∷ bs) = cond (b == 34) None (cond (b == 92) (first_unescaped bs) (Some (b, bs)))
@@ -245,7 +245,7 @@ IsFront bytes (front.Token k tail) = TokenTo bytes k tail.now
 IsFront bytes (front.BadToken offset) = (at : ℕ) → IsFault at bytes (BadToken (at + offset))
 IsFront bytes front.Unclosed = (at : ℕ) → IsFault at bytes (Unclosed at)
 
--- the longest token of bytes that begin with no quote, and what is behind it
+-- the longest token of bytes that begin with no quote, and what is after it
 pub record Longer (bytes : List ℕ) (k : TokenKind) (tail : List ℕ) : Type 0 where
   pub text : List ℕ
   pub whole : bytes ≡ text ++ tail

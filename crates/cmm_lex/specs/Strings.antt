@@ -5,7 +5,7 @@ use Rattle.cmm_lex.specs.Enclosed.{BeginsWith}
 
 -- ---- escapes
 
--- what may stand behind a backslash: `\`, `"`, `n`, `t`, `r`, `b`
+-- what may stand after a backslash: `\`, `"`, `n`, `t`, `r`, `b`
 abbrev pub letters : List ℕ
 letters = 92 ∷ 34 ∷ 110 ∷ 116 ∷ 114 ∷ 98 ∷ []
 
@@ -22,7 +22,7 @@ pub data IsEscape : List ℕ → Type 0 where
   letter : (b : ℕ) → Contains letters b → IsEscape (92 ∷ b ∷ [])
   code : (a b c : ℕ) → is_code a b c ≡ true → IsEscape (92 ∷ a ∷ b ∷ c ∷ [])
 
--- The bytes of a string behind its opening quote: plain bytes and escapes, and the closing quote.
+-- The bytes of a string after its opening quote: plain bytes and escapes, and the closing quote.
 pub data IsInside : List ℕ → Type 0 where
   closing : IsInside (34 ∷ [])
   plain : (b : ℕ) (bytes : List ℕ) → (b ≡ 34 → ⊥) → (b ≡ 92 → ⊥) → IsInside bytes → IsInside (b ∷ bytes)
@@ -32,7 +32,7 @@ pub data IsInside : List ℕ → Type 0 where
 abbrev pub IsString : List ℕ → Type 0
 IsString text = (inside : List ℕ) × (text ≡ 34 ∷ inside) × IsInside inside
 
--- Behind so many of the bytes behind an opening quote stands the first backslash that begins no escape.
+-- After so many of the bytes after an opening quote stands the first backslash that begins no escape.
 pub data BadEscape : ℕ → List ℕ → Type 0 where
   here : (bytes : List ℕ) → ((e : List ℕ) → IsEscape e → BeginsWith (92 ∷ bytes) e → ⊥) → BadEscape 0 (92 ∷ bytes)
   past_plain : (n b : ℕ) (bytes : List ℕ) → (b ≡ 34 → ⊥) → (b ≡ 92 → ⊥) → BadEscape n bytes → BadEscape (n + 1) (b ∷ bytes)
@@ -40,7 +40,7 @@ pub data BadEscape : ℕ → List ℕ → Type 0 where
 
 -- ---- values
 
--- the byte of a letter behind a backslash: `\n`, `\t`, `\r` and `\b`; the other two stand for themselves
+-- the byte of a letter after a backslash: `\n`, `\t`, `\r` and `\b`; the other two stand for themselves
 abbrev pub escaped : ℕ → ℕ
 escaped b = cond (b == 110) 10 (cond (b == 116) 9 (cond (b == 114) 13 (cond (b == 98) 8 b)))
 

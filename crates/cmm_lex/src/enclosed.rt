@@ -2,7 +2,7 @@
 ghost use Rattle.std.specs.Prelude.{◌≡◌, ◌+◌, ◌<◌, ◌≤◌, length};
 ghost use Rattle.cmm_lex.specs.Scanning.{slice_of, step_of, comment_step, behind_string, behind_comments, behind_braces};
 
-/// The bytes behind the closing quote of a string whose opening quote stands before `bytes`; `None` where
+/// The bytes after the closing quote of a string whose opening quote stands before `bytes`; `None` where
 /// it is not closed. A backslash takes the byte after it along.
 pub fn behind_string(bytes: &[u8]) -> Option<&[u8]>
     ensures { slice_of result ≡ behind_string bytes.now }
@@ -18,8 +18,8 @@ pub fn behind_string(bytes: &[u8]) -> Option<&[u8]>
     }
 }
 
-/// One step inside so many open comments: how many are open behind the next byte or sign of a comment, and
-/// the bytes behind it; `None` at the end.
+/// One step inside so many open comments: how many are open after the next byte or sign of a comment, and
+/// the bytes after it; `None` at the end.
 fn comment_step(depth: usize, bytes: &[u8]) -> Option<(usize, &[u8])>
     requires { depth + length bytes.now ≤ usize.MAX }
     ensures { step_of result ≡ comment_step depth bytes.now }
@@ -32,7 +32,7 @@ fn comment_step(depth: usize, bytes: &[u8]) -> Option<(usize, &[u8])>
     }
 }
 
-/// The bytes behind a comment whose opening stands before `bytes`; `None` where it is not closed.
+/// The bytes after a comment whose opening stands before `bytes`; `None` where it is not closed.
 /// Comments nest.
 pub fn behind_comment(bytes: &[u8]) -> Option<&[u8]>
     requires { length bytes.now < usize.MAX }
@@ -48,7 +48,7 @@ pub fn behind_comment(bytes: &[u8]) -> Option<&[u8]>
     Some(rest)
 }
 
-/// The bytes behind the next `}`; `None` where there is none.
+/// The bytes after the next `}`; `None` where there is none.
 pub fn behind_braces(bytes: &[u8]) -> Option<&[u8]>
     ensures { slice_of result ≡ behind_braces bytes.now }
 {

@@ -14,11 +14,11 @@ use crate::words::kind_of;
 /// What stands at the front of a text that is not empty.
 #[derive(Clone, Copy)]
 pub enum Front<'a> {
-    /// Bytes between tokens, and the bytes behind them.
+    /// Bytes between tokens, and the bytes after them.
     Gap(&'a [u8]),
-    /// A token, and the bytes behind it.
+    /// A token, and the bytes after it.
     Token(TokenKind, &'a [u8]),
-    /// No token begins behind so many bytes.
+    /// No token begins after so many bytes.
     BadToken(usize),
     /// A string, a comment or a brace is not closed.
     Unclosed,
@@ -46,7 +46,7 @@ fn longest_token(bytes: &[u8]) -> Option<(Shape, usize)>
     found
 }
 
-/// The longest token at the front that is no string, and the bytes behind it.
+/// The longest token at the front that is no string, and the bytes after it.
 fn first_token(bytes: &[u8]) -> Option<(TokenKind, &[u8])>
     ensures { FirstToken bytes.now result }
 {
@@ -55,7 +55,7 @@ fn first_token(bytes: &[u8]) -> Option<(TokenKind, &[u8])>
     Some((kind_of(shape, text)?, rest))
 }
 
-/// What a text begins with whose first byte is a quote; the bytes are those behind it.
+/// What a text begins with whose first byte is a quote; the bytes are those after it.
 fn after_quote(bytes: &[u8]) -> Front<'_>
     requires { length bytes.now ≤ longest_text }
     ensures { IsFront (34 ∷ bytes.now) result }

@@ -85,7 +85,7 @@ fn decimal_word(negative: bool, text: &[u8]) -> Option<u64>
     word_up_to(largest, negative, decimal(text)?)
 }
 
-/// The word of an integer behind its sign.
+/// The word of an integer after its sign.
 fn unsigned_value(negative: bool, text: &[u8]) -> Option<u64>
     ensures { result ≡ unsigned_value negative text.now }
 {

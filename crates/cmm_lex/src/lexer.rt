@@ -102,7 +102,7 @@ fn in_front(bytes: &[u8], len: usize) -> &[u8]
     }
 }
 
-/// The bytes behind so many, or none.
+/// The bytes after so many, or none.
 fn past(bytes: &[u8], len: usize) -> &[u8]
     ensures { result.now ≡ drop len bytes.now }
 {

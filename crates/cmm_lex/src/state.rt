@@ -20,32 +20,32 @@ pub enum Shape {
 #[derive(Clone, Copy)]
 pub enum NamePart {
     Body,
-    /// Behind `/`.
+    /// After `/`.
     Slash,
-    /// In the digits behind `/`.
+    /// In the digits after `/`.
     Digits,
 }
 
 /// Where in an integer, a pointer or a float.
 #[derive(Clone, Copy)]
 pub enum NumberPart {
-    /// Behind one `0`.
+    /// After one `0`.
     Zero,
     Decimal,
-    /// Behind `0x`.
+    /// After `0x`.
     HexadecimalBase,
     Hexadecimal,
-    /// Behind `0o`.
+    /// After `0o`.
     OctalBase,
     Octal,
-    /// Behind `0b`.
+    /// After `0b`.
     BinaryBase,
     Binary,
-    /// Behind `.` and any digits.
+    /// After `.` and any digits.
     Fraction,
-    /// Behind `e` or `E`.
+    /// After `e` or `E`.
     Exponent,
-    /// Behind the exponent's sign.
+    /// After the exponent's sign.
     ExponentSign,
     ExponentDigits,
 }

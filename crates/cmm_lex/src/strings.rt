@@ -10,7 +10,7 @@ ghost use Rattle.bs_words.specs.Symbol.{is_symbol};
 use bs_words::List;
 use std::alloc::{AllocError, Global};
 
-/// The byte that three decimal digits at the front stand for, and the bytes behind them; `None` where
+/// The byte that three decimal digits at the front stand for, and the bytes after them; `None` where
 /// there are none up to 255.
 fn code(bytes: &[u8]) -> Option<(u8, &[u8])>
     ensures { step_of result ≡ code_of bytes.now }
@@ -40,7 +40,7 @@ fn escaped(letter: u8) -> u8
     }
 }
 
-/// The byte that a backslash before these bytes stands for, and the bytes behind its escape; `None` at
+/// The byte that a backslash before these bytes stands for, and the bytes after its escape; `None` at
 /// the end.
 fn unescape(bytes: &[u8]) -> Option<(u8, &[u8])>
     ensures { step_of result ≡ first_unescaped bytes.now }
@@ -72,7 +72,7 @@ fn is_bad(bytes: &[u8]) -> bool
     }
 }
 
-/// The byte that a string goes on with, its escape replaced, and the bytes behind it; `None` at the
+/// The byte that a string goes on with, its escape replaced, and the bytes after it; `None` at the
 /// closing quote and at the end.
 fn next_byte(bytes: &[u8]) -> Option<(u8, &[u8])>
     ensures { step_of result ≡ next_byte bytes.now }
@@ -85,7 +85,7 @@ fn next_byte(bytes: &[u8]) -> Option<(u8, &[u8])>
 }
 
 /// How many bytes stand before the first backslash that begins no escape; `None` where each one up to the
-/// closing quote does. The bytes are those behind the opening quote.
+/// closing quote does. The bytes are those after the opening quote.
 pub fn bad_escape(bytes: &[u8]) -> Option<usize>
     ensures { MatchOption result (IsFine bytes.now) (λ offset. BadEscape offset bytes.now) }
 {

@@ -1,7 +1,7 @@
 //! Tokens of Cmm texts.
 use bs_words::IntOp;
 
-/// A token: the place of its first byte and the place behind its last, in bytes from the start of the
+/// A token: the place of its first byte and the place after its last, in bytes from the start of the
 /// text, and what it is. Its text is that slice of the source.
 #[derive(Clone, Copy, PartialEq, Eq, Debug)]
 pub struct Token {

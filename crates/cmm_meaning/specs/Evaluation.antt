@@ -146,7 +146,7 @@ fit_parameters end (c ∷ comps) (v ∷ values) =
     fits end (type_of_comp c) v && fit_parameters end comps values
 fit_parameters end _ _ = false
 
--- the activation behind a call, which has changed nothing of it; no exit leaves a function of an accepted text
+-- the activation after a call, which has changed nothing of it; no exit leaves a function of an accepted text
 abbrev pub back_from_call : Here → Evaluation → Evaluation
 back_from_call h (Gives v _ w) = Gives v h w
 back_from_call h (Exits label values _ w) = Stops (NotProper BadCall) w

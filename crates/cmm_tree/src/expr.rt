@@ -161,3 +161,43 @@ pub enum Label {
     /// The next turn of a `while`, which no text names. It is visible as a named label is.
     Again,
 }
+
+impl Label {
+    ghost use Rattle.std.specs.Prelude.{◌≡◌};
+    ghost use Rattle.cmm_tree.specs.Tree.{same_label, is_bare};
+    ghost use Rattle.cmm_tree.specs.View.{label_view};
+
+    /// Whether the labels are the same.
+    pub fn same(&self, other: &Label) -> bool
+        ensures { result ≡ same_label (label_view self.now) (label_view other.now) }
+    {
+        match self {
+            Label::Named(name) => match other {
+                Label::Named(other) => name.as_bytes() == other.as_bytes(),
+                Label::Bare | Label::Done | Label::Again => false,
+            },
+            Label::Bare => match other {
+                Label::Bare => true,
+                Label::Named(_) | Label::Done | Label::Again => false,
+            },
+            Label::Done => match other {
+                Label::Done => true,
+                Label::Named(_) | Label::Bare | Label::Again => false,
+            },
+            Label::Again => match other {
+                Label::Again => true,
+                Label::Named(_) | Label::Bare | Label::Done => false,
+            },
+        }
+    }
+
+    /// Whether it is the label of a handler without one.
+    pub fn is_bare(&self) -> bool
+        ensures { result ≡ is_bare (label_view self.now) }
+    {
+        match self {
+            Label::Bare => true,
+            Label::Named(_) | Label::Done | Label::Again => false,
+        }
+    }
+}

@@ -30,7 +30,7 @@ pub parameters_extend : (params : List Parameter) (names : List Scoped) → Exte
 parameters_extend [] names = record { front = []; is = refl }
 parameters_extend (p ∷ params) names = further _ names _ (parameters_extend params (record { name = p.name; type = type_of_comp p.comp; mutable = false } ∷ names))
 
--- the names behind bindings, and behind parameters, left again
+-- the names after bindings, and after parameters, left again
 pub leave_bindings : (names : List Scoped) (bindings : Bindings) → drop (length (with_bindings names bindings) - length names) (with_bindings names bindings) ≡ names
 leave_bindings names bindings = drop_extends _ names (bindings_extend names bindings)
 

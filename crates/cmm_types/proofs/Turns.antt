@@ -109,7 +109,7 @@ names_push : (names : List Scoped) (xs : List Binding) (e : Binding) → with_bi
 names_push names [] e = refl
 names_push names (x ∷ xs) e = names_push (with_binding names x) xs e
 
--- the names behind one binding more
+-- the names after one binding more
 pub names-set : (names : List Scoped) (xs : List Binding) (i : ℕ) (e : Binding) → i < length xs → with_bindings names (bindings_of (take (i + 1) (set xs i e))) ≡ with_binding (with_bindings names (bindings_of (take i xs))) e
 names-set names xs i e lt = ap (λ (l : List Binding). with_bindings names (bindings_of l)) (take_more_set xs i e lt) ∙ names_push names (take i xs) e
 
@@ -219,7 +219,7 @@ handlers_join_turn names xs i x before plain lt at is =
     ∙ join_assoc before (type_without_float (with_parameters (params_view x.params.items) names) (expr_view x.body)) (type_of_handlers names (handlers_of (drop (i + 1) xs)))
     ∙ sym (ap (λ k. join before (type_of_handlers names (handlers_of k))) (drop_here xs i x lt at))
 
--- the names behind the bindings that are left, behind one of them
+-- the names after the bindings that are left, after one of them
 pub names_turn : (xs : List Binding) (i : ℕ) (x : Binding) (now after : List Scoped) → i < length xs → x ≡ get_or xs i x → after ≡ with_binding now x → with_bindings after (bindings_of (drop (i + 1) xs)) ≡ with_bindings now (bindings_of (drop i xs))
 names_turn xs i x now after lt at names =
     ap (λ n. with_bindings n (bindings_of (drop (i + 1) xs))) names

@@ -11,10 +11,10 @@ ghost use Rattle.cmm_types.specs.Gathered.{comp_faults, result_faults, params_fa
 ghost use Rattle.cmm_types.specs.Gathered.{repeated_faults, parameters_of};
 ghost use Rattle.bs_fault.specs.Reported.{noted, noted_all, one_if};
 
-use crate::labels::{Labels, is_same};
+use crate::labels::Labels;
 use crate::names::{Meaning, Names};
 use crate::role::Role;
-use crate::seen::{is_float, ty_of_comp};
+use crate::seen::is_float;
 use crate::symbols::Symbols;
 use bs_fault::{Fault, noted};
 use bs_words::{Comp, Name, Ret, Ty};
@@ -60,7 +60,9 @@ impl Checker {
             (Role::Taken, Ty::NoValue) => self.note(Fault::NoValue { at }),
             (Role::Outer, Ty::NoValue) => self.note(Fault::NoValue { at }),
             (Role::Outer, Ty::Addr) => self.note(Fault::AddrArgument { at }),
-            _ => {}
+            (Role::Visited, _) => {}
+            (Role::Taken, Ty::Never | Ty::Int | Ty::Val | Ty::Addr) => {}
+            (Role::Outer, Ty::Never | Ty::Int | Ty::Val) => {}
         }
     }
 
@@ -185,7 +187,7 @@ impl Checker {
     {
         for handler in handlers {
             self.note_if(
-                is_same(label, &handler.label),
+                label.same(&handler.label),
                 Fault::DuplicateSymbol { at: handler.at },
             );
         }
@@ -213,7 +215,7 @@ impl Checker {
     {
         for param in params {
             let meaning = Meaning {
-                ty: ty_of_comp(param.comp),
+                ty: param.comp.ty(),
                 mutable: false,
             };
             self.names.bind(alloc, &param.name, meaning)?;

@@ -10,11 +10,9 @@ ghost use Rattle.bs_fault.specs.Reported.{noted_all, one_if};
 
 use crate::symbols::{Definition, Symbols};
 use bs_fault::{Fault, noted};
+use bs_words::BOUND_ERROR;
 use cmm_tree::{DataItem, Datum, Item};
 use std::alloc::{AllocError, Global};
-
-/// The symbol of the built-in data.
-const BUILT_IN: &[u8] = b"caml_bound_error";
 
 /// The symbols that are defined so far, and the fault that is reported of them.
 #[derive(Drop)]
@@ -36,7 +34,7 @@ pub fn gather(alloc: Global, items: &[Item]) -> Result<Gathering, AllocError>
         at: 0,
         parameters: None,
     };
-    symbols.define(alloc, BUILT_IN, definition)?;
+    symbols.define(alloc, BOUND_ERROR, definition)?;
     let mut all = Gathering {
         symbols,
         found: None,
@@ -113,7 +111,9 @@ impl Gathering {
                 let parameters = None;
                 self.define(alloc, name.as_bytes(), Definition { at, parameters })
             }
-            _ => Ok(()),
+            Datum::Byte(_) | Datum::Half(_) | Datum::Int(_) | Datum::Val(_) => Ok(()),
+            Datum::Address { .. } | Datum::Skip(_) | Datum::Align(_) | Datum::Text(_) => Ok(()),
+            Datum::Global { .. } | Datum::Float => Ok(()),
         }
     }
 }

@@ -4,7 +4,6 @@ ghost use Rattle.cmm_types.specs.VisibleLabels.{visible_view};
 ghost use Rattle.std.specs.Option.{option_map};
 ghost use Rattle.cmm_tree.specs.View.{label_view};
 ghost use Rattle.cmm_types.specs.Standing.{Visible, handler_of, labels_of, lasting_labels_of};
-ghost use Rattle.cmm_tree.specs.Tree.{same_label};
 ghost use Rattle.cmm_tree.specs.Rows.{handlers_of};
 ghost use Rattle.cmm_types.specs.Scopes.{parameters_of_label};
 
@@ -36,19 +35,6 @@ impl Model for Labels {
     ghost view = { λ labels. map visible_view (reverse labels.visible.items) };
 }
 
-/// Whether the labels are the same.
-pub fn is_same(a: &Label, b: &Label) -> bool
-    ensures { result ≡ same_label (label_view a.now) (label_view b.now) }
-{
-    match (a, b) {
-        (Label::Named(first), Label::Named(second)) => first.as_bytes() == second.as_bytes(),
-        (Label::Bare, Label::Bare) => true,
-        (Label::Done, Label::Done) => true,
-        (Label::Again, Label::Again) => true,
-        _ => false,
-    }
-}
-
 fn copy_of(alloc: Global, label: &Label) -> Result<Label, AllocError>
     ensures { IfOk result (λ copy. label_view copy ≡ label_view label.now) }
 {
@@ -72,7 +58,7 @@ fn innermost(visible: &[VisibleLabel], label: &Label) -> Option<usize>
     while left > 0 {
         left -= 1;
         let found = &visible[left];
-        if is_same(&found.label, label) {
+        if found.label.same(label) {
             return Some(found.parameters);
         }
     }

@@ -1,7 +1,6 @@
 //! What is found out of a node.
 ghost use Rattle.std.specs.Prelude.{◌≡◌, ◌||◌, false, option_map};
 ghost use Rattle.bs_words.specs.Memory.{type_of_chunk};
-ghost use Rattle.bs_words.specs.Fits.{type_of_comp};
 ghost use Rattle.cmm_tree.specs.View.{declared_view, params_view};
 ghost use Rattle.cmm_types.specs.Faults.{is_header};
 ghost use Rattle.cmm_types.specs.Gathered.{is_address};
@@ -63,25 +62,13 @@ pub fn join(first: Ty, second: Ty) -> Ty
     }
 }
 
-/// The type of what a component holds.
-pub fn ty_of_comp(comp: Comp) -> Ty
-    ensures { result ≡ type_of_comp comp }
-{
-    match comp {
-        Comp::Int => Ty::Int,
-        Comp::Val => Ty::Val,
-        Comp::Addr => Ty::Addr,
-        Comp::Float => Ty::Never,
-    }
-}
-
 /// The type of what a call is written to give.
 pub fn ty_of_ret(given: Ret) -> Ty
     ensures { result ≡ type_of_result given }
 {
     match given {
         Ret::Unit => Ty::NoValue,
-        Ret::Comp(comp) => ty_of_comp(comp),
+        Ret::Comp(comp) => comp.ty(),
     }
 }
 
@@ -98,7 +85,8 @@ pub fn ty_of_chunk(chunk: Chunk) -> Ty
 {
     match chunk {
         Chunk::Val => Ty::Val,
-        _ => Ty::Int,
+        Chunk::U8 | Chunk::I8 | Chunk::U16 | Chunk::I16 => Ty::Int,
+        Chunk::U32 | Chunk::I32 | Chunk::Int => Ty::Int,
     }
 }
 
@@ -109,7 +97,9 @@ pub fn ty_of_operator(op: IntOp) -> Ty
     match op {
         IntOp::AddV => Ty::Val,
         IntOp::AddA => Ty::Addr,
-        _ => Ty::Int,
+        IntOp::Add | IntOp::Sub | IntOp::Mul | IntOp::Mulh | IntOp::Div | IntOp::Mod => Ty::Int,
+        IntOp::And | IntOp::Or | IntOp::Xor | IntOp::Shl | IntOp::Shr | IntOp::Sar => Ty::Int,
+        IntOp::Cmp(_) | IntOp::CmpU(_) => Ty::Int,
     }
 }
 
@@ -119,7 +109,7 @@ pub fn is_address(ty: Ty) -> bool
 {
     match ty {
         Ty::Addr => true,
-        _ => false,
+        Ty::Never | Ty::NoValue | Ty::Int | Ty::Val => false,
     }
 }
 
@@ -129,7 +119,7 @@ pub fn is_float(comp: Comp) -> bool
 {
     match comp {
         Comp::Float => true,
-        _ => false,
+        Comp::Int | Comp::Val | Comp::Addr => false,
     }
 }
 
@@ -150,7 +140,7 @@ pub fn meaning_bound(declared: Option<Declared>, ty: Ty) -> Meaning
 {
     match declared {
         Some(declared) => Meaning {
-            ty: ty_of_comp(declared.comp),
+            ty: declared.comp.ty(),
             mutable: true,
         },
         None => Meaning { ty, mutable: false },

@@ -182,7 +182,8 @@ impl Checker {
                 Fault::UnknownSymbol { at: *name_at },
             ),
             Datum::Float => self.note(Fault::Float { at }),
-            _ => {}
+            Datum::Define(_) | Datum::Byte(_) | Datum::Half(_) | Datum::Int(_) => {}
+            Datum::Val(_) | Datum::Skip(_) | Datum::Align(_) | Datum::Text(_) => {}
         }
     }
 }

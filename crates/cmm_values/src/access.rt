@@ -62,7 +62,7 @@ pub(crate) fn offset_in_cell(address: Value) -> u64
     }
 }
 
-/// The cell of a block of so many cells where an access lies in it, which begins so many bytes behind the
+/// The cell of a block of so many cells where an access lies in it, which begins so many bytes after the
 /// first byte of the header.
 pub(crate) fn in_cells(serial: u64, cells: u64, from: u64, bytes: u64) -> Option<Cell>
     ensures { option_map cell_view result ≡ in_block serial (Some cells) from bytes }

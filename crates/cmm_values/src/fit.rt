@@ -1,9 +1,8 @@
 //! Which values fit a type.
 ghost use Rattle.std.specs.Prelude.{◌≡◌};
-ghost use Rattle.bs_words.specs.Fits.{is_still, fits, misfit, type_of_comp};
+ghost use Rattle.bs_words.specs.Fits.{is_still, fits, misfit};
 
-use bs_words::{Comp, Kind, Ty, Value};
-use cmm_data::DATA_START;
+use bs_words::{Comp, DATA_START, Kind, Ty, Value};
 
 /// Whether the value fits the type, where `end` is the first address past the data.
 pub fn fits(end: u64, ty: Ty, value: Value) -> bool
@@ -54,17 +53,5 @@ pub fn misfit(ty: Ty) -> Kind
         Ty::Addr => Kind::BadValue,
         Ty::Never => Kind::BadValue,
         Ty::NoValue => Kind::BadValue,
-    }
-}
-
-/// The type of what a component holds; no value is read as a float.
-pub fn type_of_comp(comp: Comp) -> Ty
-    ensures { result ≡ type_of_comp comp }
-{
-    match comp {
-        Comp::Int => Ty::Int,
-        Comp::Val => Ty::Val,
-        Comp::Addr => Ty::Addr,
-        Comp::Float => Ty::Never,
     }
 }

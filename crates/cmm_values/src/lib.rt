@@ -10,6 +10,6 @@ mod fit;
 mod memory;
 mod operators;
 
-pub use fit::{fits, misfit, type_of_comp};
+pub use fit::{fits, misfit};
 pub use memory::Memory;
 pub use operators::{apply, condition_of, word_in};

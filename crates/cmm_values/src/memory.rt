@@ -17,8 +17,8 @@ use crate::access::{
     put_in_block, put_in_list, replaced, width,
 };
 use crate::fit::{fits, misfit};
-use bs_words::{Chunk, Kind, List, Ty, Value};
-use cmm_data::{DATA_START, DataCells, DataMap, place_data};
+use bs_words::{Chunk, DATA_START, Kind, List, Ty, Value};
+use cmm_data::{DataCells, DataMap, place_data};
 use cmm_tree::File;
 use std::alloc::{AllocError, Global};
 use std::marker::Model;

@@ -249,7 +249,7 @@ adds-handles old new cell scope slot name_at name handler entry rest s pushed r 
     adds-push old new (item.Handles scope slot name_at name handler entry rest) cell rest (walk.Handles s slot name_at name.now (expr_view handler.now) ∷ []) pushed r.sound (within.within, r.within) (below, subst P (sym within.is) is)
     (ap (λ (l : List Slotted). walk.Handles l slot name_at name.now (expr_view handler.now) ∷ tasks_at old rest) within.is)
 
--- ---- behind the operands of a call
+-- ---- after the operands of a call
 
 pub called-plain : (old : List Item) (rest at : ℕ) (frame : Bool) → frame ≡ false → IsReady old rest → Adds old old rest (walk.called frame at) rest
 called-plain old rest at frame e r =

@@ -104,7 +104,7 @@ below-at c rest' rest b e =
     let P : ℕ → Type 0 = λ n. n < c in
     subst P (same_Some rest' rest e) b
 
--- the cell behind comes before
+-- the cell after comes before
 rest-below : (c : ℕ) (x : Item) (rest : ℕ) → IsBelow c x → rest_in x ≡ Some rest → rest < c
 rest-below c item.Empty rest b e = cc
 rest-below c (item.Named name type mutable slot outer) rest b e = cc

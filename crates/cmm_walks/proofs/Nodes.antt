@@ -26,7 +26,7 @@ use Rattle.cmm_walks.specs.declared.node.Step.TheVariants as step
 use Rattle.cmm_walks.proofs.Elements.{no_element, only, itself}
 use Rattle.cmm_walks.proofs.Pushed.{extends-then, tasks-extend, kept-within}
 
--- ---- what may come behind tasks
+-- ---- what may come after tasks
 
 abbrev pub After : List Task → List Event → List Task → Type 0
 After [] es left = ⊥

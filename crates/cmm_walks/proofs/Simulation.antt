@@ -39,7 +39,7 @@ pub record Agrees (nodes : List node.Node) (stands : ℕ → List Task → Type 
 
 -- ---- from walks to ways
 
--- the node at which an event of a walk comes, and the walk behind it
+-- the node at which an event of a walk comes, and the walk after it
 pub record Reached (nodes : List node.Node) (stands : ℕ → List Task → Type 0) (p : ℕ) (es : List Event) (event : Event) (rest : List Event) : Type 0 where
   pub node : ℕ
   pub left : List Task
@@ -165,7 +165,7 @@ led nodes stands a _ _ _ (goes p m q es next way) tasks at =
           (before_walk tasks s.left (shown (step_at nodes p)) (es ++ rest) s.next (r.walks rest w));
     }
 
--- a node with an event, and one behind it
+-- a node with an event, and one after it
 led_on : (nodes : List node.Node) (stands : ℕ → List Task → Type 0) → Agrees nodes stands → (p q : ℕ) (event : Event) (tasks : List Task)
     → stands p tasks → shown (step_at nodes p) ≡ event ∷ [] → Contains (next_at nodes p) q → Led stands tasks (event ∷ []) q
 led_on nodes stands a p q event tasks at e next =

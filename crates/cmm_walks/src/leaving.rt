@@ -1,5 +1,5 @@
 //! Where an exit and a raise lead.
-ghost use Rattle.std.specs.Prelude.{◌≡◌, ◌&&◌, not, ℕ, List, Some, length, IfOk, bytes_eq};
+ghost use Rattle.std.specs.Prelude.{◌≡◌, ◌&&◌, not, ℕ, List, Some, length, IfOk};
 ghost use Rattle.cmm_tree.specs.View.{label_view};
 ghost use Rattle.cmm_tree.specs.declared.expr.Handler as declared_handler;
 ghost use Rattle.cmm_tree.specs.Rows.{handlers_of};
@@ -11,39 +11,8 @@ ghost use Rattle.cmm_walks.specs.Leaving.{rest_in, own_handler, exit_rest, raise
 
 use crate::items::{Cells, Item};
 use crate::numbers::after;
-use bs_words::Name;
 use cmm_tree::{Handler, Label};
 use std::alloc::AllocError;
-
-fn same_name(one: &Name, other: &Name) -> bool
-    ensures { result ≡ bytes_eq one.now other.now }
-{
-    one.as_bytes() == other.as_bytes()
-}
-
-fn same_label(one: &Label, other: &Label) -> bool
-    ensures { result ≡ same_label (label_view one.now) (label_view other.now) }
-{
-    match (one, other) {
-        (Label::Named(first), Label::Named(second)) => same_name(first, second),
-        (Label::Bare, Label::Bare) => true,
-        (Label::Done, Label::Done) => true,
-        (Label::Again, Label::Again) => true,
-        (Label::Named(_), Label::Bare | Label::Done | Label::Again) => false,
-        (Label::Bare, Label::Named(_) | Label::Done | Label::Again) => false,
-        (Label::Done, Label::Named(_) | Label::Bare | Label::Again) => false,
-        (Label::Again, Label::Named(_) | Label::Bare | Label::Done) => false,
-    }
-}
-
-fn is_bare(label: &Label) -> bool
-    ensures { result ≡ is_bare (label_view label.now) }
-{
-    match label {
-        Label::Bare => true,
-        Label::Named(_) | Label::Done | Label::Again => false,
-    }
-}
 
 /// Whether an exit of this label finds the handler of the other one. A bare one is not visible in the
 /// handlers.
@@ -51,8 +20,8 @@ fn finds(label: &Label, own: &Label, in_handler: bool) -> bool
     ensures { result ≡ (same_label (label_view label.now) (label_view own.now) && not (is_bare
         (label_view label.now) && in_handler)) }
 {
-    let same = same_label(label, own);
-    let bare = is_bare(label);
+    let same = label.same(own);
+    let bare = label.is_bare();
     same && !(bare && in_handler)
 }
 

@@ -1,7 +1,6 @@
 //! Slots, and the types of what is bound to them.
 ghost use Rattle.std.specs.Prelude.{◌≡◌, ◌+◌, suc, IfOk};
 ghost use Rattle.std.specs.Option.{option_map};
-ghost use Rattle.bs_words.specs.Fits.{type_of_comp};
 ghost use Rattle.cmm_tree.specs.View.{declared_view};
 ghost use Rattle.cmm_types.specs.Types.{type_bound, is_mutable};
 ghost use Rattle.cmm_walks.specs.Walks.{is_address};
@@ -40,25 +39,13 @@ pub fn is_address(ty: Ty) -> bool
     }
 }
 
-/// The type of a register's values.
-pub fn type_of_comp(comp: Comp) -> Ty
-    ensures { result ≡ type_of_comp comp }
-{
-    match comp {
-        Comp::Int => Ty::Int,
-        Comp::Val => Ty::Val,
-        Comp::Addr => Ty::Addr,
-        Comp::Float => Ty::Never,
-    }
-}
-
 /// The type of a name that is bound to a value of this type.
 pub fn type_bound(declared: Option<Declared>, ty: Ty) -> Ty
     ensures { result ≡ type_bound (option_map declared_view declared) ty }
 {
     match declared {
         None => ty,
-        Some(declared) => type_of_comp(declared.comp),
+        Some(declared) => declared.comp.ty(),
     }
 }
 

@@ -8,7 +8,7 @@ ghost use Rattle.cmm_walks.specs.Sound.{IsSound, IsScope, Opens};
 ghost use Rattle.cmm_walks.specs.Found.{found_in};
 
 use crate::items::{Cells, Item};
-use crate::numbers::{after, type_of_comp};
+use crate::numbers::after;
 use bs_words::{IntOp, Name, Ty};
 use cmm_tree::{Expr, Form, Param};
 use std::alloc::AllocError;
@@ -64,7 +64,7 @@ impl<'a> Cells<'a> {
         match params {
             [] => Ok(scope),
             [first, others @ ..] => {
-                let ty = type_of_comp(first.comp);
+                let ty = first.comp.ty();
                 let next = after(slot)?;
                 let inner = self.bind(scope, &first.name, ty, false, slot)?;
                 let cell = self.with_slots(inner, next, others)?;

@@ -11,7 +11,7 @@ ghost use Rattle.cmm_walks.specs.Sound.{IsSound, IsBelow, IsHeld, IsReady, IsSco
 
 use crate::items::{Action, Cells, Item};
 use crate::node::{Node, any_of, forked, last, quiet, telling};
-use crate::numbers::{after, behind, is_address, type_of_comp};
+use crate::numbers::{after, behind, is_address};
 use cmm_tree::{Binding, Case, Expr, Handler, Label, Param};
 use std::alloc::{AllocError, Global};
 
@@ -184,7 +184,7 @@ impl<'a> Cells<'a> {
         let next = after(slot)?;
         let evaluated = self.eval(handled.scope, handled.free, handled.body, handled.caught)?;
         let bound = self.parameters_bound(next, others, evaluated)?;
-        let address = is_address(type_of_comp(param.comp));
+        let address = is_address(param.comp.ty());
         let at = param.at;
         Ok(telling(Action::Binds { slot, address, at }, bound))
     }

@@ -12,7 +12,7 @@ ghost use Rattle.cmm_walks.specs.Cells.{cells, event_of};
 ghost use Rattle.cmm_walks.specs.Sound.{IsReady, IsScope, Adds};
 
 use crate::items::{Action, Cells, Item};
-use crate::numbers::{after, behind, is_address, is_mutable, type_bound, type_of_comp};
+use crate::numbers::{after, behind, is_address, is_mutable, type_bound};
 use cmm_tree::{Binding, Expr, Param};
 use std::alloc::AllocError;
 
@@ -233,7 +233,7 @@ impl<'a> Cells<'a> {
             [first, others @ ..] => {
                 let next = after(slot)?;
                 let later = self.parameters_bound(next, others, rest)?;
-                let address = is_address(type_of_comp(first.comp));
+                let address = is_address(first.comp.ty());
                 let at = first.at;
                 let cell = self.does(Action::Binds { slot, address, at }, later)?;
                 Ok(cell)

@@ -6,10 +6,10 @@ use Rattle.std.proofs.lemmas.List.{length-map}
 use Rattle.std.proofs.lemmas.List.Elements.{filter_map-append}
 use Rattle.bs_fault.specs.declared.fault.Fault.{Fault}
 use Rattle.bs_fault.specs.declared.fault.Fault.TheVariants.{DataTooLarge, DataItem}
-use Rattle.bs_words.specs.Fits.{data_start}
+use Rattle.bs_words.specs.Fits.{data_limit, data_start}
 use Rattle.bs_words.specs.Symbol.{IsSymbol}
 use Rattle.cmm_data.specs.Contents.{root_cells}
-use Rattle.cmm_data.specs.Faults.{data_limit, passes_limit, keeps_rule, fault_on, or_later, first_fault, data_fault_of}
+use Rattle.cmm_data.specs.Faults.{passes_limit, keeps_rule, fault_on, or_later, first_fault, data_fault_of}
 use Rattle.cmm_data.specs.Placement.{DataSymbolTree, PlacedItem, size_at, items_from, end_of_items, start_behind, end_behind, end_of_lists, lists_behind, lists_of, built_in, items_of_lists, symbol_at, symbols_among, symbols_of, data_end, data_bytes}
 use Rattle.cmm_tree.specs.Tree.{DatumTree, Define, Byte, Half, Int, Val, Address, Skip, Align, Text, Global, AFloat, DataItemTree, DataListTree, FileTree, ItemTree, AFunction, AData, data_among}
 use Rattle.image_form.specs.Image.{le32, sym_bytes, table_bytes}

@@ -6,12 +6,13 @@ use Rattle.std.proofs.lemmas.List.{length-map}
 use Rattle.std.proofs.lemmas.List.Elements.{All-head, All-tail}
 use Rattle.std.proofs.lemmas.List.Sums.{sum_by-cons}
 use Rattle.std.proofs.lemmas.Nat.{mul-le}
+use Rattle.bs_words.specs.Fits.{data_limit}
 use Rattle.bs_fault.specs.declared.large.Section.TheVariants as section
 use Rattle.cmm_front.specs.FileOf.{IsFileOf}
 use Rattle.cmm_tree.specs.Tree.{Parameter, FunctionTree, FileTree, functions}
 use Rattle.correctness.specs.Bounds.{most_words, most_desc_bytes, IsRoomy}
 use Rattle.correctness.specs.Measures.{frame_points}
-use Rattle.image_form.specs.Image.{func_bytes, desc_bytes, table_limit, code_limit, data_limit, stub}
+use Rattle.image_form.specs.Image.{func_bytes, desc_bytes, table_limit, code_limit, stub}
 use Rattle.image_form.specs.Tables.{Tables}
 use Rattle.image_rules.proofs.Limits.{AreShort}
 use Rattle.image_rules.proofs.Whole.{all_length, length_of_data}

@@ -18,7 +18,7 @@ pub pairs_later : {A : Type 0} (R : A → A → Type 0) (x : A) (xs : List A) �
 pairs_later R x xs h = λ i j d lt le. h (suc i) (suc j) d (omega (arith, lt)) (omega (arith, le))
 
 module _ {A : Type 0} (R : A → A → Type 0) (strict : (x y : A) → R x y → R y x → ⊥) where
-  -- what stands behind one head stands behind the other, which is equal
+  -- what stands after one head stands after the other, which is equal
   left_over : (x y : A) (xs ys : List A) → x ≡ y → AllPairs R (x ∷ xs) →
       ((z : A) → Contains (x ∷ xs) z → Contains (y ∷ ys) z) → (z : A) → Contains xs z → Contains ys z
   left_over x y xs ys e up into z c =

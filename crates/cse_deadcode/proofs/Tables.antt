@@ -88,7 +88,7 @@ is_dropped m q rows uses e = record { drops = drops_by rows m.code; dead = are_d
 
 -- ---- the loop
 
--- what is still to be looked at, and what is left of the code behind it
+-- what is still to be looked at, and what is left of the code after it
 pub record Dropping (rows : List (List Bool)) (code items left : List Instr) : Type 0 where
   pub done : List Instr
   pub whole : items ++ done ≡ code

@@ -1,4 +1,4 @@
-//! One sweep over the places: what is used before each, from what is known to be used behind it.
+//! One sweep over the places: what is used before each, from what is known to be used after it.
 ghost use Rattle.std.specs.Prelude.{◌≡◌, ℕ, ◌<◌, ◌||◌, ◌&&◌, ◌==◌, not, length};
 ghost use Rattle.std.specs.List.{All, list_any};
 ghost use Rattle.bs_bits.specs.Set.{has};

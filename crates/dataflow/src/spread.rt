@@ -1,4 +1,4 @@
-//! One sweep over the places in their order: what comes to the places behind each.
+//! One sweep over the places in their order: what comes to the places after each.
 ghost use Rattle.std.specs.Prelude.{◌≡◌, ℕ, ◌<◌, ◌||◌, length};
 ghost use Rattle.std.specs.List.{All};
 ghost use Rattle.bs_bits.specs.Set.{has};

@@ -1,4 +1,4 @@
-//! One sweep over the places: what is live before each, from what is known to be live behind it.
+//! One sweep over the places: what is live before each, from what is known to be live after it.
 ghost use Rattle.std.specs.Prelude.{◌≡◌, ℕ, ◌<◌, ◌||◌, ◌&&◌, ◌==◌, not, length, slice_set};
 ghost use Rattle.std.specs.List.{All, list_any};
 ghost use Rattle.bs_bits.specs.Set.{has, union};

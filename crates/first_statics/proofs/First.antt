@@ -3,12 +3,11 @@ use Rattle.std.proofs.Common.{◌≡◌, ℕ, zero, suc, ◌+◌, ◌-◌, ◌*�
 use Rattle.std.specs.Prelude.{slice_index}
 use Rattle.std.proofs.lemmas.Bool.{le-leb, eqb-true}
 use Rattle.std.proofs.lemmas.List.{length-take-le}
-use Rattle.bs_words.specs.Fits.{data_start}
+use Rattle.bs_words.specs.Fits.{data_limit, data_start}
 use Rattle.bs_words.specs.Memory.{StaticList, cell_at, is_root}
 use Rattle.bs_words.specs.declared.values.Value.{Value}
 use Rattle.bs_words.specs.declared.values.Value.TheVariants.{Word, Block, Function}
 use Rattle.cmm_data.specs.Contents.{bytes_of_items, static_list, statics, root_cells, first_memory}
-use Rattle.cmm_data.specs.Faults.{data_limit}
 use Rattle.cmm_data.specs.Placement.{items_from, start_behind, end_behind, end_of_lists, lists_behind, lists_of, value_of_symbol, data_end, data_bytes}
 use Rattle.cmm_data.proofs.Laws.{end_of_items-above, end_of_data-first_memory}
 use Rattle.cmm_tree.specs.Tree.{FunctionTree, DataListTree, FileTree, functions}

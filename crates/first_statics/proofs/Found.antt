@@ -6,12 +6,12 @@ use Rattle.std.proofs.lemmas.Bool.{and_parts, leb-true, le-leb, eqb-true}
 use Rattle.std.proofs.lemmas.Nat.{pow-add}
 use Rattle.std.proofs.lemmas.List.{length-map, get_or_append_left, get_or-append-add, get_or-map}
 use Rattle.std.proofs.lemmas.Grind.{flat_map-append}
-use Rattle.bs_words.specs.Fits.{data_start}
+use Rattle.bs_words.specs.Fits.{data_limit, data_start}
 use Rattle.bs_words.specs.Memory.{StaticList, Memory, InStatic, in_statics, cell_at}
 use Rattle.bs_words.specs.declared.values.Value.{Value}
 use Rattle.bs_words.specs.declared.values.Value.TheVariants.{Word, Block, Function}
 use Rattle.cmm_data.specs.Contents.{DataByte, little_endian, symbol_bytes, bytes_at, bytes_of_items, word_of_bytes, cell_of, cells_of, is_root_datum, root_at, roots_among, static_list}
-use Rattle.cmm_data.specs.Faults.{data_limit, keeps_rule, first_fault}
+use Rattle.cmm_data.specs.Faults.{keeps_rule, first_fault}
 use Rattle.cmm_data.specs.Placement.{PlacedItem, size_at, items_from, start_behind, end_behind, end_of_lists, lists_behind, items_of_lists, value_of_symbol, data_end}
 use Rattle.cmm_data.proofs.Laws.{end_of_items-above}
 use Rattle.cmm_data.proofs.Steps.{length-bytes_at}

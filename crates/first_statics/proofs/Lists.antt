@@ -6,12 +6,12 @@ use Rattle.std.proofs.lemmas.Bool.{eqb-true}
 use Rattle.std.proofs.lemmas.List.{length-map}
 use Rattle.std.proofs.lemmas.Grind.{flat_map-append}
 use Rattle.std.proofs.lemmas.Option.{slice_get_within}
-use Rattle.bs_words.specs.Fits.{data_start}
+use Rattle.bs_words.specs.Fits.{data_limit, data_start}
 use Rattle.bs_words.specs.Memory.{StaticList}
 use Rattle.bs_words.specs.declared.values.Value.{Value}
 use Rattle.bs_words.specs.declared.values.Value.TheVariants.{Word, Block, Function}
 use Rattle.cmm_data.specs.Contents.{DataByte, Plain, OfFunction, little_endian, zeros, integer, symbol_bytes, bytes_at, bytes_of_items, cells_of, static_list, statics}
-use Rattle.cmm_data.specs.Faults.{data_limit, keeps_rule, first_fault, data_fault_of}
+use Rattle.cmm_data.specs.Faults.{keeps_rule, first_fault, data_fault_of}
 use Rattle.cmm_data.specs.Placement.{size_at, items_from, end_of_items, start_behind, end_behind, end_of_lists, lists_behind, lists_of, items_of_lists, value_of_symbol, data_bytes}
 use Rattle.cmm_data.proofs.Steps.{length-bytes_at, end-within}
 use Rattle.cmm_data.proofs.Walk.{sound-first, sound-list, start-within}

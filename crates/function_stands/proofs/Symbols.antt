@@ -1,10 +1,10 @@
 -- What symbols stand for: functions of the file, and addresses of its static data.
 use Rattle.std.proofs.Common.{◌≡◌, ℕ, suc, ◌+◌, ◌<◌, ◌≤◌, Bool, true, false, cond, List, [], ◌∷◌, ◌++◌, length, map, bytes_eq, Some, None, sym, subst, arith}
 use Rattle.std.specs.Option.{option_to_list}
-use Rattle.bs_words.specs.Fits.{data_start}
+use Rattle.bs_words.specs.Fits.{data_limit, data_start}
 use Rattle.bs_words.specs.declared.values.Value.{Value}
 use Rattle.bs_words.specs.declared.values.Value.TheVariants.{Word, Function}
-use Rattle.cmm_data.specs.Faults.{data_fault_of, data_limit, first_fault}
+use Rattle.cmm_data.specs.Faults.{data_fault_of, first_fault}
 use Rattle.cmm_data.specs.Placement.{Definition, built_in, defined_at, defined_by_list, defined_from, definition_of_data, definitions, end_behind, items_from, items_of_lists, lists_behind, size_at, start_behind, symbol_at, value_among, value_of_symbol}
 use Rattle.cmm_data.proofs.Steps.{end-within}
 use Rattle.cmm_data.proofs.Table.{defined_at-next}

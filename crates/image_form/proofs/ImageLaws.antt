@@ -133,7 +133,7 @@ ext_body = table_body ext_at ext_bytes ExtRule ext_field table_limits
 desc_body : (version code_len : ℕ) → IsBody (table_at (desc_at version code_len)) (table_bytes (desc_bytes version)) table_limits (AreRows (DescRule version code_len))
 desc_body version code_len = table_body (desc_at version code_len) (desc_bytes version) (DescRule version code_len) (desc_field version code_len) table_limits
 
--- nine parts one after the other, with nothing behind them
+-- nine parts one after the other, with nothing after them
 chained : (bytes a b c d e f g h i x0 x1 x2 x3 x4 x5 x6 x7 rest : List ℕ) → Takes bytes a x0 → Takes x0 b x1 → Takes x1 c x2 → Takes x2 d x3 → Takes x3 e x4 → Takes x4 f x5 → Takes x5 g x6 → Takes x6 h x7 → Takes x7 i rest → rest ≡ []
     → bytes ≡ a ++ (b ++ (c ++ (d ++ (e ++ (f ++ (g ++ (h ++ i)))))))
 chained bytes a b c d e f g h i x0 x1 x2 x3 x4 x5 x6 x7 rest t0 t1 t2 t3 t4 t5 t6 t7 t8 nothing =

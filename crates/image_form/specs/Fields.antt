@@ -167,7 +167,7 @@ unfoldable pub entry_at : ℕ → ℕ → List ℕ → List ℕ → Result (ℕ 
 entry_at version size before =
     kept (λ e. is_entry size e && at_last (λ p. is_next_entry p e) before) (wide_at version)
 
--- where a call in the code can return to: behind the stub and a word
+-- where a call in the code can return to: after the stub and a word
 abbrev pub is_return : ℕ → ℕ → Bool
 is_return code_len n = (n % 4 == 0) && (nat_le 20 n && nat_le n code_len)
 

@@ -1,5 +1,6 @@
 -- The rules that each image keeps, and the one spelling of an image in bytes.
 use Rattle.std.specs.Prelude.{◌≡◌, ◌≢◌, ⊤, ℕ, ◌+◌, ◌*◌, ◌%◌, ◌^◌, ◌<◌, ◌≤◌, List, [], ◌∷◌, ◌++◌, length, map, ◌⊎◌, codes, cond, ◌==◌}
+use Rattle.bs_words.specs.Fits.{data_limit}
 use Rattle.std.specs.List.{flat_map, AllByRecursion}
 use Rattle.std.specs.Int.{Width, w16, w32, to_le_bytes}
 use Rattle.bs_words.specs.declared.types.Comp.{Comp}
@@ -40,9 +41,6 @@ table_limit = 67108864
 abbrev pub code_limit : ℕ
 code_limit = 268369920
 
-abbrev pub data_limit : ℕ
-data_limit = 16777216
-
 -- ---- the spelling: numbers are little-endian
 
 unfoldable pub le16 : ℕ → List ℕ
@@ -73,11 +71,11 @@ abbrev pub ret_byte : Ret → ℕ
 ret_byte returns.Unit = 3
 ret_byte (returns.Comp c) = comp_byte c
 
--- a name behind its length
+-- a name after its length
 unfoldable pub name_bytes : List ℕ → List ℕ
 name_bytes name = le16 (length name) ++ name
 
--- the types of parameters behind their number
+-- the types of parameters after their number
 unfoldable pub params_bytes : List Comp → List ℕ
 params_bytes params = length params ∷ map comp_byte params
 
@@ -162,7 +160,7 @@ pub record IsFunc (f : Func) : Type 0 where
   pub params : AllByRecursion IsParam f.params
   pub result : IsResult f.result
 
--- g begins behind the begin of f, and not inside f, which may have no words
+-- g begins after the begin of f, and not inside f, which may have no words
 pub record IsBehind (f g : Func) : Type 0 where
   pub rises : f.offset < g.offset
   pub apart : end_of f ≤ g.offset

@@ -4,6 +4,7 @@
 use Rattle.std.specs.Prelude.{◌≡◌, ℕ, ◌-◌, ◌*◌, ◌%◌, Bool, ◌&&◌, ◌||◌, max, fold, List, length, take, drop, Result, Ok, Err, nat_lt, nat_le, ◌==◌, if◌then◌else◌, codes}
 use Rattle.std.specs.Int.{w32, from_le_bytes}
 use Rattle.std.specs.Str.{bytes_eq}
+use Rattle.bs_words.specs.Fits.{data_limit}
 use Rattle.bs_fault.specs.declared.image.ImageFault.{ImageFault}
 use Rattle.bs_fault.specs.declared.image.ImageFault.TheVariants as faults
 use Rattle.bs_fault.specs.declared.image.ImageRefusal.{ImageRefusal}
@@ -14,7 +15,7 @@ use Rattle.image_form.specs.declared.fault.ImageError.TheVariants as errors
 use Rattle.image_form.specs.declared.reading.Limits.{Limits}
 use Rattle.image_form.specs.Tables.{Func, Tables, func_names}
 use Rattle.image_form.specs.declared.image.Image as declared
-use Rattle.image_form.specs.Image.{IsImage, image_bytes, end_of, magic, table_limit, code_limit, data_limit}
+use Rattle.image_form.specs.Image.{IsImage, image_bytes, end_of, magic, table_limit, code_limit}
 use Rattle.image_form.specs.Fields.{◌>>=◌, func_at, sym_at, root_at, ext_at, desc_at, table_at, words_at}
 
 -- What a function of the code returned, seen by view, is what reading gives, unless memory ran out.
@@ -68,7 +69,7 @@ section_at total name limits bytes = do
   whole_at total n.0 n.1
 
 -- what is read of a body, with a fault told by its place in the image: so many bytes before the end
--- of the body, behind which these stand
+-- of the body, after which these stand
 abbrev pub placed : {A : Type 0} → ℕ → List ℕ → Result A ℕ → Result A ImageRefusal
 placed total behind (Ok x) = Ok x
 placed total behind (Err left) =

@@ -9,6 +9,3 @@ pub const TABLE_LIMIT: u64 = 67_108_864;
 
 /// The most bytes of code.
 pub const CODE_LIMIT: u64 = 268_369_920;
-
-/// The most bytes of data.
-pub const DATA_LIMIT: u64 = 16_777_216;

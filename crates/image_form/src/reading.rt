@@ -26,10 +26,11 @@ ghost use Rattle.image_form.specs.declared.fault.ImageError.TheVariants.{Refused
 
 use crate::fault::{ImageError, Stop};
 use crate::image::{DescRow, ExtRow, FuncRow, Image, SymRow};
-use crate::limits::{CODE_LIMIT, DATA_LIMIT, TABLE_LIMIT};
+use crate::limits::{CODE_LIMIT, TABLE_LIMIT};
 use crate::rows::{desc_table, end_of, ext_table, func_table, root_table, sym_table, words};
 use crate::seen::Seen;
 use bs_fault::{ImageFault, ImageRefusal};
+use bs_words::DATA_LIMIT;
 use std::alloc::Global;
 
 /// What the length of a section's body may be, in bytes.
@@ -145,7 +146,7 @@ fn section_from<'a>(
     whole_from(total, len, rest)
 }
 
-/// What was read of a body, with a fault told by its place in the image. Behind the body stand the
+/// What was read of a body, with a fault told by its place in the image. After the body stand the
 /// other bytes.
 fn placed<T>(total: usize, behind: &[u8], read: Result<T, Stop>) -> Result<T, ImageError>
     ensures { result ≡ placed_result total behind.now read }

@@ -50,7 +50,7 @@ fn is_behind(row: &FuncRow, offset: u32) -> bool
     row.offset < offset && end_of(row) <= offset as u64
 }
 
-/// Whether a function at the offset begins behind the last of those before it, and not inside it.
+/// Whether a function at the offset begins after the last of those before it, and not inside it.
 fn begins_behind(before: &[FuncRow], offset: u32) -> bool
     ensures { result
         ≡ at_last (λ f. nat_lt f.offset offset && nat_le (end_of f) offset) (map func before.now) }
@@ -454,7 +454,7 @@ fn is_return(code_len: usize, offset: u32) -> bool
     offset % 4 == 0 && offset >= 20 && offset as usize <= code_len
 }
 
-/// Whether a descriptor of the offset may stand behind the last of those before it.
+/// Whether a descriptor of the offset may stand after the last of those before it.
 fn returns_behind(before: &[DescRow], offset: u32) -> bool
     ensures { result ≡ at_last (λ d. nat_lt d.after offset) (map desc before.now) }
 {

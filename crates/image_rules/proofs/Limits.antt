@@ -3,9 +3,10 @@ use Rattle.std.proofs.Common.{◌≡◌, ℕ, ◌*◌, ◌≤◌, Bool, true, fa
 use Rattle.std.specs.Prelude.{Option, Some, None, find, nat_lt, option_map}
 use Rattle.std.specs.List.{AllByRecursion}
 use Rattle.std.proofs.lemmas.Bool.{ltb-false}
+use Rattle.bs_words.specs.Fits.{data_limit}
 use Rattle.bs_fault.specs.declared.large.Section.{Section}
 use Rattle.bs_fault.specs.declared.large.Section.TheVariants.{Func, Code, Data, Syms, Root, Extc, Desc}
-use Rattle.image_form.specs.Image.{le32, func_bytes, sym_bytes, ext_bytes, desc_bytes, table_bytes, table_limit, code_limit, data_limit}
+use Rattle.image_form.specs.Image.{le32, func_bytes, sym_bytes, ext_bytes, desc_bytes, table_bytes, table_limit, code_limit}
 use Rattle.image_form.specs.Tables.{Tables}
 use Rattle.layout_rules.specs.TooLarge.{sections, section_bytes_of, limit_of, passes_limit, first_too_large}
 

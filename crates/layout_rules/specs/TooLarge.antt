@@ -1,9 +1,10 @@
 -- Which section of an image is the first that passes its limit.
 use Rattle.std.specs.Prelude.{ℕ, ◌*◌, Bool, nat_lt, List, [], ◌∷◌, length, Option, find, option_map}
+use Rattle.bs_words.specs.Fits.{data_limit}
 use Rattle.bs_fault.specs.declared.large.Large.{Large}
 use Rattle.bs_fault.specs.declared.large.Section as declared
 use Rattle.bs_fault.specs.declared.large.Section.TheVariants.{Func, Code, Data, Syms, Root, Extc, Desc, Imps, Relo}
-use Rattle.image_form.specs.Image.{le32, func_bytes, sym_bytes, ext_bytes, desc_bytes, table_bytes, table_limit, code_limit, data_limit}
+use Rattle.image_form.specs.Image.{le32, func_bytes, sym_bytes, ext_bytes, desc_bytes, table_bytes, table_limit, code_limit}
 use Rattle.image_form.specs.Tables.{Tables}
 
 -- the sections of an image, in their order

@@ -44,7 +44,7 @@ pub ends_before : {a : Activation} {before later : Memory} {run : Evaluation} â†
 ends_before e l = record { memory = extends_trans e l.memory; given = l.given; raised = l.raised }
 
 module _ (file : FileTree) where
-  -- where a call took a doing, what was handed in for it, and for the calls behind it
+  -- where a call took a doing, what was handed in for it, and for the calls after it
   record Next (call : Asked) (d : Doing) (asked : List Asked) (doings : List Doing) (run : Evaluation) : Type 0 where
     handed : IsHanded file call d
     since : AreHandedSince file (asked ++ call âˆ· []) doings run

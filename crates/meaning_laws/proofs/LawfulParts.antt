@@ -352,7 +352,7 @@ back_lawful a tries (ret.Comp c) h k st q (Gave (Some v) m) (gave e) = q.giving 
 back_lawful a tries (ret.Comp c) h k st q (Gave None m) (gave e) = fails (extends_same m)
 back_lawful a tries result h k st q (Threw v m) (threw fit e) = q.raising v h m (stands_so a tries h st) fit e
 
--- behind a call in tail position
+-- after a call in tail position
 tests_call : {result : Ret} {k : Leaves (Option Value) → Does} (written : Ret) (h : Here) → Tests result k → (d : Doing) →
     OnlyTests result d (back_from_call written h d k)
 tests_call ret.Unit h p (Gave v m) = p.nothing v h m

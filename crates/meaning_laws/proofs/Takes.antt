@@ -46,7 +46,7 @@ pub record Follows {A : Type 0} (most : ℕ) (left : A → ℕ) (k : Leaves A �
 pub record Takes {A : Type 0} (most n : ℕ) (left : A → ℕ) (part : Part A) : Type 0 where
   pub paced : (r : ℕ) (k : Leaves A → Does) → n + r ≤ most → Follows most (λ a. left a + r) k → Paced most (n + r) (part k)
 
--- so does a part that begins behind a call or a jump
+-- so does a part that begins after a call or a jump
 pub record After {A : Type 0} (most n : ℕ) (left : A → ℕ) (part : Part A) : Type 0 where
   pub paced : (r : ℕ) (k : Leaves A → Does) → n + r ≤ most → Follows most (λ a. left a + r) k → Paced most most (part k)
 

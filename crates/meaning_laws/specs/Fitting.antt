@@ -1,5 +1,5 @@
 -- What holds of all that functions do: the arguments of their calls fit, each call stands on the bytes of its caller,
--- behind a tail call a function only tests, what they raise fits val, what they give fits their result, and the memory
+-- after a tail call a function only tests, what they raise fits val, what they give fits their result, and the memory
 -- only grows.
 use Rattle.std.specs.Prelude.{◌≡◌, ℕ, ◌+◌, ◌*◌, Bool, true, cond, List, ◌++◌, Option, Some, None, slice_get}
 use Rattle.bs_words.specs.External.{External}
@@ -71,7 +71,7 @@ pub record CallStands (a : Activation) (call : Called) : Type 0 where
   pub below : call.below ≡ cond call.tail a.below (a.below + a.frame + 16 * call.tries)
   pub tries : call.tail ≡ true → call.tries ≡ 0
 
--- Behind a tail call the function only tests: where the callee gave something it ends with what its result leaves of
+-- After a tail call the function only tests: where the callee gave something it ends with what its result leaves of
 -- that, or is improper; where the callee raised it raises that.
 pub data OnlyTests (result : Ret) : Doing → Does → Type 0 where
   gives : {v given : Option Value} {h : Here} {memory : Memory} → given ≡ left_of result v →

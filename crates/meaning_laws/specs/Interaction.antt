@@ -122,7 +122,7 @@ as_written ret.Unit v h m = gives None h m
 as_written (ret.Comp c) (Some v) h m = gives (Some v) h m
 as_written (ret.Comp c) None h m = fails BadCall m
 
--- the activation behind a call, which has changed nothing of it
+-- the activation after a call, which has changed nothing of it
 abbrev pub back_from_call : Ret → Here → Doing → Part (Option Value)
 back_from_call result h (Gave v m) = as_written result v h m
 back_from_call result h (Threw v m) = raises v h m

@@ -10,7 +10,7 @@ use Rattle.meaning_laws.specs.Does.{Leaves, Does, Ends, Pays, Deepens, Jumps, Ca
 
 -- `Paced most left d`: what a function does pays at most `left` units up to its first call, jump or end, and from
 -- each call or jump at most `most` units up to the next. An external call that gave something is none of these, and
--- what is left goes on behind it; one that raised is one.
+-- what is left goes on after it; one that raised is one.
 pub data Paced (most : ℕ) : ℕ → Does → Type 0 where
   ends : {left : ℕ} {end : Leaves (Option Value)} → Paced most left (Ends end)
   pays : {left : ℕ} {memory : Memory} {rest : Does}
@@ -30,7 +30,7 @@ pub data Paced (most : ℕ) : ℕ → Does → Type 0 where
 
 -- ---- the beats of a run
 
--- the beats behind a call: it is one where it comes back
+-- the beats after a call: it is one where it comes back
 abbrev pub beats_behind_call : (Doing → World → ℕ) → Evaluation → ℕ
 beats_behind_call go (Gives v h w) = suc (go (Gave v w.memory) w)
 beats_behind_call go (Exits label values h w) = 0

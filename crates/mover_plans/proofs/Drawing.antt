@@ -23,7 +23,7 @@ pub generator-first : (seed : ℕ) (g : Lcg) → g ≡ pcg32_of_seed (pcg32_seed
 unfolding generator state_after
 generator-first seed g e = e
 
--- the word behind a jump
+-- the word after a jump
 pub word-jump : (seed k : ℕ) (g h : Lcg) (w : ℕ) (after : Lcg) → g ≡ pcg32_of_seed (pcg32_seed 16 seed) → h ≡ advance 64 multiplier_64 k g → (w, after) ≡ pcg32 h
     → w ≡ word seed k
 unfolding generator word

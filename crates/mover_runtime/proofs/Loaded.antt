@@ -15,7 +15,7 @@ use Rattle.mover_runtime.specs.Outcome.{calling_none, entry_result, result_at, r
 use Rattle.mover_runtime.specs.Schedules.{schedule_of}
 use Rattle.mover_runtime.specs.declared.schedule.Schedule.{Schedule}
 
--- a function that is found behind another one has the greater offset
+-- a function that is found after another one has the greater offset
 behind_by : (p : Func → Bool) (f g : Func) (gs : List Func) (e : Func) (t : Bool) → f.offset < g.offset → cond t (Some g) (find p gs) ≡ Some e
     → (find p gs ≡ Some e → g.offset < e.offset) → f.offset < e.offset
 behind_by p f g gs e true h k later = let same : g ≡ e = cc in subst (λ (x : Func). f.offset < x.offset) same h

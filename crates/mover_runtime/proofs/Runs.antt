@@ -147,7 +147,7 @@ next_behind schedule (next.Service h') h result answers cs = service_behind sche
 next_behind schedule next.StackOut h result answers cs = over_behind cs StackOut
 next_behind schedule (next.Stopped cause) h result answers cs = over_behind cs (Stopped cause)
 
--- what one instruction comes to, behind the calls that were made before
+-- what one instruction comes to, after the calls that were made before
 pub advances : (schedule : Schedule) (limit k : ℕ) (asks : Bool) (h : Hart) (result : Ret) (answers : List ℕ) (cs : List Made) → k < limit
     → asks ≡ schedule.asks h.retired
     → after schedule (limit - k) (Going (state h result answers cs))

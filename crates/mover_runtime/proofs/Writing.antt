@@ -30,7 +30,7 @@ part_of_second a b c xs ys h k =
     let fewer : length xs + k.0 < length (xs ++ ys) = omega (arith, k.1, length-append xs ys) in
     (length xs + k.0, fewer, subst (Appends a c) (sym (take-append-add xs ys k.0)) (appends_then a b c xs (take k.0 ys) h k.2))
 
--- what is written behind a text that was written
+-- what is written after a text that was written
 pub writes_then : {T E : Type 0} (r : Result T E) (a b c : Option (List ℕ)) (xs ys : List ℕ) → Appends a b xs → Writes r b c ys → Writes r a c (xs ++ ys)
 writes_then (Ok t) a b c xs ys h k = appends_then a b c xs ys h k
 writes_then (Err e) a b c xs ys h k = part_of_second a b c xs ys h k

@@ -1,4 +1,4 @@
--- Many words written one behind the other.
+-- Many words written one after the other.
 use Rattle.std.proofs.Common.{◌≡◌, ◌≢◌, ℕ, zero, suc, ◌+◌, ◌*◌, ◌^◌, ◌<◌, ◌≤◌, ◌⊎◌, inl, inr, List, [], ◌∷◌, length, map, slice_index, replicate, refl, ap, arith, ◌∙◌, subst, ⊎_elim}
 use Rattle.rv_machine.specs.Memory.{Region, word, write, put, words_at}
 use Rattle.moving_laws.specs.Words.{IsFormed, IsReadable}

@@ -208,7 +208,7 @@ module _ (h : Hart) (from : ℕ) (young : List Placed) (f : Frame) (fs : List Fr
     s1_same : register after s1 ≡ register h s1
     s1_same = same_reg 9 (λ e. omega (arith, e)) (unnamed_special 9 (inr refl))
 
-    -- a root cell is a whole word, before the move and behind it
+    -- a root cell is a whole word, before the move and after it
     root_words : (x : ℕ) → Among x (root_cells h.image) →
         IsReadable h.memory x × (held_word h.memory x ≡ word h.memory x) × (held_word after.memory x ≡ word after.memory x)
     root_words x i =

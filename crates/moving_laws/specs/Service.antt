@@ -31,9 +31,9 @@ pub record Contents : Type 0 where
   pub blocks : Blocks
   pub static : ℕ → Option Value
 
--- The machine stands before a service, or behind it, which returns to an address. The blocks lie
+-- The machine stands before a service, or after it, which returns to an address. The blocks lie
 -- so, those of the young area among them. The running function's own frame is the first of the
--- frames, and it is the first activation: what may not be read behind the service is none in it
+-- frames, and it is the first activation: what may not be read after the service is none in it
 -- already.
 pub record Knows (placed : List Placed) (h : Hart) (frames : List Frame) (c : Contents)
     (back : ℕ) : Type 0 where
@@ -63,7 +63,7 @@ pub record IsReady (h : Hart) (from : ℕ) (young : List Placed) (f : Frame)
       × (r ≢ s10) × (r ≢ s11)
   pub no_s10 : registers s10 ≡ None
 
--- What is restored behind it, where so many bytes of the young area are taken.
+-- What is restored after it, where so many bytes of the young area are taken.
 pub record IsRestored (bytes : ℕ) (h : Hart) (f : Frame) (frames : List Frame) (c : Contents)
     (new : Hart) : Type 0 where
   pub knows : Knows new.blocks new (f ∷ frames) c (h.pc + 4)

@@ -168,7 +168,7 @@ fn copy(alloc: Global, kind: CopyKind, from: Reg, to: Reg) -> Result<Instr, Allo
     })
 }
 
-/// Puts the reloads of these operands behind the code.
+/// Puts the reloads of these operands after the code.
 pub(crate) fn push_reloads(
     alloc: Global,
     registers: bool,
@@ -189,7 +189,7 @@ pub(crate) fn push_reloads(
     Ok(())
 }
 
-/// Puts the spills of these results behind the code.
+/// Puts the spills of these results after the code.
 pub(crate) fn push_spills(
     alloc: Global,
     registers: bool,

@@ -34,7 +34,7 @@ fn any_needs(code: &[Instr]) -> bool
     false
 }
 
-/// Puts the instruction over its fresh registers behind the code, with its reloads and spills. The number is
+/// Puts the instruction over its fresh registers after the code, with its reloads and spills. The number is
 /// the next one.
 fn push_instr(
     alloc: Global,

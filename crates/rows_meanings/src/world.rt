@@ -4,10 +4,10 @@
 //! This is a second reading of what Mach and Linear mean, by a machine that changes, for the rows alone.
 
 use anyhow::Result;
-use bs_words::{Chunk, Comp, IntOp, Name, Ret, Ty, Value};
-use cmm_data::{DATA_START, SymbolTable};
+use bs_words::{Chunk, Comp, DATA_START, IntOp, Name, Ret, Ty, Value};
+use cmm_data::SymbolTable;
 use cmm_tree::{File, Item, Param};
-use cmm_values::{Memory, apply, condition_of, fits, type_of_comp};
+use cmm_values::{Memory, apply, condition_of, fits};
 use mach_ir::{Access, Blocks, Callee, Calling, External, Label, Leaving, Op, Pure, Right, Test};
 use std::alloc::Global;
 
@@ -108,7 +108,7 @@ impl<'a> World<'a> {
 
     /// Whether a value fits a component.
     pub(crate) fn fits(&self, comp: Comp, value: Value) -> bool {
-        fits(self.memory.end_of_data(), type_of_comp(comp), value)
+        fits(self.memory.end_of_data(), comp.ty(), value)
     }
 
     pub(crate) fn is_val(&self, value: Value) -> bool {

@@ -5,7 +5,8 @@ ghost use Rattle.layout_rules.specs.TooLarge.{first_too_large};
 ghost use Rattle.rv_layout.specs.Sizes.{AreSizesOf};
 
 use bs_fault::{Large, Section};
-use image_form::limits::{CODE_LIMIT, DATA_LIMIT, TABLE_LIMIT};
+use bs_words::DATA_LIMIT;
+use image_form::limits::{CODE_LIMIT, TABLE_LIMIT};
 
 /// The bytes of the bodies of an image's sections, as they are known before any of it is made.
 #[derive(Clone, Copy)]

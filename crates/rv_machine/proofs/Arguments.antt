@@ -45,7 +45,7 @@ next_word image comps args words k w comp arg ha hc hw ec ea s =
     ∙ ap (λ (t : List ℕ). option_map (λ (ws : List ℕ). t ++ ws) (words_of_args image (drop (suc k) comps) (drop (suc k) args))) (sym (take-suc-set words k w hw))
     ∙ ap (λ (m : ℕ). option_map (λ (ws : List ℕ). take m (set words k w) ++ ws) (words_of_args image (drop m comps) (drop m args))) n
 
--- the places behind the words found are free
+-- the places after the words found are free
 tail_of : (x y : ℕ) (xs ys : List ℕ) → x ∷ xs ≡ y ∷ ys → xs ≡ ys
 tail_of x y xs ys e = cc
 

@@ -15,7 +15,7 @@ use Rattle.rv_machine.specs.Memory.{Region, loaded, stored, code_region, code_st
 use Rattle.rv_machine.specs.declared.cause.Cause.{Cause}
 use Rattle.rv_machine.specs.declared.cause.Cause.TheVariants.{BadFetch, BadWord, BadAccess}
 
--- Where a block of the heap lies: the address of its first cell, 8 bytes behind its header, and the
+-- Where a block of the heap lies: the address of its first cell, 8 bytes after its header, and the
 -- number of its cells.
 pub record Placed : Type 0 where
   pub start : ℕ

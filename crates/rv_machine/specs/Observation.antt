@@ -24,7 +24,7 @@ abbrev pub block_then : ℕ → ℕ → Option (List Placed) → Option (List Pl
 block_then words address rest =
     cond (nat_le 1 words && nat_le words 256) (option_map (λ bs. record { start = address + 8; words = words } ∷ bs) rest) None
 
--- the blocks that lie one behind the other from an address up to the young area's top, the lowest
+-- the blocks that lie one after the other from an address up to the young area's top, the lowest
 -- first: each is a header and as many words as it says, 1 to 256; none where they do not read so
 abbrev pub blocks_from : ℕ → List Region → ℕ → Option (List Placed)
 blocks_from zero memory address = None

@@ -10,7 +10,7 @@ use Rattle.rv_machine.specs.Places.{half_start}
 abbrev pub header_at : Placed → ℕ
 header_at b = b.start - 8
 
--- the address behind its last cell
+-- the address after its last cell
 abbrev pub end_of : Placed → ℕ
 end_of b = b.start + 8 * b.words
 
@@ -31,7 +31,7 @@ placed_at [] starts = []
 placed_at (b ∷ bs) [] = b ∷ bs
 placed_at (b ∷ bs) (s ∷ starts) = record b { start = s } ∷ placed_at bs starts
 
--- the starts of blocks that lie one behind the other from an address on, with a gap before each
+-- the starts of blocks that lie one after the other from an address on, with a gap before each
 abbrev pub spaced : ℕ → ℕ → List Placed → List ℕ
 spaced gap at [] = []
 spaced gap at (b ∷ bs) = (at + gap + 8) ∷ spaced gap (at + gap + bytes_of b) bs

@@ -1,8 +1,9 @@
 //! Loading: the machine at the entry of a function of an image.
 ghost use Rattle.std.specs.Prelude.{◌≡◌, ◌↔◌, ◌≤◌, ◌<◌, ◌^◌, ◌*◌, length, slice_index, map, Ok, Err, IfOk, option_map};
 ghost use Rattle.std.specs.Option.{option_copied};
+ghost use Rattle.bs_words.specs.Fits.{data_limit};
 ghost use Rattle.bs_words.specs.Contents.{contents};
-ghost use Rattle.image_form.specs.Image.{IsImage, code_limit, data_limit};
+ghost use Rattle.image_form.specs.Image.{IsImage, code_limit};
 ghost use Rattle.image_form.specs.Tables.{tables, func, sym};
 ghost use Rattle.rv_machine.specs.Start.{start_memory, padded};
 ghost use Rattle.rv_machine.specs.Loading.{IsRoom, beginning, func_named, sym_named, address_of, word_of_arg, suited};
@@ -14,10 +15,9 @@ use crate::memory::Memory;
 use crate::setup::{Arg, LoadError, Setup};
 use crate::space::Space;
 use crate::start::{
-    self, DATA_START, DOMAIN_START, FILLER, LOWER_HALF, STACK_BOTTOM, UPPER_HALF, YOUNG_START,
-    YOUNG_TOP,
+    self, DOMAIN_START, FILLER, LOWER_HALF, STACK_BOTTOM, UPPER_HALF, YOUNG_START, YOUNG_TOP,
 };
-use bs_words::{Comp, List, Name};
+use bs_words::{Comp, DATA_START, List, Name};
 use image_form::{FuncRow, Image};
 use std::alloc::{AllocError, Global};
 

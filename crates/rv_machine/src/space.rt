@@ -26,7 +26,7 @@ impl Space {
         ensures { IfOk result (λ space. IsSpace heap space) }
     {
         let table = Table::new(alloc, heap)?;
-        // A block has 16 bytes at least, and the young area has 65,536: 4,096 blocks, and the place behind them.
+        // A block has 16 bytes at least, and the young area has 65,536: 4,096 blocks, and the place after them.
         let young = Vec::with_capacity(alloc, 4097)?;
         let starts = Vec::with_capacity(alloc, (heap / 16) as usize)?;
         let words = Vec::with_capacity(alloc, (heap / 8) as usize)?;

@@ -5,10 +5,9 @@ ghost use Rattle.rv_machine.specs.Start.{uniform, data_region, domain_region, st
 
 use crate::code::CODE_START;
 use crate::region::Region;
+use bs_words::DATA_START;
 use std::alloc::{AllocError, Global};
 
-/// Where static data begins.
-pub const DATA_START: u64 = 0x1000_0000;
 /// The domain page, whose first word is the limit word.
 pub const DOMAIN_START: u64 = 0x2000_0000;
 

@@ -1,4 +1,4 @@
--- Bindings, by the last of them, and the names behind them.
+-- Bindings, by the last of them, and the names after them.
 use Rattle.std.proofs.Common.{◌≡◌, ℕ, zero, suc, ◌+◌, false, List, [], ◌∷◌, ◌++◌, length, drop, option_map, refl, ap, ◌∙◌, arith}
 use Rattle.cmm_tree.specs.Rows.{bindings_of}
 use Rattle.cmm_tree.specs.Tree.{Parameter, Bindings, NoBinding, Bind}

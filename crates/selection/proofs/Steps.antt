@@ -19,7 +19,7 @@ read-by env labels n b number first e other r made follows p q s t m =
     ∙ ap (λ k. select env labels false false (fresh n (type_of (scopes env) e)) k e (follows (fresh n (type_of (scopes env) e)))) q
     ∙ ap (λ x. select env labels false false (fresh n (type_of (scopes env) x)) b x (follows (fresh n (type_of (scopes env) x)))) s
 
--- the base of an address, which the access behind it reads
+-- the base of an address, which the access after it reads
 pub based-by : (env : List Named) (labels : List Label) (n b number first : ℕ) (address base : Expression) (r : Reg) (made : List Instr) (follows : Reg → List Instr)
     → number ≡ n → first ≡ b → base ≡ base_of address → r ≡ fresh number (type_of (scopes env) base)
     → made ≡ select env labels false false r first base (follows r)

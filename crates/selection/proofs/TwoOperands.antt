@@ -22,7 +22,7 @@ use Rattle.selection_scope.specs.declared.place.Node.{Node}
 abbrev into : Visible → Reg → ℕ → Expr → List Instr → List Instr
 into s r b e next = select s.names s.labels false false r b (expr_view e) next
 
--- the two operands, in the registers and behind the numbers that the code has for them
+-- the two operands, in the registers and after the numbers that the code has for them
 abbrev pub operands_made : Visible → Bool → Bool → Bool → Reg → Reg → ℕ → ℕ → Expr → Expr → List Instr → List Instr
 operands_made s left_first need_left need_right x y first second left right next =
     ordered left_first (only_when need_left (into s x first left)) (only_when need_right (into s y second right)) next

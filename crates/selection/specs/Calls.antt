@@ -1,4 +1,4 @@
--- The numbers of calls, and their code behind that of their operands.
+-- The numbers of calls, and their code after that of their operands.
 use Rattle.std.specs.Prelude.{ℕ, ◌+◌, List}
 use Rattle.cmm_tree.specs.Tree.{Expressions}
 use Rattle.mach_ir.specs.declared.mach.Instr.{Instr}

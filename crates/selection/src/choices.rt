@@ -251,7 +251,7 @@ pub fn if_else<F: Fn(&mut Scope, &mut Backwards, Place, &Expr) -> Result<(), All
     condition(below, scope, code, label, place, condition_of)
 }
 
-/// Expressions whose values are dropped. Each has a register, and behind it its own numbers.
+/// Expressions whose values are dropped. Each has a register, and after it its own numbers.
 fn dropped<F: Fn(&mut Scope, &mut Backwards, Place, &Expr) -> Result<(), AllocError>>(
     below: &F,
     scope: &mut Scope,

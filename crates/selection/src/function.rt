@@ -44,10 +44,10 @@ fn function_at(items: &[Item], number: u32) -> Option<&Function>
     None
 }
 
-/// The first number behind the registers of the colours.
+/// The first number after the registers of the colours.
 const FIRST: u32 = 21;
 
-/// The numbers of a function behind those of the colours and of the seats of its parameters.
+/// The numbers of a function after those of the colours and of the seats of its parameters.
 #[derive(Clone, Copy)]
 struct Numbers {
     /// The first of the registers that its parameters are moved to.
@@ -58,7 +58,7 @@ struct Numbers {
     given: u32,
     /// The first of its body.
     base: u32,
-    /// The first behind those of its body.
+    /// The first after those of its body.
     labels: u32,
 }
 

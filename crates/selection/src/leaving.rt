@@ -50,7 +50,7 @@ fn is_early(light: bool, callee: &Expr) -> bool
 }
 
 /// The numbers of a call: the first of the registers of its arguments, the first of their seats, the seat of what is
-/// given, and the first behind them.
+/// given, and the first after them.
 #[derive(Clone, Copy)]
 struct CallNumbers {
     row: u32,

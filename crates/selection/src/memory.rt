@@ -28,7 +28,7 @@ use std::alloc::AllocError;
 /// The header of a block stands 8 bytes before it.
 const HEADER_OFFSET: u64 = 0xFFFF_FFFF_FFFF_FFF8;
 
-/// The address of an access: an expression, and bytes behind it.
+/// The address of an access: an expression, and bytes after it.
 #[derive(Clone, Copy)]
 pub struct Address<'e> {
     pub base: &'e Expr,

@@ -47,7 +47,7 @@ pub fn assign<F: Fn(&mut Scope, &mut Backwards, Place, &Expr) -> Result<(), Allo
     one(below, scope, code, operand_at(register, base), value)
 }
 
-/// Binds the names of a let to registers. Each has a number, and behind it those of its value.
+/// Binds the names of a let to registers. Each has a number, and after it those of its value.
 fn bind_all(scope: &mut Scope, number: u32, bindings: &[Binding]) -> Result<(), AllocError>
     requires { AreBindingsAnnotated (names_in scope.old) bindings.now }
     ensures { OnOk result (scope.new ≡ record scope.old {

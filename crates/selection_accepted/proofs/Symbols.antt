@@ -3,11 +3,11 @@ use Rattle.std.proofs.Common.{◌≡◌, ℕ, suc, ◌+◌, ◌≤◌, ◌<◌, 
 use Rattle.std.specs.Prelude.{bytes_eq}
 use Rattle.bs_fault.specs.declared.fault.Fault.{Fault}
 use Rattle.bs_fault.specs.Reported.{here, second, one_of, Faultless}
-use Rattle.bs_words.specs.Fits.{data_start}
+use Rattle.bs_words.specs.Fits.{data_limit, data_start}
 use Rattle.bs_words.specs.declared.values.Value.{Value}
 use Rattle.cmm_tree.specs.Tree.{DatumTree, Define, DataItemTree, ItemTree, AFunction, AData, FileTree, data_among, data_lists}
 use Rattle.cmm_data.specs.Placement.{PlacedItem, Definition, definition_of_data, symbols_among, size_at, items_from, start_behind, end_behind, lists_behind, items_of_lists, built_in, defined_at, defined_by_list, defined_from, definitions, value_among, value_of_symbol}
-use Rattle.cmm_data.specs.Faults.{data_limit, first_fault, data_fault_of}
+use Rattle.cmm_data.specs.Faults.{first_fault, data_fault_of}
 use Rattle.cmm_data.proofs.Walk.{sound-first, sound-list, start-within}
 use Rattle.cmm_data.proofs.Steps.{end-within}
 use Rattle.cmm_meaning.specs.Setting.{Setting}

@@ -327,7 +327,7 @@ module _ (Q : Role → Reg → Type 0) (open_plain : (r : Reg) → Q Plain r →
   live_soon e (on unwritten (goes (At l) o) live) w = absurd (not_labelled l (labelled l m.code) (live_soon e live (label_suffix (labelled l m.code))))
   live_soon e (aside (raises {l = l} b t) live) w = absurd (not_handled l (handled l m.code) (live_soon e live (handler_suffix (handled l m.code))))
 
-  -- where a write goes on to a place before which it is read soon, it goes on behind the instruction
+  -- where a write goes on to a place before which it is read soon, it goes on after the instruction
   goes_on : {i : Instr} {next to : List Instr} → Leads m i next to → Soon q to → Soon q next
   goes_on (goes On o) s = s
   goes_on (goes (At l) o) s = absurd (not_labelled l (labelled l m.code) s)

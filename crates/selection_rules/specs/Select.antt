@@ -473,7 +473,7 @@ bound_name env b name declared e =
     let scoped : Scoped = record { name = name; type = type; mutable = is_mutable declared } in
     record { scoped = scoped; reg = fresh b type }
 
--- the names behind bindings
+-- the names after bindings
 abbrev pub env_after : List Named → ℕ → Bindings → List Named
 env_after env b NoBinding = env
 env_after env b (Bind at name declared e rest) =

@@ -1,6 +1,5 @@
 //! Where the value of a node goes, and how it stands to the end of the function.
 ghost use Rattle.std.specs.Prelude.{◌≡◌, false};
-ghost use Rattle.bs_words.specs.Fits.{type_of_comp};
 ghost use Rattle.cmm_types.specs.Types.{type_bound, is_mutable, result_of};
 ghost use Rattle.cmm_tree.specs.View.{declared_view};
 ghost use Rattle.std.specs.Option.{option_map};
@@ -105,25 +104,13 @@ pub fn fresh(number: u32, ty: Ty) -> Reg
     }
 }
 
-/// The type of a value with this component.
-pub fn type_of_comp(comp: Comp) -> Ty
-    ensures { result ≡ type_of_comp comp }
-{
-    match comp {
-        Comp::Int => Ty::Int,
-        Comp::Val => Ty::Val,
-        Comp::Addr => Ty::Addr,
-        Comp::Float => Ty::Never,
-    }
-}
-
 /// The type of a name that is bound to a value of this type.
 pub fn type_bound(declared: Option<Declared>, ty: Ty) -> Ty
     ensures { result ≡ type_bound (option_map declared_view declared) ty }
 {
     match declared {
         None => ty,
-        Some(declared) => type_of_comp(declared.comp),
+        Some(declared) => declared.comp.ty(),
     }
 }
 

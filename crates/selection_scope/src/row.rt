@@ -57,7 +57,7 @@ impl Regs {
         }
     }
 
-    /// Puts a register behind the others.
+    /// Puts a register after the others.
     pub fn push(&mut self, reg: Reg) -> Result<(), AllocError>
         ensures { OnOk result (self.new ≡ self.old ++ reg ∷ []) }
     {

@@ -1,14 +1,13 @@
 //! The names and labels in scope.
 ghost use Rattle.std.specs.Prelude.{◌≡◌, [], ◌∷◌, ◌++◌, List, Some, false, not, length, map, reverse, option_map, option_copied, IfOk, OnOk, MatchOption};
 ghost use Rattle.cmm_tree.specs.Rows.{handlers_of};
-ghost use Rattle.cmm_tree.specs.Tree.{same_label, is_bare};
 ghost use Rattle.cmm_tree.specs.View.{label_view, params_view};
 ghost use Rattle.cmm_types.specs.Light.{is_immutable};
 ghost use Rattle.selection_rules.specs.Select.{Named, Label as InCode, scopes, reg_of, label_of, params_from, with_params, labels_from, in_handlers, deeper};
 ghost use Rattle.selection_scope.specs.Scoping.{named_view, target_view, names_in, higher};
 
 use crate::numbers::{number_of, plus};
-use crate::place::{fresh, type_of_comp};
+use crate::place::fresh;
 use crate::row::Regs;
 use bs_words::{Name, Ty};
 use cmm_tree::{Handler, Label, Param};
@@ -75,30 +74,6 @@ fn innermost<'b>(names: &'b [Bound], name: &Name) -> Option<&'b Bound>
     None
 }
 
-/// Whether the labels are the same.
-fn is_same(a: &Label, b: &Label) -> bool
-    ensures { result ≡ same_label (label_view a.now) (label_view b.now) }
-{
-    match a {
-        Label::Named(first) => match b {
-            Label::Named(second) => first.as_bytes() == second.as_bytes(),
-            Label::Bare | Label::Done | Label::Again => false,
-        },
-        Label::Bare => match b {
-            Label::Bare => true,
-            Label::Named(_) | Label::Done | Label::Again => false,
-        },
-        Label::Done => match b {
-            Label::Done => true,
-            Label::Named(_) | Label::Bare | Label::Again => false,
-        },
-        Label::Again => match b {
-            Label::Again => true,
-            Label::Named(_) | Label::Bare | Label::Done => false,
-        },
-    }
-}
-
 fn copy_of(alloc: Global, label: &Label) -> Result<Label, AllocError>
     ensures { IfOk result (λ copy. label_view copy ≡ label_view label.now) }
 {
@@ -120,7 +95,7 @@ fn handler_for<'b>(labels: &'b [Target], label: &Label) -> Option<&'b Target>
 {
     let mut rest = labels;
     while let Some((last, others)) = rest.split_last() {
-        if is_same(label, &last.label) {
+        if label.same(&last.label) {
             return Some(last);
         }
         rest = others;
@@ -136,7 +111,7 @@ pub fn params_from(alloc: Global, number: u32, params: &[Param]) -> Result<Regs,
     let mut next = number;
     let mut rest = params;
     while let [param, others @ ..] = rest {
-        regs.push(fresh(next, type_of_comp(param.comp)))?;
+        regs.push(fresh(next, param.comp.ty()))?;
         next = plus(next, 1)?;
         rest = others;
     }
@@ -167,17 +142,6 @@ fn targets(alloc: Global, handlers: &[Handler], number: u32) -> Result<Vec<Targe
     Ok(targets)
 }
 
-fn is_bare(label: &Label) -> bool
-    ensures { result ≡ is_bare (label_view label.now) }
-{
-    match label {
-        Label::Bare => true,
-        Label::Named(_) => false,
-        Label::Done => false,
-        Label::Again => false,
-    }
-}
-
 /// Puts these handlers on the stack, the first innermost.
 fn put_back(labels: &mut Vec<Target>, targets: Vec<Target>) -> Result<(), AllocError>
     ensures { OnOk result (map target_view (reverse labels.new.items) ≡
@@ -198,7 +162,7 @@ fn put_lasting(labels: &mut Vec<Target>, targets: Vec<Target>) -> Result<(), All
 {
     let mut left = targets;
     while let Some(target) = left.pop() {
-        if !is_bare(&target.label) {
+        if !target.label.is_bare() {
             labels.push(target)?;
         }
     }
@@ -310,7 +274,7 @@ impl Scope {
         let mut next = number;
         let mut rest = params;
         while let [param, others @ ..] = rest {
-            let ty = type_of_comp(param.comp);
+            let ty = param.comp.ty();
             self.bind(&param.name, ty, false, fresh(next, ty))?;
             next = plus(next, 1)?;
             rest = others;

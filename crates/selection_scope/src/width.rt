@@ -19,7 +19,7 @@ fn capped(len: usize) -> u32
     }
 }
 
-/// The numbers of an expression behind so many others.
+/// The numbers of an expression after so many others.
 #[cycle(width)]
 fn with_expr(so_far: u32, expr: &Expr) -> u32
     ensures { result ≡ capped (so_far + width (expr_view expr.now)) }
@@ -132,7 +132,7 @@ fn with_handlers(so_far: u32, handlers: &[Handler]) -> u32
     total
 }
 
-/// The numbers of the labels of handlers, and of their parameters, behind so many others.
+/// The numbers of the labels of handlers, and of their parameters, after so many others.
 fn with_labels(so_far: u32, handlers: &[Handler]) -> u32
     ensures { result ≡ capped (so_far + width_labels (handlers_of handlers.now)) }
 {
@@ -155,7 +155,7 @@ fn below_cap(number: u32) -> Result<u32, AllocError>
     Ok(number)
 }
 
-/// The number behind those of an expression, which begin with `base`. That there is none counts as want of memory, here
+/// The number after those of an expression, which begin with `base`. That there is none counts as want of memory, here
 /// and below.
 pub fn behind(base: u32, expr: &Expr) -> Result<u32, AllocError>
     ensures { IfOk result (λ n. n ≡ base + width (expr_view expr.now)) }
@@ -163,35 +163,35 @@ pub fn behind(base: u32, expr: &Expr) -> Result<u32, AllocError>
     below_cap(with_expr(base, expr))
 }
 
-/// The number behind those of a row of operands.
+/// The number after those of a row of operands.
 pub fn behind_row(base: u32, exprs: &[Expr]) -> Result<u32, AllocError>
     ensures { IfOk result (λ n. n ≡ base + width_row (row_of exprs.now)) }
 {
     below_cap(with_row(base, exprs))
 }
 
-/// The number behind those of bindings.
+/// The number after those of bindings.
 pub fn behind_bindings(base: u32, bindings: &[Binding]) -> Result<u32, AllocError>
     ensures { IfOk result (λ n. n ≡ base + width_bound (bindings_of bindings.now)) }
 {
     below_cap(with_bindings(base, bindings))
 }
 
-/// The number behind those of cases.
+/// The number after those of cases.
 pub fn behind_cases(base: u32, cases: &[Case]) -> Result<u32, AllocError>
     ensures { IfOk result (λ n. n ≡ base + width_cases (cases_of cases.now)) }
 {
     below_cap(with_cases(base, cases))
 }
 
-/// The number behind those of handlers' bodies.
+/// The number after those of handlers' bodies.
 pub fn behind_handlers(base: u32, handlers: &[Handler]) -> Result<u32, AllocError>
     ensures { IfOk result (λ n. n ≡ base + width_handlers (handlers_of handlers.now)) }
 {
     below_cap(with_handlers(base, handlers))
 }
 
-/// The number behind those of the labels of handlers and of their parameters.
+/// The number after those of the labels of handlers and of their parameters.
 pub fn behind_labels(base: u32, handlers: &[Handler]) -> Result<u32, AllocError>
     ensures { IfOk result (λ n. n ≡ base + width_labels (handlers_of handlers.now)) }
 {

@@ -134,7 +134,7 @@ module _ (m : Mach) (n : ℕ) (defined : List ℕ → Option DefinedSymbol) wher
 
   -- ---- bases
 
-  -- where the register of a base is not live behind a frame point
+  -- where the register of a base is not live after a frame point
   abbrev pub Calm : List ℕ → ℕ → ℕ → List Instr → Type 0
   Calm ts k x next = Placed m ts next → n ≡ x → Ahead m n k Bound next → ⊥
 
@@ -226,7 +226,7 @@ module _ (m : Mach) (n : ℕ) (defined : List ℕ → Option DefinedSymbol) wher
   flag_one c at true x = x
   flag_one c at false x = x
 
-  -- behind an instruction that writes the destination the base is not live
+  -- after an instruction that writes the destination the base is not live
   calm_end : {k : ℕ} {ts : List ℕ} {labels : List Label} {w : Option ℕ} {next : List Instr} {tasks : List Task} (want : Bool) (d : Reg) (i : Instr) (x : ℕ) →
       IsPlain i → i.results ≡ d ∷ [] → (n ≡ x → w ≡ None) → Sit m n (out m n want d) k w ts labels next tasks → Calm ts k x (i ∷ next)
   calm_end {k} {ts} {labels} {w = w} {next = next} {tasks = tasks} want d i x plain e none y placed q z =

@@ -77,7 +77,7 @@ module _ (m : Mach) (n : ℕ) where
       Sit m n D k w ts labels next tasks → Sit m n D k w ts labels (bare (mark.End l) ∷ next) tasks
   end_sit l x = jump_sit (mark.End l) On refl (λ placed. (refl, placed_next refl placed)) x
 
-  -- a mark that goes behind the end of its form
+  -- a mark that goes after the end of its form
   pub past_sit : {D : List Reg} {k : ℕ} {ts : List ℕ} {labels : List Label} {w : Option ℕ} {code next : List Instr} {tasks : List Task} (f : Mark) (end : ℕ) →
       WellLabelled m → targets (bare f).op ≡ At end ∷ [] → ((c : List Instr) → tries_at (bare f ∷ c) ≡ tries_at c) → Within (bare (mark.End end) ∷ next) code →
       Sit m n D k w ts labels next tasks → Sit m n D k w ts labels (bare f ∷ code) tasks

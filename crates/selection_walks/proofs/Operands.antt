@@ -140,7 +140,7 @@ count_same (More e rest) = ap suc (count_same rest)
 module _ (m : Mach) (n : ℕ) where
   -- ---- steps
 
-  -- code, and the tasks that it stands for, before which one slot is known and behind which another
+  -- code, and the tasks that it stands for, before which one slot is known and after which another
   pub record Step (k : ℕ) (ts : List ℕ) (labels : List Label) (w v : Option ℕ) (code : Code) (us : List Task) : Type 0 where
     pub keeps : Kept w v
     pub run : (next : List Instr) (tasks : List Task) → OutsOf m n k w ts labels tasks → Sit m n [] k v ts labels next tasks →

@@ -1,9 +1,9 @@
 use Rattle.std.proofs.Common.{◌≡◌, ◌+◌, ◌≤◌, drop, map}
-use Rattle.bs_words.specs.Fits.{data_start}
+use Rattle.bs_words.specs.Fits.{data_limit, data_start}
 use Rattle.cmm_tree.specs.Tree.{data_among}
 use Rattle.cmm_tree.specs.View.{item_view, file_view}
 use Rattle.cmm_data.specs.Placement.{lists_behind, items_of_lists}
-use Rattle.cmm_data.specs.Faults.{data_limit, first_fault, data_fault_of}
+use Rattle.cmm_data.specs.Faults.{first_fault, data_fault_of}
 use Rattle.cmm_data.proofs.fault.data_fault.Given as goal
 
 -- the lists that are left, from here on, say it

@@ -1,8 +1,8 @@
 use Rattle.std.proofs.Common.{◌≡◌, ◌+◌, ◌≤◌, drop, map}
-use Rattle.bs_words.specs.Fits.{data_start}
+use Rattle.bs_words.specs.Fits.{data_limit, data_start}
 use Rattle.cmm_tree.specs.View.{data_item_view}
 use Rattle.cmm_data.specs.Placement.{items_from, end_of_items}
-use Rattle.cmm_data.specs.Faults.{data_limit, first_fault}
+use Rattle.cmm_data.specs.Faults.{first_fault}
 use Rattle.cmm_data.proofs.fault.end_of_items.Given as goal
 
 -- the items that are left, from here on, say it

@@ -1,11 +1,11 @@
 use Rattle.std.proofs.Common.{◌≡◌, ◌∙◌, ℕ, ◌+◌, ◌-◌, ◌≤◌, ◌++◌, ◌∷◌, [], List, drop, map, ap, sym, arith, None}
 use Rattle.std.proofs.lemmas.List.{map-append}
-use Rattle.bs_words.specs.Fits.{data_start}
+use Rattle.bs_words.specs.Fits.{data_limit, data_start}
 use Rattle.bs_words.specs.Memory.{StaticList}
 use Rattle.cmm_tree.specs.Tree.{ItemTree, AData, DataListTree, data_among}
 use Rattle.cmm_tree.specs.View.{item_view, file_view, data_list_view}
 use Rattle.cmm_data.specs.Placement.{start_behind, items_from, end_behind, end_of_lists, lists_behind, items_of_lists, symbols_among, value_of_symbol}
-use Rattle.cmm_data.specs.Faults.{data_limit, first_fault}
+use Rattle.cmm_data.specs.Faults.{first_fault}
 use Rattle.cmm_data.specs.Contents.{static_list, roots_among}
 use Rattle.cmm_data.specs.Symbols.{value_in}
 use Rattle.cmm_data.specs.Map.{symbol_view, cells_view}

@@ -1,9 +1,9 @@
 use Rattle.std.proofs.Common.{◌≡◌, ◌+◌, ◌≤◌, ◌++◌, drop, map, None}
-use Rattle.bs_words.specs.Fits.{data_start}
+use Rattle.bs_words.specs.Fits.{data_limit, data_start}
 use Rattle.cmm_tree.specs.Tree.{data_among}
 use Rattle.cmm_tree.specs.View.{item_view, file_view}
 use Rattle.cmm_data.specs.Placement.{lists_behind, items_of_lists, end_of_lists, symbols_among, symbols_of, value_of_symbol, data_end}
-use Rattle.cmm_data.specs.Faults.{data_limit, first_fault}
+use Rattle.cmm_data.specs.Faults.{first_fault}
 use Rattle.cmm_data.specs.Contents.{static_list, statics, roots_among, root_cells}
 use Rattle.cmm_data.specs.Map.{symbol_view, cells_view}
 use Rattle.cmm_data.proofs.place.place_data.Given as goal

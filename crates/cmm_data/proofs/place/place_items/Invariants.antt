@@ -1,8 +1,8 @@
 use Rattle.std.proofs.Common.{◌≡◌, ◌+◌, ◌%◌, ◌<◌, ◌≤◌, ◌++◌, drop, map, None}
-use Rattle.bs_words.specs.Fits.{data_start}
+use Rattle.bs_words.specs.Fits.{data_limit, data_start}
 use Rattle.cmm_tree.specs.View.{data_item_view}
 use Rattle.cmm_data.specs.Placement.{items_from, end_of_items, symbols_among}
-use Rattle.cmm_data.specs.Faults.{data_limit, first_fault}
+use Rattle.cmm_data.specs.Faults.{first_fault}
 use Rattle.cmm_data.specs.Contents.{bytes_of_items, cells_of, roots_among}
 use Rattle.cmm_data.specs.Filling.{pending, cells_with}
 use Rattle.cmm_data.specs.Symbols.{value_in}

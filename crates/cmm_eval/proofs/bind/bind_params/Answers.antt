@@ -22,7 +22,7 @@ loop-param-preserved c =
     let turn = bound_turn c.args.params.now c.args.values.now (length xs) p.now v.now t.0 t.1 (t.2 p.now) (t.3 v.now) (here_view c.loop-param.here) in
     let here : here_view c.bind.new.self ≡ with_bound (scoped_parameter (param_view p.now) ∷ []) (v.now ∷ []) (here_view c.loop-param.here) =
     c.in_ok-bind.ensures
-    ∙ ap (λ (t : Ty). with_bound (record { name = p.now.name; type = t; mutable = false } ∷ []) (v.now ∷ []) (here_view c.loop-param.here)) c.type_of_comp.ensures in
+    ∙ ap (λ (t : Ty). with_bound (record { name = p.now.name; type = t; mutable = false } ∷ []) (v.now ∷ []) (here_view c.loop-param.here)) c.ty.ensures in
     ap (λ n. with_bound (map scoped_parameter (params_view (drop n c.args.params.now))) (drop n c.args.values.now) (here_view c.bind.new.self)) more
     ∙ ap (with_bound (map scoped_parameter (params_view (drop (length xs + 1) c.args.params.now))) (drop (length xs + 1) c.args.values.now)) here
     ∙ sym turn

@@ -23,7 +23,7 @@ loop-param-preserved c w go =
     let rest = entered c.args.end (params_view (drop (length xs + 1) ps)) (drop (length xs + 1) vs) w go in
     let turn = entered_turn ps vs (length xs) p.now v.now t.0 t.1 (t.2 p.now) (t.3 v.now) c.args.end w go in
     let fit : true ≡ fits c.args.end (type_of_comp p.now.comp) v.now =
-    c.if-not-fits.ensures ∙ ap (λ t. fits c.args.end t v.now) c.type_of_comp-ty.ensures in
+    c.if-not-fits.ensures ∙ ap (λ t. fits c.args.end t v.now) c.ty-ty.ensures in
     let stop : Evaluation = Stops (NotProper (misfit (type_of_comp p.now.comp))) w in
     ap (λ n. entered c.args.end (params_view (drop n ps)) (drop n vs) w go) more
     ∙ ap (λ b. cond b rest stop) fit
@@ -44,9 +44,9 @@ returns-then-not-fits c w go =
     let rest = entered c.args.end (params_view (drop (length xs + 1) ps)) (drop (length xs + 1) vs) w go in
     let turn = entered_turn ps vs (length xs) p.now v.now t.0 t.1 (t.2 p.now) (t.3 v.now) c.args.end w go in
     let fit : false ≡ fits c.args.end (type_of_comp p.now.comp) v.now =
-    c.if-not-fits.ensures ∙ ap (λ t. fits c.args.end t v.now) c.type_of_comp-ty.ensures in
+    c.if-not-fits.ensures ∙ ap (λ t. fits c.args.end t v.now) c.ty-ty.ensures in
     let stop : Evaluation = Stops (NotProper (misfit (type_of_comp p.now.comp))) w in
-    ap (λ k. Stops (NotProper k) w) (c.misfit.ensures ∙ ap misfit c.type_of_comp-ty.ensures)
+    ap (λ k. Stops (NotProper k) w) (c.misfit.ensures ∙ ap misfit c.ty-ty.ensures)
     ∙ ap (λ b. cond b rest stop) fit
     ∙ sym turn
     ∙ c.loop-param.invariant w go

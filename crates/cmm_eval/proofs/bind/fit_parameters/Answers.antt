@@ -27,7 +27,7 @@ loop-param-preserved c =
     let rest = fit_parameters c.args.end (map (λ (p : Parameter). p.comp) (params_view (drop (length xs + 1) ps))) (drop (length xs + 1) vs) in
     let turn = fit_turn ps vs (length xs) p.now v.now t.0 t.1 (t.2 p.now) (t.3 v.now) c.args.end in
     let fit : true ≡ fits c.args.end (type_of_comp p.now.comp) v.now =
-    c.if-not-fits.ensures ∙ ap (λ t. fits c.args.end t v.now) c.type_of_comp.ensures in
+    c.if-not-fits.ensures ∙ ap (λ t. fits c.args.end t v.now) c.ty.ensures in
     ap (λ n. fit_parameters c.args.end (map (λ (p : Parameter). p.comp) (params_view (drop n ps))) (drop n vs)) more
     ∙ ap (λ b. b && rest) fit
     ∙ sym turn
@@ -47,7 +47,7 @@ returns-then-not-fits c =
     let rest = fit_parameters c.args.end (map (λ (p : Parameter). p.comp) (params_view (drop (length xs + 1) ps))) (drop (length xs + 1) vs) in
     let turn = fit_turn ps vs (length xs) p.now v.now t.0 t.1 (t.2 p.now) (t.3 v.now) c.args.end in
     let fit : false ≡ fits c.args.end (type_of_comp p.now.comp) v.now =
-    c.if-not-fits.ensures ∙ ap (λ t. fits c.args.end t v.now) c.type_of_comp.ensures in
+    c.if-not-fits.ensures ∙ ap (λ t. fits c.args.end t v.now) c.ty.ensures in
     ap (λ b. b && rest) fit ∙ sym turn ∙ c.loop-param.invariant
 
 pub returns : goal.returns

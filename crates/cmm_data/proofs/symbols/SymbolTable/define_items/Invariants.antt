@@ -1,8 +1,8 @@
 use Rattle.std.proofs.Common.{◌≡◌, ◌+◌, ◌≤◌, ℕ, List, drop, map, None}
-use Rattle.bs_words.specs.Fits.{data_start}
+use Rattle.bs_words.specs.Fits.{data_limit, data_start}
 use Rattle.cmm_tree.specs.View.{data_item_view}
 use Rattle.cmm_data.specs.Placement.{items_from, end_of_items, defined_at, value_among}
-use Rattle.cmm_data.specs.Faults.{data_limit, first_fault}
+use Rattle.cmm_data.specs.Faults.{first_fault}
 use Rattle.cmm_data.specs.Symbols.{value_in, or_else}
 use Rattle.cmm_data.proofs.symbols.SymbolTable.define_items.Given as goal
 

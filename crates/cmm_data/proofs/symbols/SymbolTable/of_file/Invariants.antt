@@ -1,9 +1,9 @@
 use Rattle.std.proofs.Common.{◌≡◌, ◌+◌, ◌≤◌, ℕ, List, drop, map, None}
-use Rattle.bs_words.specs.Fits.{data_start}
+use Rattle.bs_words.specs.Fits.{data_limit, data_start}
 use Rattle.cmm_tree.specs.Tree.{data_among}
 use Rattle.cmm_tree.specs.View.{item_view, file_view}
 use Rattle.cmm_data.specs.Placement.{lists_behind, items_of_lists, defined_from, value_among, value_of_symbol}
-use Rattle.cmm_data.specs.Faults.{data_limit, first_fault}
+use Rattle.cmm_data.specs.Faults.{first_fault}
 use Rattle.cmm_data.specs.Symbols.{value_in, or_else}
 use Rattle.cmm_data.proofs.symbols.SymbolTable.of_file.Given as goal
 

@@ -3,7 +3,7 @@ use Rattle.cmm_meaning.specs.State.{assigned}
 use Rattle.cmm_eval.specs.Views.{bounds_view}
 use Rattle.cmm_eval.proofs.here.Here.assign.Given as goal
 
--- what is behind the index has no binding of the name
+-- what is after the index has no binding of the name
 abbrev pub invariant-loop-index : goal.invariant-loop-index
 invariant-loop-index l =
     record {

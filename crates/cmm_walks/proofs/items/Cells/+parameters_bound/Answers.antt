@@ -8,4 +8,4 @@ returns-in_ok-cell-in-len1-up t c = λ r.
     let p = first-rest c.args.params.now c.first-item.result c.in-len1-up.len_at_least c.first-item.is in
     let l = c.in_ok-later-in-len1-up.ensures r in
     let d = c.in_ok-cell-in-len1-up.ensures (ready l) in
-    adds-as (parameters-first c.args.slot c.in_ok-next-in-len1-up.next c.args.params.now c.first-item.result _ c.is_address-address.result c.type_of_comp.result p c.in_ok-next-in-len1-up.ensures c.is_address-address.ensures c.type_of_comp.ensures) (then d l)
+    adds-as (parameters-first c.args.slot c.in_ok-next-in-len1-up.next c.args.params.now c.first-item.result _ c.is_address-address.result c.ty.result p c.in_ok-next-in-len1-up.ensures c.is_address-address.ensures c.ty.ensures) (then d l)

@@ -6,5 +6,5 @@ pub returns-in_ok-cell-in-len1-up : goal.returns-in_ok-cell-in-len1-up
 returns-in_ok-cell-in-len1-up t c = λ s sound scope.
     let b = c.in_ok-inner-in-len1-up.ensures s sound scope in
     let w = c.in_ok-cell-in-len1-up.ensures _ b.sound b.opened in
-    let e = slots-first c.args.params.now c.first-item.result _ c.args.slot c.in_ok-next-in-len1-up.next c.type_of_comp-ty.result s (first-rest c.args.params.now c.first-item.result c.in-len1-up.len_at_least c.first-item.is) c.in_ok-next-in-len1-up.ensures c.type_of_comp-ty.ensures in
+    let e = slots-first c.args.params.now c.first-item.result _ c.args.slot c.in_ok-next-in-len1-up.next c.ty-ty.result s (first-rest c.args.params.now c.first-item.result c.in-len1-up.len_at_least c.first-item.is) c.in_ok-next-in-len1-up.ensures c.ty-ty.ensures in
     opens-then b.extends (opens-as e w)

@@ -14,7 +14,7 @@ returns c = λ s r scope typed.
     let others = parameters_bound c.in_ok-next.next (params_view c.args.others.now) in
     let e = c.in_ok-evaluated.ensures s r scope typed in
     let x = then (c.in_ok-bound.ensures (ready e)) e in
-    steps-as v0 v2 _ _ c.telling.result (first-parameter s c.args.slot c.args.handled.free c.in_ok-next.next c.args.param.now c.args.others.now c.is_address-address.result c.type_of_comp.result (expr_view c.args.handled.body.now) behind c.in_ok-next.ensures c.is_address-address.ensures c.type_of_comp.ensures)
+    steps-as v0 v2 _ _ c.telling.result (first-parameter s c.args.slot c.args.handled.free c.in_ok-next.next c.args.param.now c.args.others.now c.is_address-address.result c.ty.result (expr_view c.args.handled.body.now) behind c.in_ok-next.ensures c.is_address-address.ensures c.ty.ensures)
     (record {
       extends = x.extends;
       sound = x.sound;
