@@ -1,6 +1,6 @@
 -- Loops that are turned round. Where an exit leads to a branch, the branch stands again right after
 -- the exit, so that a turn of a loop has no jump back to its test.
-use Rattle.std.specs.Prelude.{◌≡◌, ◌≢◌, ℕ, zero, suc, ◌+◌, ◌*◌, Bool, true, false, cond, ◌||◌, not, nat_eq, max, Option, Some, None, List, [], ◌∷◌, ◌++◌, length, AllPairs}
+use Rattle.std.specs.Prelude.{◌≡◌, ◌≢◌, ℕ, zero, suc, ◌+◌, ◌*◌, Bool, true, false, cond, ◌||◌, nat_eq, nat_le, max, Option, Some, None, List, [], ◌∷◌, ◌++◌, length, AllPairs}
 use Rattle.lin_ir.specs.Formed.{labels_in}
 use Rattle.lin_ir.specs.Meaning.{after_label, has_label}
 use Rattle.lin_ir.specs.Walks.{Stands}
@@ -110,21 +110,17 @@ exit_head m free (lin.Flow (flow.Exit l)) [] [] next =
     cond (stands_first l next) None (head_at free (after_label l m.code))
 exit_head m free _ args results next = None
 
-abbrev pub has_label_in : ℕ → List ℕ → Bool
-has_label_in l [] = false
-has_label_in l (k ∷ ks) = nat_eq k l || has_label_in l ks
-
 -- The label of the branch is kept where it stands before the exit: there the loop goes on.
-abbrev pub turn_for : ℕ → List Line → Option Head → Option Turn
-turn_for free next None = None
-turn_for free next (Some h) = Some (record {
+abbrev pub turn_for : Lin → ℕ → List Line → Option Head → Option Turn
+turn_for m free next None = None
+turn_for m free next (Some h) = Some (record {
   here = label_here free (length next);
   head = h;
-  keeps = not (has_label_in h.to (labels_in next));
+  keeps = nat_le (length next) (length (after_label h.to m.code));
 })
 
 abbrev pub line_turn : Lin → ℕ → Line → List Line → Option Turn
-line_turn m free i next = turn_for free next (exit_head m free i.op i.args i.results next)
+line_turn m free i next = turn_for m free next (exit_head m free i.op i.args i.results next)
 
 -- the turn of the line with so many lines after it
 abbrev pub turn_at : Lin → ℕ → List Line → ℕ → Option Turn
