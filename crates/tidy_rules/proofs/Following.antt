@@ -119,5 +119,3 @@ often_tidies h not_once = h
 often_tidies h (once_more p k) = then_leaves (often_tidies h p) k
 
 -- a function is made tidy by changes that are allowed
-pub tidied_tidies : {m r : Lin} → IsTidied m r → Tidies m r
-tidied_tidies {m} h = often_tidies (then_redirects as_it_is (redirects_all m)) h.leaves
