@@ -1,13 +1,13 @@
 //! Loops turned round.
 ghost use Rattle.std.specs.Option.{option_map};
-ghost use Rattle.std.specs.Prelude.{◌≡◌, ◌++◌, ◌<◌, ◌^◌, ℕ, List, drop, length, max, ◌∷◌, ◌||◌, IfOk};
+ghost use Rattle.std.specs.Prelude.{◌≡◌, ◌++◌, ◌<◌, ◌^◌, ℕ, List, drop, length, max, [], ◌∷◌, ◌||◌, Option, Some, false, IfOk};
 ghost use Rattle.lin_ir.specs.Formed.{label_of, labels_in};
 ghost use Rattle.lin_ir.specs.declared.lin.Line.{Line};
 ghost use Rattle.lin_flow.specs.Labels.{AreLabelsOf};
-ghost use Rattle.tidy_rules.specs.Turning.{next_free, label_here, label_on, head_by, head_at, stands_first, exit_head, is_on, line_turn, branch_line, tested_again, label_put, turned_line, turned_all};
+ghost use Rattle.tidy_rules.specs.Turning.{next_free, label_here, label_on, head_by, head_at, comes_first, stands_first, exit_head, is_on, line_turn, branch_line, tested_again, label_put, turned_line, turned_all};
 ghost use Rattle.linear_tidy.specs.Loops.{head_view, turn_view, turns_in, is_opened, opened_in, first_of, others_of, turned_by, AreChanges};
 
-use crate::forms::{exit_of, own_label};
+use crate::forms::{exit_of, is_jump, own_label};
 use lin_flow::{Labels, number_after};
 use lin_ir::{Flow, Lin, LinOp, Line, Spot};
 use linearise::{bare, opposite_test};
@@ -129,9 +129,9 @@ fn head_at(lin: &Lin, free: u32, place: u32) -> Result<Option<Head>, AllocError>
     head_by(&lin.code.as_slice()[place as usize], on)
 }
 
-/// Whether the label stands at the place.
-fn stands_first(label: Label, code: &[Line], place: u32) -> bool
-    ensures { result ≡ stands_first label (drop place code.now) }
+/// Whether the label comes first at the place.
+fn comes_first(label: Label, code: &[Line], place: u32) -> bool
+    ensures { result ≡ comes_first label (drop place code.now) }
 {
     if place as usize >= code.len() {
         return false;
@@ -140,6 +140,20 @@ fn stands_first(label: Label, code: &[Line], place: u32) -> bool
         None => false,
         Some(own) => own == label,
     }
+}
+
+/// Whether the label comes first at the place, or after a jump that stands there.
+fn stands_first(label: Label, code: &[Line], place: u32) -> bool
+    requires { length code.now < 2 ^ 32 }
+    ensures { result ≡ stands_first label (drop place code.now) }
+{
+    if place as usize >= code.len() {
+        return false;
+    }
+    if is_jump(&code[place as usize].op) {
+        return comes_first(label, code, place + 1);
+    }
+    comes_first(label, code, place)
 }
 
 /// The branch to which the line at the place leads, if it is an exit to one that does not stand there
@@ -265,13 +279,20 @@ impl Changes {
         }
     }
 
+    /// Whether the label is put after a branch.
+    fn is_opened(&self, label: Label) -> bool
+        ensures { result ≡ is_opened self.now label }
+    {
+        self.opened.contains(&label.0)
+    }
+
     /// The label that is put after the line before all others.
     fn label_put(&self, free: u32) -> Result<Option<Label>, AllocError>
         ensures { IfOk result (λ label. label ≡ opened_in self.now free (length (turns_in self.now))) }
     {
         let after = number_after(self.turns.len())?;
         let label = label_on(free, after)?;
-        if self.opened.contains(&label.0) {
+        if self.is_opened(label) {
             Ok(Some(label))
         } else {
             Ok(None)
@@ -329,6 +350,17 @@ fn push_test(alloc: Global, code: &mut Vec<Line>, keeps: bool, head: Head) -> Re
     Ok(())
 }
 
+/// Adds what an exit becomes that is turned.
+fn push_turn(alloc: Global, code: &mut Vec<Line>, turn: Turn) -> Result<(), AllocError>
+    ensures { IfOk result (λ _. (label : Option ℕ) (line : Line) →
+        code.new.items ≡ code.old.items ++ turned_line (Some (turn_view turn)) label line) }
+{
+    let Turn { here, head, keeps } = turn;
+    code.push(bare(alloc, Flow::Exit(here)))?;
+    code.push(bare(alloc, Flow::Label(here)))?;
+    push_test(alloc, code, keeps, head)
+}
+
 /// Adds what the line becomes.
 fn push_turned(
     alloc: Global,
@@ -345,12 +377,7 @@ fn push_turned(
             code.push(line)?;
             push_label(alloc, code, label)
         }
-        Some(turn) => {
-            let Turn { here, head, keeps } = turn;
-            code.push(bare(alloc, Flow::Exit(here)))?;
-            code.push(bare(alloc, Flow::Label(here)))?;
-            push_test(alloc, code, keeps, head)
-        }
+        Some(turn) => push_turn(alloc, code, turn),
     }
 }
 
