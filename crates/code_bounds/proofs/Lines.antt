@@ -20,10 +20,11 @@ use Rattle.rv_pieces.specs.declared.piece.Piece.{Piece}
 use Rattle.emit_rules.specs.Instructions.{register_at, load, store}
 use Rattle.emit_rules.specs.Slots.{far_stack, stack_load, stack_store, slot_offset, first, target, kept, copied, moved}
 use Rattle.pass_rules.specs.Measures.{copy_words}
-use Rattle.emit_rules.specs.Emitted.{parts, part_of, descriptor, left_after, emitted}
+use Rattle.emit_rules.specs.Emitted.{parts, part_of, part_before, descriptor, left_after, emitted}
 use Rattle.emit_rules.specs.Entry.{Frame, frame_of, entry}
 use Rattle.emit_rules.specs.Sizes.{words_at_most}
 use Rattle.emit_rules.proofs.Sizes.{entry-in, part_is_short}
+use Rattle.emit_rules.proofs.Units.{part_by}
 use Rattle.code_bounds.specs.Lines.{words_with, line_words, lines_words}
 
 words-join : (xs ys : List Piece) → words_at_most (xs ++ ys) ≡ words_at_most xs + words_at_most ys
@@ -92,16 +93,16 @@ part_short t f d (lin.Flow (flow.Exit l)) args results = omega arith
 part_short t f d (lin.Flow flow.PopTrap) args results = omega arith
 part_short t f d (lin.Flow g) args results = let h = part_is_short t f d (record { op = lin.Flow g; args = args; results = results }) in omega (arith, h)
 
-pub line_short : (t : ℕ) (f : Frame) (d : Option Descr) (i : Line) → words_at_most (part_of t f d i) ≤ line_words i
-line_short t f d i = part_short t f d i.op i.args i.results
+pub line_short : (t : ℕ) (f : Frame) (d : Option Descr) (i : Line) (next : List Line) → words_at_most (part_before t f d i next) ≤ line_words i
+line_short t f d i next = part_by t f d i next (λ ps. words_at_most ps ≤ line_words i) (λ free. omega arith) (λ unless. part_short t f d i.op i.args i.results)
 
 lines_short : (f : Frame) (traps : ℕ → ℕ) (ds : List Descr) (is : List Line) → words_at_most (parts traps f ds is) ≤ lines_words is
 lines_short f traps ds [] = omega arith
 lines_short f traps ds (i ∷ next) =
     let d : Option Descr = descriptor (passes_frame i.op) ds in
     let rest : List Descr = left_after (passes_frame i.op) ds in
-    let e = words-join (part_of (traps (length next)) f d i) (parts traps f rest next) in
-    let h = line_short (traps (length next)) f d i in
+    let e = words-join (part_before (traps (length next)) f d i next) (parts traps f rest next) in
+    let h = line_short (traps (length next)) f d i next in
     let k = lines_short f traps rest next in
     omega (arith, e, h, k)
 

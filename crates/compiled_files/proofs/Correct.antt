@@ -1,5 +1,5 @@
 -- The image of an accepted file, whose functions were compiled, is correct for it, and asks for allocations only in need.
-use Rattle.std.proofs.Common.{◌≡◌, ℕ, zero, suc, ◌+◌, ◌-◌, ◌≤◌, false, List, [], ◌∷◌, Option, Some, None, length, refl, sym, ◌∙◌, subst, arith}
+use Rattle.std.proofs.Common.{◌≡◌, ◌⊎◌, inl, inr, ℕ, zero, suc, ◌+◌, ◌-◌, ◌≤◌, Bool, true, false, cond, List, [], ◌∷◌, Option, Some, None, length, refl, sym, ◌∙◌, subst, arith}
 use Rattle.std.specs.Prelude.{slice_get, slice_index}
 use Rattle.bs_words.specs.Fits.{data_start}
 use Rattle.bs_words.specs.Memory.{Memory}
@@ -20,7 +20,7 @@ use Rattle.image_form.specs.Tables.{Tables}
 use Rattle.layout_rules.specs.Conditions.{CanBeLaid}
 use Rattle.layout_rules.specs.Laid.{IsLaidOut}
 use Rattle.lin_ir.specs.Descriptors.{NamesLives}
-use Rattle.lin_ir.specs.Formed.{GoesForward, WellFormed}
+use Rattle.lin_ir.specs.Formed.{GoesDown, WellFormed}
 use Rattle.lin_ir.specs.Keeps.{Keeps}
 use Rattle.lin_ir.specs.Meaning.{Locations, NamedAt, State, put_all, start, step}
 use Rattle.lin_ir.specs.Walks.{Reached}
@@ -37,10 +37,11 @@ use Rattle.rv_pieces.specs.declared.piece.Pieces.{Pieces}
 use Rattle.selection_rules.specs.Select.{selected}
 use Rattle.line_stands.specs.Lines.{Nowhere}
 use Rattle.line_stands.specs.Parts.{PartStands}
-use Rattle.line_calls.proofs.Every.{every_entry, every_line}
+use Rattle.line_calls.proofs.Every.{every_branch, every_entry, every_line}
 use Rattle.line_calls.specs.Laws.{frame_in}
 use Rattle.line_calls.specs.Points.{IsReadyFor, before_service}
 use Rattle.emit_rules.specs.Entry.{entry, frame_of}
+use Rattle.emit_rules.specs.Units.{is_branch, is_free, owed_before}
 use Rattle.linear_machine.specs.Arrival.{ArrivesIn}
 use Rattle.linear_machine.specs.Follows.{IsAt, IsEntered, needs_of, used}
 use Rattle.linear_machine.specs.Relation.{Below, Laid}
@@ -49,7 +50,7 @@ use Rattle.linking.specs.Assembled.{Setup}
 use Rattle.linking.specs.Pace.{IsReached, Words, at_start, by_step}
 use Rattle.linking.specs.Program.{place_in, setting_in}
 use Rattle.linking_machine.specs.Compiled.{IsCompiled}
-use Rattle.linking_machine.specs.Emitted.{FollowsLine, IsEmitted}
+use Rattle.linking_machine.specs.Emitted.{BeginsFree, FollowsLine, IsEmitted}
 use Rattle.linking_machine.specs.Standing.{fixed_of}
 use Rattle.linking_machine.proofs.Compiled.{bases_hold, compiled_correct, compiled_in_need}
 use Rattle.linking_stages.specs.Stages.{linear_program}
@@ -107,16 +108,17 @@ nowhere_laid at = record {
 no_tail : {i : Line} {next : List Line} → Tail (i ∷ next) [] → ⊥
 no_tail t = elim t [ ]
 
-no_lines_forward : GoesForward no_lines
-no_lines_forward = record {
-  labels = λ i next stands. elim stands [ ];
-  handlers = λ i next l tries reached. absurd (no_tail (reached_tail no_lines reached));
+no_lines_down : GoesDown no_lines
+no_lines_down = record {
+  order = λ k. k;
+  labels = λ i next tries reached. absurd (no_tail (reached_tail no_lines reached));
+  steps = λ i next to tries left reached. absurd (no_tail (reached_tail no_lines reached));
+  raises = λ i next to tries left reached. absurd (no_tail (reached_tail no_lines reached));
 }
 
 no_lines_lie : (at words : ℕ) → LiesForward no_lines (nowhere_laid at) at words
 no_lines_lie at words = record {
-  labels = λ i j d h k. absurd (omega (arith, k));
-  forward = no_lines_forward;
+  down = no_lines_down;
   rises = λ fewer more h. omega arith;
   begins = omega arith;
   ends = omega arith;
@@ -126,6 +128,14 @@ past_end : (fs : List FunctionTree) (f : ℕ) → slice_get fs f ≡ None → le
 past_end [] f e = omega arith
 past_end (g ∷ fs) zero e = absurd (cc)
 past_end (g ∷ fs) (suc f) e = let h = past_end fs f e in omega (arith, h)
+
+-- what is owed before a line, by whether it is a branch
+abbrev owed_if : Bool → ℕ
+owed_if t = cond t 1 0
+
+owes_or : {X : Type 0} (t : Bool) → (t ≡ true → X) → (owed_if t ≡ 0) ⊎ X
+owes_or true x = inr (x refl)
+owes_or false x = inl refl
 
 -- ---- where a run begins
 
@@ -214,8 +224,7 @@ module _ (text : List ℕ) (file : FileTree) (is : IsFileOf text file) (bytes : 
   lies f (of_file tree there m ds p c named names stands) =
       let e = stands.ends in
       record {
-        labels = c.regular.well.labels;
-        forward = c.regular.forward;
+        down = c.regular.down;
         rises = stands.rises;
         begins = stands.begins;
         ends = omega (arith, e);
@@ -245,26 +254,44 @@ module _ (text : List ℕ) (file : FileTree) (is : IsFileOf text file) (bytes : 
     line_at : (x : Function f) (rest : List Line) (held : Locations) (a : Around) → Reached (lin_of x) rest a.tries →
         ((i : Line) (next : List Line) → rest ≡ i ∷ next → IsReadyFor i a) →
         IsAt s (laid_of x) Nowhere c (record { rest = rest; file = held; around = a }) v →
-        FollowsLine (first_part (laid_of x) rest) s (laid_of x) Nowhere entry_at c v
+        FollowsLine (owed_before rest) (first_part (laid_of x) rest) s (laid_of x) Nowhere entry_at c v
         (used (laid_of x) (record { rest = rest; file = held; around = a }))
         (step place (named_of x) (lin_of x) (record { rest = rest; file = held; around = a }))
-    line_at x [] held a reached finds at = record { words = 0; few = omega arith; so = record { follows = tt; calls = tt } }
+        ⊎ BeginsFree (laid_of x) (lin_of x) Nowhere rest
+    line_at x [] held a reached finds at = inl (record { words = 0; few = omega arith; so = record { follows = tt; calls = tt }; takes = inl refl })
     line_at (past long none) (i ∷ next) held a reached finds at = absurd (no_tail (reached_tail no_lines reached))
-    line_at (of_file tree there m ds p ch named names stands) (i ∷ next) held a reached finds at =
-        let laid : Laid = stands.laid in
-        let it = stands.line s refl i next a.tries (tail_stands (reached_tail m reached)) reached in
-        let up = stands.rises (length next) (suc (length next)) (omega arith) in
-        let k = laid.part (length next) - laid.part (suc (length next)) in
-        let behind : laid.part (length next) ≡ laid.part (suc (length next)) + k = omega (arith, up) in
-        record {
-          words = before_service i.op k;
-          few = served place named m i next held a k
-              (λ acts.
-              let some = some_word s laid stands.names m setting Nowhere a.tries (frame_of m) it.descr i next it.stands acts in
-              omega (arith, behind, some));
-          so = every_line Nowhere s stands.names laid entry_at c place named m (frame_of m) it.descr i next v held a k it.stands it.point (finds i next refl)
-              behind at;
-        }
+    line_at (of_file tree there m ds p ch named names stands) (i ∷ next) held a reached finds at = by_free (is_free i.op next) refl
+      where
+        by_free : (t : Bool) → is_free i.op next ≡ t →
+            FollowsLine (owed_before (i ∷ next)) (first_part stands.laid (i ∷ next)) s stands.laid Nowhere entry_at c v
+            (used stands.laid (record { rest = i ∷ next; file = held; around = a }))
+            (step place named m (record { rest = i ∷ next; file = held; around = a }))
+            ⊎ BeginsFree stands.laid m Nowhere (i ∷ next)
+        by_free true e = inr (record {
+          line = i;
+          next = next;
+          is = refl;
+          free = stands.free i next (tail_stands (reached_tail m reached)) e;
+          passes = λ none. absurd none;
+        })
+        by_free false e =
+            let laid : Laid = stands.laid in
+            let it = stands.line s refl i next a.tries (tail_stands (reached_tail m reached)) reached e in
+            let up = stands.rises (length next) (suc (length next)) (omega arith) in
+            let k = laid.part (length next) - laid.part (suc (length next)) in
+            let behind : laid.part (length next) ≡ laid.part (suc (length next)) + k = omega (arith, up) in
+            inl (record {
+              words = before_service i.op k;
+              few = served place named m i next held a k
+                  (λ acts.
+                  let some = some_word s laid stands.names m setting Nowhere a.tries (frame_of m) it.descr i next it.stands acts in
+                  omega (arith, behind, some));
+              so = every_line Nowhere s stands.names laid entry_at c place named m (frame_of m) it.descr i next v held a k it.stands it.point
+                  (finds i next refl) behind at;
+              takes = owes_or (is_branch i.op)
+                  (λ b. every_branch Nowhere s stands.names laid c place named m (frame_of m) it.descr i next v held a k b it.stands (finds i next refl)
+                  behind at);
+            })
 
     entry_follows : (x : Function f) (arguments : List Value) (memory : Memory) (u : State) → start place (lin_of x) arguments memory ≡ Some u →
         IsEntered s entry_at f arguments memory c v →
@@ -282,11 +309,12 @@ module _ (text : List ℕ) (file : FileTree) (is : IsFileOf text file) (bytes : 
   -- ---- and all
 
   abbrev paced : Words State
-  paced = words_of lins laid_in entry_at
+  paced = words_of lins laid_in entry_at (λ f. (lies f (functions_are f)).down.order)
 
   emitted : IsEmitted file image lins named_in paced laid_in entry_at (λ f. Nowhere) has bases_hold
   emitted = record {
     frames = λ f. frame_is f (functions_are f);
+    owed = λ f u. refl;
     lines = λ run f below c v u reached walk low at.
         line_at run f below c v (functions_are f) u.rest u.file u.around walk
         (λ i next e. ready lins named_in f (place_in file (layout_of image) f below)

@@ -1,21 +1,33 @@
--- How the words of a function lie, so that control goes forward but for exits and calls.
-use Rattle.std.specs.Prelude.{ℕ, suc, ◌+◌, ◌-◌, ◌≤◌, ◌≢◌, List, [], ◌∷◌, length, AllPairs}
-use Rattle.lin_ir.specs.Formed.{GoesForward, labels_in}
+-- How the words of a function lie, and how many it takes up to the next unit.
+use Rattle.std.specs.Prelude.{ℕ, zero, suc, ◌+◌, ◌-◌, ◌*◌, ◌≤◌, cond, nat_le, List, [], ◌∷◌, length}
+use Rattle.emit_rules.specs.Units.{owed_before}
+use Rattle.lin_ir.specs.Formed.{GoesDown}
 use Rattle.lin_ir.specs.Meaning.{State}
 use Rattle.lin_ir.specs.declared.lin.Lin.{Lin}
 use Rattle.lin_ir.specs.declared.lin.Line.{Line}
 use Rattle.linear_machine.specs.Relation.{Laid}
 use Rattle.linking.specs.Pace.{Words}
 
--- The parts of the lines lie one behind the other, from the entry on, and the whole is no longer than
--- the code of all functions. A label that no exit leads to comes later than what leads to it.
+-- Control comes back to a place only by an exit. The parts of the lines lie one after the other, from
+-- the entry on, and the whole is no longer than the code of all functions.
 pub record LiesForward (m : Lin) (laid : Laid) (entry words : ℕ) : Type 0 where
-  pub labels : AllPairs (λ k l. k ≢ l) (labels_in m.code)
-  pub forward : GoesForward m
+  pub down : GoesDown m
   -- the fewer lines are left, the later is the place
   pub rises : (fewer more : ℕ) → fewer ≤ more → laid.part more ≤ laid.part fewer
   pub begins : entry ≤ laid.part (length m.code)
   pub ends : laid.part 0 ≤ entry + words
+
+-- A step that is no exit leads to a place of less rank: of less order, or, after a label, with fewer
+-- lines left.
+abbrev pub rank : Lin → (order : ℕ → ℕ) → ℕ → ℕ
+rank m order k = suc (length m.code) * order k + k
+
+-- the words of those of the last lines whose rank is at most so much
+abbrev pub words_upto : Laid → (rank : ℕ → ℕ) → (most lines : ℕ) → ℕ
+words_upto laid rank most zero = 0
+words_upto laid rank most (suc k) =
+    cond (nat_le (rank (suc k)) most) (laid.part k - laid.part (suc k)) 0
+    + words_upto laid rank most k
 
 -- the words of the part of the first line
 abbrev pub first_part : Laid → List Line → ℕ
@@ -23,10 +35,14 @@ first_part laid [] = 0
 first_part laid (i ∷ next) = laid.part (length next) - laid.part (suc (length next))
 
 -- A step takes the words of its line's part; before the first step there are those of the entry. Up
--- to the next unit there are at most those up to the end of the function.
-abbrev pub words_of : (ℕ → Lin) → (ℕ → Laid) → (entry : ℕ → ℕ) → Words State
-words_of lins laid entry = record {
+-- to the next unit there are at most those of all lines of no greater rank. A branch answers for the
+-- unit of an exit that has no words.
+abbrev pub words_of : (ℕ → Lin) → (ℕ → Laid) → (entry : ℕ → ℕ) → (orders : ℕ → ℕ → ℕ) →
+    Words State
+words_of lins laid entry orders = record {
   cost = λ f u. first_part (laid f) u.rest;
   entry = λ f. (laid f).part (length (lins f).code) - entry f;
-  ahead = λ f u. (laid f).part 0 - (laid f).part (length u.rest);
+  ahead = λ f u. words_upto (laid f) (rank (lins f) (orders f))
+      (rank (lins f) (orders f) (length u.rest)) (length (lins f).code);
+  owed = λ f u. owed_before u.rest;
 }

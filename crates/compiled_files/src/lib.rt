@@ -44,12 +44,13 @@ ghost use Rattle.rv_machine.specs.Services.{Now};
 ghost use Rattle.rv_machine.specs.Sound.{IsStackBase};
 ghost use Rattle.rv_pieces.specs.declared.piece.Pieces.{Pieces};
 
-/// Law: where the parts of lines lie one behind the other, control goes forward between two units, in no more
-/// instructions than the code has words.
+/// Law: where control comes back to a place only by an exit, and the parts of lines lie one after the other, there are
+/// no more instructions between two units than the code has words.
 pub fn parts_go_forward()
     ensures { (lins : ℕ → Lin) (named : ℕ → NamedAt) (laid : ℕ → Laid) (entry : ℕ → ℕ) (words : ℕ) →
-        ((f : ℕ) → LiesForward (lins f) (laid f) (entry f) words) →
-        GoesForward State (linear_program lins named) (words_of lins laid entry) words }
+        (lies : (f : ℕ) → LiesForward (lins f) (laid f) (entry f) words) →
+        GoesForward State (linear_program lins named)
+        (words_of lins laid entry (λ f. (lies f).down.order)) words }
 {}
 
 /// Law: the rows of an image are those of its file, and its code has a word more than the functions.

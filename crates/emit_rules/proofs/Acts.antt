@@ -1,5 +1,5 @@
 -- A part has an instruction, where its line is no label, no copy from a location to itself and no entry of a handler.
-use Rattle.std.proofs.Common.{◌≡◌, ℕ, zero, suc, ◌+◌, ◌≤◌, sym, ap, subst, Bool, true, false, cond, nat_eq, nat_lt, List, [], ◌∷◌, ◌++◌, Option, refl, arith}
+use Rattle.std.proofs.Common.{◌≡◌, ℕ, zero, suc, ◌+◌, ◌≤◌, sym, ap, subst, Bool, true, false, cond, nat_eq, nat_lt, List, [], ◌∷◌, ◌++◌, length, Option, refl, arith}
 use Rattle.bs_words.specs.declared.operators.CmpOp.{CmpOp}
 use Rattle.bs_words.specs.declared.operators.CmpOp.TheVariants as compare
 use Rattle.bs_words.specs.declared.operators.IntOp.{IntOp}
@@ -19,10 +19,11 @@ use Rattle.mach_ir.specs.declared.op.Op.TheVariants as op
 use Rattle.mach_ir.specs.declared.op.Pure.TheVariants as pure
 use Rattle.mach_ir.specs.declared.op.Right.{Right}
 use Rattle.mach_ir.specs.declared.op.Right.TheVariants as right
-use Rattle.lin_ir.specs.Meaning.{same_loc}
+use Rattle.lin_ir.specs.Meaning.{same_loc, passes_frame}
 use Rattle.lin_ir.specs.declared.descr.Descr.{Descr}
 use Rattle.lin_ir.specs.declared.lin.Flow.{Flow}
 use Rattle.lin_ir.specs.declared.lin.Flow.TheVariants as flow
+use Rattle.lin_ir.specs.declared.lin.Line.{Line}
 use Rattle.lin_ir.specs.declared.lin.LinOp.{LinOp}
 use Rattle.lin_ir.specs.declared.lin.LinOp.TheVariants as lin
 use Rattle.lin_ir.specs.declared.lin.Spot.{Spot}
@@ -43,7 +44,9 @@ use Rattle.emit_rules.specs.Tests.{right_register, right_words, signed_branch, u
 use Rattle.emit_rules.specs.Memory.{address_words}
 use Rattle.emit_rules.specs.Entry.{Frame, given_back}
 use Rattle.emit_rules.specs.Calls.{mark_of}
-use Rattle.emit_rules.specs.Emitted.{operator_part, op_part, flow_part, part_of}
+use Rattle.emit_rules.specs.Emitted.{operator_part, op_part, flow_part, lin_part, part_of, descriptor, left_after, parts}
+use Rattle.emit_rules.specs.Units.{is_branch}
+use Rattle.emit_rules.proofs.Units.{FallsTo, if_branch, branch_is_not_free, part_unless_free}
 use Rattle.mach_ir.specs.declared.op.CopyKind.{CopyKind}
 use Rattle.lin_ir.specs.Formed.{IsSelfMove, is_self_move, IsLocation, is_home, is_spare, IsHome, is_colour, is_slot}
 use Rattle.lin_ir.specs.declared.lin.Lin.{Lin}
@@ -273,3 +276,19 @@ pub copies_other : (m : Lin) (kind : CopyKind) (from to : Spot) → IsLocation m
     (IsSelfMove (record { op = lin.Op (op.Pure (pure.Copy kind)); args = from ∷ []; results = to ∷ [] }) from to → ⊥) →
     ActsAt (lin.Op (op.Pure (pure.Copy kind))) (from ∷ []) (to ∷ [])
 copies_other m kind from to a b apart = (is-set a, is-set b, λ e. apart (is_self_move (same-is from.loc to.loc e)))
+
+-- ---- code after an exit that has no words
+
+module _ (traps : ℕ → ℕ) (f : Frame) where
+  branch_acts : (ds : List Descr) (i : Line) (next : List Line) → is_branch i.op ≡ true → Acts (parts traps f ds (i ∷ next))
+  branch_acts ds i next e =
+      let t = traps (length next) in
+      let d = descriptor (passes_frame i.op) ds in
+      let own = if_branch (λ g. Acts (lin_part t f (mark_of d) g i.args i.results)) (λ q l. flow-acts t (flow.Branch q l) i.args i.results tt) i.op e in
+      before _ (subst Acts (sym (part_unless_free t f d i next (branch_is_not_free i.op next e))) own)
+
+  -- it has an instruction: its branch has
+  pub falls_act : (ds : List Descr) (l : ℕ) (code : List Line) → FallsTo l code → 1 ≤ words_at_least (parts traps f ds code)
+  falls_act ds l code falls =
+      let own = branch_acts (left_after (passes_frame falls.label.op) ds) falls.branch falls.rest falls.tests in
+      acts-some (subst (λ code. Acts (parts traps f ds code)) (sym falls.is) (after _ own))

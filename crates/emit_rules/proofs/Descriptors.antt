@@ -1,5 +1,6 @@
 -- The descriptors stand among the pieces as they are handed in, in their order.
 use Rattle.std.proofs.Common.{◌≡◌, ℕ, suc, Bool, true, false, cond, List, [], ◌∷◌, ◌++◌, length, Some, None, refl, sym, ◌∙◌, ap, append_assoc, arith}
+use Rattle.std.proofs.lemmas.Bool.{true≢false}
 use Rattle.mach_ir.specs.Blocks.{bytes_of}
 use Rattle.mach_ir.specs.declared.op.Access.TheVariants as access
 use Rattle.mach_ir.specs.declared.op.Calling.TheVariants as calling
@@ -14,13 +15,14 @@ use Rattle.lin_ir.specs.declared.lin.Spot.{Spot}
 use Rattle.rv_pieces.specs.declared.piece.Piece.{Piece}
 use Rattle.rv_pieces.specs.declared.piece.Piece.TheVariants as piece
 use Rattle.emit_rules.specs.Calls.{call_words, external_words}
-use Rattle.emit_rules.specs.Emitted.{part_of, parts, descriptor, left_after, emitted}
+use Rattle.emit_rules.specs.Emitted.{part_of, part_before, parts, descriptor, left_after, emitted}
 use Rattle.emit_rules.specs.Entry.{Frame, frame_of, entry}
 use Rattle.emit_rules.specs.Memory.{reserved, addresses}
 use Rattle.rv_pieces.specs.Named.{mark_in, marks_in}
 use Rattle.lin_ir.specs.Descriptors.{frame_points}
 use Rattle.emit_rules.specs.Traversal.{Each, each_none, each_more, Allows}
-use Rattle.emit_rules.proofs.Traverse.{entry-in, part-in}
+use Rattle.emit_rules.proofs.Traverse.{entry-in, part-in, before-in}
+use Rattle.emit_rules.proofs.Units.{free_passes_no_frame, part_by}
 
 abbrev pub NoMark : Piece → Type 0
 NoMark p = mark_in p ≡ []
@@ -96,19 +98,29 @@ part-marked t f e (lin.Op (op.Calling (calling.TailCall whom result))) args resu
 part-marked t f e (lin.Op (op.Calling (calling.External row frame))) args results h =
     one-last (external_words row frame) e (part-unmarked t f (record { op = lin.Op (op.Calling (calling.External row frame)); args = args; results = results }))
 
+-- a frame point is no exit, and has its words
+before-marked : (t : ℕ) (f : Frame) (e : Descr) (i : Line) (next : List Line) → passes_frame i.op ≡ true →
+    marks_in (part_before t f (Some e) i next) ≡ e ∷ []
+before-marked t f e i next h =
+    part_by t f (Some e) i next (λ ps. marks_in ps ≡ e ∷ []) (λ free. absurd (true≢false (sym h ∙ free_passes_no_frame i.op next free)))
+    (λ free. part-marked t f e i.op i.args i.results h)
+
+before-unmarked : (t : ℕ) (f : Frame) (i : Line) (next : List Line) → marks_in (part_before t f None i next) ≡ []
+before-unmarked t f i next = no-marks (before-in NoMark None t f i next (allows-unmarked i.op))
+
 module _ (f : Frame) (traps : ℕ → ℕ) where
   marks-by : (i : Line) (next : List Line) (b : Bool) → passes_frame i.op ≡ b → ((ds : List Descr) → length ds ≡ frame_points next →
       marks_in (parts traps f ds next) ≡ ds) →
       (ds : List Descr) → length ds ≡ cond b (suc (frame_points next)) (frame_points next) →
-      marks_in (part_of (traps (length next)) f (descriptor b ds) i ++ parts traps f (left_after b ds) next) ≡ ds
+      marks_in (part_before (traps (length next)) f (descriptor b ds) i next ++ parts traps f (left_after b ds) next) ≡ ds
   marks-by i next true p rest [] e = absurd (omega arith)
   marks-by i next true p rest (d ∷ ds) e =
-      marks-join (part_of (traps (length next)) f (Some d) i) (parts traps f ds next)
-      ∙ ap (λ (x : List Descr). x ++ marks_in (parts traps f ds next)) (part-marked (traps (length next)) f d i.op i.args i.results p)
+      marks-join (part_before (traps (length next)) f (Some d) i next) (parts traps f ds next)
+      ∙ ap (λ (x : List Descr). x ++ marks_in (parts traps f ds next)) (before-marked (traps (length next)) f d i next p)
       ∙ ap (λ (x : List Descr). d ∷ x) (rest ds (omega arith))
   marks-by i next false p rest ds e =
-      marks-join (part_of (traps (length next)) f None i) (parts traps f ds next)
-      ∙ ap (λ (x : List Descr). x ++ marks_in (parts traps f ds next)) (part-unmarked (traps (length next)) f i)
+      marks-join (part_before (traps (length next)) f None i next) (parts traps f ds next)
+      ∙ ap (λ (x : List Descr). x ++ marks_in (parts traps f ds next)) (before-unmarked (traps (length next)) f i next)
       ∙ rest ds e
 
   parts-marks : (is : List Line) (ds : List Descr) → length ds ≡ frame_points is → marks_in (parts traps f ds is) ≡ ds

@@ -1,4 +1,5 @@
 pub mod Traverse
+pub mod Units
 pub mod Names
 pub mod Sizes
 pub mod Values

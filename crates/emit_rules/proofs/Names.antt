@@ -20,11 +20,12 @@ use Rattle.rv_isa.specs.declared.instr.Instr.{Instr}
 use Rattle.rv_pieces.specs.declared.piece.Piece.{Piece}
 use Rattle.rv_pieces.specs.declared.piece.Piece.TheVariants as piece
 use Rattle.emit_rules.specs.Entry.{Frame, frame_of, entry}
-use Rattle.emit_rules.specs.Emitted.{part_of, parts, descriptor, left_after, emitted}
+use Rattle.emit_rules.specs.Emitted.{part_of, part_before, parts, descriptor, left_after, emitted}
 use Rattle.rv_pieces.specs.Named.{PieceFits, label_named, symbol_named, external_named, place_in, places_in}
 use Rattle.emit_rules.specs.Named.{IsLabelOf, IsExternalOf}
 use Rattle.emit_rules.specs.Traversal.{Each, each_none, each_more, Names, Allows}
-use Rattle.emit_rules.proofs.Traverse.{join, entry-in, part-in}
+use Rattle.emit_rules.proofs.Units.{part_by, free_has_no_label}
+use Rattle.emit_rules.proofs.Traverse.{join, entry-in, part-in, before-in}
 
 -- ---- all lines
 
@@ -34,7 +35,7 @@ module _ (P : Piece → Type 0) (f : Frame) (traps : ℕ → ℕ) where
       Each P (parts traps f ds is)
   parts-in [] ds all = each_none
   parts-in (i ∷ next) ds all =
-      join (part-in P (descriptor (passes_frame i.op) ds) (traps (length next)) f i (all i next here (descriptor (passes_frame i.op) ds)))
+      join (before-in P (descriptor (passes_frame i.op) ds) (traps (length next)) f i next (all i next here (descriptor (passes_frame i.op) ds)))
       (parts-in next (left_after (passes_frame i.op) ds) (λ j after s d. all j after (below s) d))
 
 pub emitted-in : (P : Piece → Type 0) (m : Lin) (traps : ℕ → ℕ) (ds : List Descr) → ((j : Instr) → InstrFits j → P (piece.Known j)) →
@@ -184,12 +185,16 @@ places-of t f d (lin.Flow (flow.PushTrap l)) args results = places-part t f d (r
 places-of t f d (lin.Flow flow.PopTrap) args results = places-part t f d (record { op = lin.Flow flow.PopTrap; args = args; results = results }) refl
 places-of t f d (lin.Flow flow.EnterTrap) args results = places-part t f d (record { op = lin.Flow flow.EnterTrap; args = args; results = results }) refl
 
+places-before : (t : ℕ) (f : Frame) (d : Option Descr) (i : Line) (next : List Line) → places_in (part_before t f d i next) ≡ label_of i.op
+places-before t f d i next =
+    part_by t f d i next (λ ps. places_in ps ≡ label_of i.op) (λ e. sym (free_has_no_label i.op next e)) (λ e. places-of t f d i.op i.args i.results)
+
 places-parts : (f : Frame) (traps : ℕ → ℕ) (ds : List Descr) (is : List Line) → places_in (parts traps f ds is) ≡ labels_in is
 places-parts f traps ds [] = refl
 places-parts f traps ds (i ∷ next) =
     let d : Option Descr = descriptor (passes_frame i.op) ds in
-    places-join (part_of (traps (length next)) f d i) (parts traps f (left_after (passes_frame i.op) ds) next)
-    ∙ ap (λ (x : List ℕ). x ++ places_in (parts traps f (left_after (passes_frame i.op) ds) next)) (places-of (traps (length next)) f d i.op i.args i.results)
+    places-join (part_before (traps (length next)) f d i next) (parts traps f (left_after (passes_frame i.op) ds) next)
+    ∙ ap (λ (x : List ℕ). x ++ places_in (parts traps f (left_after (passes_frame i.op) ds) next)) (places-before (traps (length next)) f d i next)
     ∙ ap (λ (x : List ℕ). label_of i.op ++ x) (places-parts f traps (left_after (passes_frame i.op) ds) next)
 
 -- the places among the pieces are the labels of the lines, in order

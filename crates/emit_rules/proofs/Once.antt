@@ -8,7 +8,7 @@ use Rattle.lin_ir.specs.declared.lin.Line.{Line}
 use Rattle.lin_ir.specs.declared.lin.Lin.{Lin}
 use Rattle.rv_pieces.specs.declared.piece.Piece.{Piece}
 use Rattle.rv_pieces.specs.declared.piece.Pieces.{Pieces}
-use Rattle.emit_rules.specs.Emitted.{part_of, descriptor, left_after, parts, IsEmitted}
+use Rattle.emit_rules.specs.Emitted.{part_before, descriptor, left_after, parts, IsEmitted}
 use Rattle.emit_rules.specs.Entry.{Frame, frame_of, entry}
 
 module _ {m : Lin} {ds : List Descr} {p q : Pieces} (h : IsEmitted m ds p) (k : IsEmitted m ds q) where
@@ -30,8 +30,8 @@ module _ {m : Lin} {ds : List Descr} {p q : Pieces} (h : IsEmitted m ds p) (k : 
       h.traps (length next) ≡ k.traps (length next)) → parts h.traps f ds code ≡ parts k.traps f ds code
   same_parts f ds [] same = refl
   same_parts f ds (i ∷ next) same =
-      ap (λ t. part_of t f (descriptor (passes_frame i.op) ds) i ++ parts h.traps f (left_after (passes_frame i.op) ds) next) (same i next here)
-      ∙ ap (λ ps. part_of (k.traps (length next)) f (descriptor (passes_frame i.op) ds) i ++ ps)
+      ap (λ t. part_before t f (descriptor (passes_frame i.op) ds) i next ++ parts h.traps f (left_after (passes_frame i.op) ds) next) (same i next here)
+      ∙ ap (λ ps. part_before (k.traps (length next)) f (descriptor (passes_frame i.op) ds) i next ++ ps)
       (same_parts f (left_after (passes_frame i.op) ds) next (λ j js s. same j js (below s)))
 
   abbrev of_code : List Piece → Pieces

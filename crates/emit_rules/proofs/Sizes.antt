@@ -56,7 +56,8 @@ use Rattle.emit_rules.specs.Emitted.{operator_part, pure_part, access_part, call
 use Rattle.lin_ir.specs.declared.lin.Lin.{Lin}
 use Rattle.lin_ir.specs.Meaning.{passes_frame}
 use Rattle.emit_rules.specs.Entry.{frame_of}
-use Rattle.emit_rules.specs.Emitted.{parts, descriptor, left_after, emitted}
+use Rattle.emit_rules.specs.Emitted.{part_before, parts, descriptor, left_after, emitted}
+use Rattle.emit_rules.proofs.Units.{part_by}
 use Rattle.emit_rules.specs.Sizes.{words_at_most, indexes_of, line_bound, lines_bound}
 
 pub record Short (n : ℕ) (ps : List Piece) : Type 0 where
@@ -399,15 +400,18 @@ lin_part-in t f d (lin.Flow g) args results = within (flow_part-in t g args resu
 pub part_is_short : (t : ℕ) (f : Frame) (d : Option Descr) (i : Line) → words_at_most (part_of t f d i) ≤ line_bound i
 part_is_short t f d i = (lin_part-in t f d i.op i.args i.results).fits
 
+pub before_is_short : (t : ℕ) (f : Frame) (d : Option Descr) (i : Line) (next : List Line) → words_at_most (part_before t f d i next) ≤ line_bound i
+before_is_short t f d i next = part_by t f d i next (λ ps. words_at_most ps ≤ line_bound i) (λ e. omega arith) (λ e. part_is_short t f d i)
+
 pub parts_are_short : (f : Frame) (traps : ℕ → ℕ) (ds : List Descr) (is : List Line) → words_at_most (parts traps f ds is) ≤ lines_bound is
 parts_are_short f traps ds [] = omega arith
 parts_are_short f traps ds (i ∷ next) =
     let d : Option Descr = descriptor (passes_frame i.op) ds in
     let rest : List Descr = left_after (passes_frame i.op) ds in
-    let e : words_at_most (part_of (traps (length next)) f d i ++ parts traps f rest next)
-    ≡ words_at_most (part_of (traps (length next)) f d i) + words_at_most (parts traps f rest next) =
-    words-join (part_of (traps (length next)) f d i) (parts traps f rest next) in
-    let h : words_at_most (part_of (traps (length next)) f d i) ≤ line_bound i = part_is_short (traps (length next)) f d i in
+    let part = part_before (traps (length next)) f d i next in
+    let e : words_at_most (part ++ parts traps f rest next) ≡ words_at_most part + words_at_most (parts traps f rest next) =
+    words-join part (parts traps f rest next) in
+    let h : words_at_most part ≤ line_bound i = before_is_short (traps (length next)) f d i next in
     let k : words_at_most (parts traps f rest next) ≤ lines_bound next = parts_are_short f traps rest next in
     omega arith
 

@@ -65,7 +65,8 @@ use Rattle.emit_rules.specs.Memory.{address_words, address_register, address_off
 use Rattle.emit_rules.specs.Entry.{Frame, restored, return_offset, taken, entry, given_back}
 use Rattle.emit_rules.specs.Calls.{mark_of, external_service, return_part}
 use Rattle.emit_rules.specs.Traps.{raise_words, pop_part, check_part}
-use Rattle.emit_rules.specs.Emitted.{operator_part, pure_part, access_part, calling_part, leaving_part, op_part, flow_part, part_of}
+use Rattle.emit_rules.specs.Emitted.{operator_part, pure_part, access_part, calling_part, leaving_part, op_part, flow_part, part_of, part_before}
+use Rattle.emit_rules.specs.Units.{is_free}
 use Rattle.emit_rules.specs.Traversal.{Each, each_none, each_more, Allows}
 
 -- ---- numbers
@@ -497,3 +498,7 @@ module _ (P : Piece → Type 0) (d : Option Descr) where
   -- each piece of a part is allowed
   pub part-in : (t : ℕ) (f : Frame) (i : Line) → Allows P i.op d → Each P (part_of t f d i)
   part-in t f i a = lin_part-in t f i.op i.args i.results a
+
+  -- also where there is none
+  pub before-in : (t : ℕ) (f : Frame) (i : Line) (next : List Line) → Allows P i.op d → Each P (part_before t f d i next)
+  before-in t f i next a = chosen (is_free i.op next) each_none (part-in t f i a)

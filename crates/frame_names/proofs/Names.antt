@@ -21,7 +21,7 @@ use Rattle.linear_rules.proofs.Walked.{stands_tail}
 use Rattle.tidy_rules.specs.Regular.{IsRegular}
 use Rattle.tidy_rules.proofs.Leaving.{first_same, rest_same}
 use Rattle.tidy_rules.proofs.Living.{live_home}
-use Rattle.tidy_rules.proofs.Tidied.{same_tail}
+use Rattle.tidy_rules.proofs.Ends.{same_tail}
 use Rattle.frame_names.specs.Names.{location, traps_of, locations, names_at, names_by}
 
 -- ---- entries

@@ -1,9 +1,12 @@
 -- No walk comes to the end of the code: each part with a line behind it to which one comes begins before the end.
-use Rattle.std.proofs.Common.{◌≡◌, ℕ, ◌+◌, ◌<◌, ◌≤◌, Bool, true, false, cond, nat_lt, List, [], ◌∷◌, ◌++◌, ◌⊎◌, inl, inr, ⊎_elim, length, drop, ap, arith}
+use Rattle.std.proofs.Common.{◌≡◌, ℕ, ◌+◌, ◌<◌, ◌≤◌, Bool, true, false, cond, nat_lt, List, [], ◌∷◌, ◌++◌, ◌⊎◌, inl, inr, ⊎_elim, length, drop, refl, ap, arith}
 use Rattle.std.proofs.lemmas.Bool.{lt-ltb}
 use Rattle.emit_rules.specs.Emitted.{descriptor, parts}
 use Rattle.emit_rules.specs.Entry.{Frame}
-use Rattle.emit_rules.proofs.Acts.{ActsAt, part_acts}
+use Rattle.emit_rules.specs.Sizes.{words_at_least}
+use Rattle.emit_rules.specs.Units.{is_free}
+use Rattle.emit_rules.proofs.Acts.{ActsAt, falls_act, part_acts}
+use Rattle.emit_rules.proofs.Units.{free_is_exit, part_unless_free}
 use Rattle.layout_rules.specs.declared.form.Form.{Form}
 use Rattle.layout_rules.specs.Forms.{total_words}
 use Rattle.layout_rules.specs.Stands.{HasPieces}
@@ -65,10 +68,24 @@ module _ (words : List ℕ) (n : Named) (traps : ℕ → ℕ) (f : Frame) (m : L
       ⊎_elim (λ goes_on.
       let later = some_words (left_in ds i) next (drop (length part) fs) (at' + total_words part fs) (tries_after i.op tries)
       (by_step reached (goes On goes_on)) (has_second words n at' part rest fs has) in
-      omega (arith, later, both)) (λ acts.
-      let some = part_acts (traps (length next)) f (descriptor (passes_frame i.op) ds) i.op i.args i.results acts in
-      let enough = least words n at' part _ (has_first words n at' part rest fs has) in
-      omega (arith, some, enough, words_first part fs, both)) (on_or_acts i.op i.args i.results)
+      omega (arith, later, both)) (λ acts. by acts (is_free i.op next) refl) (on_or_acts i.op i.args i.results)
+    where
+      by : ActsAt i.op i.args i.results → (b : Bool) → is_free i.op next ≡ b → 1 ≤ total_words (parts traps f ds (i ∷ next)) fs
+      by acts true e =
+          let part = part_in traps f ds i next in
+          let rest = parts traps f (left_in ds i) next in
+          let exit = free_is_exit i.op next e in
+          let some = falls_act traps f (left_in ds i) exit.to next exit.falls in
+          let enough = least words n (at' + total_words part fs) rest _ (has_second words n at' part rest fs has) in
+          omega (arith, some, enough, words_both part rest fs)
+      by acts false e =
+          let part = part_in traps f ds i next in
+          let rest = parts traps f (left_in ds i) next in
+          let d = descriptor (passes_frame i.op) ds in
+          let some = part_acts (traps (length next)) f d i.op i.args i.results acts in
+          let same = ap words_at_least (part_unless_free (traps (length next)) f d i next e) in
+          let enough = least words n at' part _ (has_first words n at' part rest fs has) in
+          omega (arith, some, same, enough, words_first part fs, words_both part rest fs)
 
   cond_before : (b : Bool) (high x y : ℕ) → x < high → y < high → cond b x y < high
   cond_before true high x y h k = h

@@ -6,7 +6,7 @@ use Rattle.std.proofs.lemmas.List.Elements.{Contains-append_cases}
 use Rattle.emit_rules.specs.Emitted.{descriptor, parts}
 use Rattle.emit_rules.specs.Entry.{Frame, entry}
 use Rattle.emit_rules.specs.Traversal.{Allows, Each, each_more}
-use Rattle.emit_rules.proofs.Traverse.{entry-in, part-in}
+use Rattle.emit_rules.proofs.Traverse.{entry-in, before-in}
 use Rattle.layout_rules.specs.declared.form.Form.{Form}
 use Rattle.layout_rules.specs.Forms.{is_label, label_from, total_words, words_of}
 use Rattle.layout_rules.specs.Stands.{HasPieces}
@@ -133,6 +133,6 @@ module _ (words : List ℕ) (n : Named) (traps : ℕ → ℕ) (f : Frame) where
           ∙ ap Some (sym (place_first traps f (left_in ds i) next left (at + total_words part fs)))
           ∙ ap Some (sym (place_later traps f ds i next fs at (length next) (omega arith)))
       by false e go =
-          label_past l at part rest fs (part-in (NoLabel l) (descriptor (passes_frame i.op) ds) (traps (length next)) f i (allows_none l i.op _ e))
+          label_past l at part rest fs (before-in (NoLabel l) (descriptor (passes_frame i.op) ds) (traps (length next)) f i next (allows_none l i.op _ e))
           ∙ go (later e)
           ∙ ap Some (sym (place_later traps f ds i next fs at (length (after_label l next)) (label_within l next)))

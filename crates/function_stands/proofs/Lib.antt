@@ -6,6 +6,7 @@ pub mod Ending
 pub mod Acting
 pub mod Exact
 pub mod Found
+pub mod Free
 pub mod Handlers
 pub mod Lost
 pub mod Unnamed

@@ -1,7 +1,7 @@
 -- Where the parts of a function's lines lie, one behind the other.
 use Rattle.std.proofs.Common.{◌≡◌, ℕ, suc, ◌+◌, ◌<◌, ◌≤◌, Bool, true, false, cond, nat_lt, nat_eq, List, [], ◌∷◌, ◌++◌, length, take, drop, Option, Some, None, refl, sym, ap, ◌∙◌, subst, arith}
 use Rattle.std.proofs.lemmas.Bool.{le-ltb, lt-ltb, ltb-false}
-use Rattle.emit_rules.specs.Emitted.{descriptor, left_after, part_of, parts}
+use Rattle.emit_rules.specs.Emitted.{descriptor, left_after, part_before, parts}
 use Rattle.emit_rules.specs.Entry.{Frame}
 use Rattle.layout_rules.specs.declared.form.Form.{Form}
 use Rattle.layout_rules.specs.Forms.{ReachFrom, total_words, words_of}
@@ -24,7 +24,7 @@ use Rattle.function_stands.proofs.Splitting.{has_first, has_second, reach_first,
 
 -- the part of the first of these lines
 abbrev pub part_in : (traps : ℕ → ℕ) → Frame → List Descr → Line → (next : List Line) → List Piece
-part_in traps f ds i next = part_of (traps (length next)) f (descriptor (passes_frame i.op) ds) i
+part_in traps f ds i next = part_before (traps (length next)) f (descriptor (passes_frame i.op) ds) i next
 
 abbrev pub left_in : List Descr → Line → List Descr
 left_in ds i = left_after (passes_frame i.op) ds
@@ -128,6 +128,25 @@ module _ (traps : ℕ → ℕ) (f : Frame) where
       (Place (left_in ds i) next (drop (length part) fs) (at + total_words part fs) k)
       (omega arith, omega arith) (omega (arith, low), omega (arith, high, both))
 
+  -- behind a part without words is no other place
+  pub place_stays : {i : Line} {next : List Line} (ds : List Descr) (code : List Line) (fs : List Form) (at : ℕ) → Stands i next code →
+      ((d : Option Descr) (gs : List Form) → total_words (part_before (traps (length next)) f d i next) gs ≡ 0) →
+      Place ds code fs at (length next) ≡ Place ds code fs at (suc (length next))
+  place_stays ds [] fs at stands none = elim stands [ ]
+  place_stays ds (i ∷ next) fs at here none =
+      let part = part_in traps f ds i next in
+      let own = none (descriptor (passes_frame i.op) ds) fs in
+      let begin = place_first ds (i ∷ next) fs at in
+      let later = place_later ds i next fs at (length next) (omega arith) in
+      let end = place_first (left_in ds i) next (drop (length part) fs) (at + total_words part fs) in
+      omega (arith, own, begin, later, end)
+  place_stays {next = next} ds (j ∷ is) fs at (below stands) none =
+      let part = part_in traps f ds j is in
+      let h = shorter stands in
+      place_later ds j is fs at (length next) (omega (arith, h))
+      ∙ place_stays (left_in ds j) is (drop (length part) fs) (at + total_words part fs) stands none
+      ∙ sym (place_later ds j is fs at (suc (length next)) h)
+
   -- the fewer lines are left, the later is the place
   pub place_rises : (ds : List Descr) (code : List Line) (fs : List Form) (at fewer more : ℕ) → fewer ≤ more →
       Place ds code fs at more ≤ Place ds code fs at fewer
@@ -174,7 +193,7 @@ module _ (s : Fixed) (n : Named) (traps : ℕ → ℕ) (f : Frame) where
       HasPieces s.image.code n at (parts traps f ds code) fs → ReachFrom (label_place n) at (parts traps f ds code) fs →
       AreFound s.image at (parts traps f ds code) fs →
       PartFound s n (Place traps f ds code fs at (suc (length next))) (Place traps f ds code fs at (length next))
-      (part_of (traps (length next)) f (descriptor_of ds code (length next)) i)
+      (part_before (traps (length next)) f (descriptor_of ds code (length next)) i next)
   line_part ds [] fs at stands has reach found = elim stands [ ]
   line_part ds (i ∷ next) fs at here has reach found =
       let part = part_in traps f ds i next in
@@ -195,7 +214,7 @@ module _ (s : Fixed) (n : Named) (traps : ℕ → ℕ) (f : Frame) where
       let placed = subst (λ a. PartFound s n a (at + total_words part fs) part) (sym begin) it in
       let ended = subst (λ b. PartFound s n (Place traps f ds (i ∷ next) fs at (suc (length next))) b part) (sym end) placed in
       subst (λ d. PartFound s n (Place traps f ds (i ∷ next) fs at (suc (length next))) (Place traps f ds (i ∷ next) fs at (length next))
-      (part_of (traps (length next)) f d i)) (sym own) ended
+      (part_before (traps (length next)) f d i next)) (sym own) ended
   line_part {i} {next} ds (j ∷ is) fs at (below stands) has reach found =
       let part = part_in traps f ds j is in
       let rest = parts traps f (left_in ds j) is in
@@ -207,8 +226,8 @@ module _ (s : Fixed) (n : Named) (traps : ℕ → ℕ) (f : Frame) where
       let end = place_later traps f ds j is fs at (length next) (omega (arith, h)) in
       let own : descriptor_of ds (j ∷ is) (length next) ≡ descriptor_of (left_in ds j) is (length next) =
       ap (λ b. cond b (descriptor (passes_frame j.op) ds) (descriptor_of (left_in ds j) is (length next))) (same_no (length is) (length next) h) in
-      let line = part_of (traps (length next)) f (descriptor_of (left_in ds j) is (length next)) i in
+      let line = part_before (traps (length next)) f (descriptor_of (left_in ds j) is (length next)) i next in
       let placed = subst (λ a. PartFound s n a (Place traps f (left_in ds j) is left (at + total_words part fs) (length next)) line) (sym begin) it in
       let ended = subst (λ b. PartFound s n (Place traps f ds (j ∷ is) fs at (suc (length next))) b line) (sym end) placed in
       subst (λ d. PartFound s n (Place traps f ds (j ∷ is) fs at (suc (length next))) (Place traps f ds (j ∷ is) fs at (length next))
-      (part_of (traps (length next)) f d i)) (sym own) ended
+      (part_before (traps (length next)) f d i next)) (sym own) ended

@@ -1,10 +1,12 @@
 -- What is known of the lines of a function besides their words.
-use Rattle.std.proofs.Common.{◌≡◌, ℕ, ◌+◌, ◌<◌, Bool, true, false, cond, ◌||◌, List, [], ◌∷◌, ◌++◌, length, Option, None, refl, ap, ◌∙◌, subst, arith}
+use Rattle.std.proofs.Common.{◌≡◌, ℕ, ◌+◌, ◌<◌, Bool, true, false, cond, ◌||◌, List, [], ◌∷◌, ◌++◌, length, Option, None, refl, sym, ap, ◌∙◌, subst, arith}
 use Rattle.std.specs.List.{AllByRecursion}
-use Rattle.emit_rules.specs.Emitted.{descriptor, part_of, parts}
+use Rattle.emit_rules.specs.Emitted.{descriptor, part_before, part_of, parts}
 use Rattle.emit_rules.specs.Entry.{Frame}
 use Rattle.emit_rules.specs.Traversal.{Allows, Each, each_more}
+use Rattle.emit_rules.specs.Units.{is_free}
 use Rattle.emit_rules.proofs.Traverse.{part-in}
+use Rattle.emit_rules.proofs.Units.{part_unless_free}
 use Rattle.layout_rules.specs.declared.form.Form.{Form}
 use Rattle.layout_rules.specs.Forms.{total_words, words_of}
 use Rattle.lin_ir.specs.Descriptors.{has_frame_point}
@@ -110,7 +112,8 @@ all_left P (x ∷ xs) ys all = (all.0, all_left P xs ys all.1)
 record InPart (P : Piece → Type 0) (f : Frame) (i : Line) : Type 0 where
   traps : ℕ
   descr : Option Descr
-  all : AllByRecursion P (part_of traps f descr i)
+  next : List Line
+  all : AllByRecursion P (part_before traps f descr i next)
 
 in_part : (P : Piece → Type 0) (traps : ℕ → ℕ) (f : Frame) (ds : List Descr) (code : List Line) (i : Line) → AllByRecursion P (parts traps f ds code) →
     IsIn i code → InPart P f i
@@ -118,6 +121,7 @@ in_part P traps f ds [] i all z = elim z [ ]
 in_part P traps f ds (j ∷ js) j' all is_first = record {
   traps = traps (length js);
   descr = descriptor (passes_frame j.op) ds;
+  next = js;
   all = all_left P (part_in traps f ds j js) (parts traps f (left_in ds j) js) all;
 }
 in_part P traps f ds (j ∷ js) i all (is_later z) =
@@ -135,4 +139,5 @@ pub external_in : (P : Piece → Type 0) (traps : ℕ → ℕ) (f : Frame) (pre 
     P (ExternalNumber T0 row)
 external_in P traps f pre ds code i row frame all z e =
     let it = in_part P traps f ds code i (all_right P pre (parts traps f ds code) all) z in
-    external_first P it.traps f it.descr row frame i.op i.args i.results e it.all
+    external_first P it.traps f it.descr row frame i.op i.args i.results e
+    (subst (AllByRecursion P) (part_unless_free it.traps f it.descr i it.next (subst (λ g. is_free g it.next ≡ false) (sym e) refl)) it.all)

@@ -11,6 +11,7 @@ use Rattle.cmm_tree.specs.Tree.{FileTree, FunctionTree, functions}
 use Rattle.emit_rules.specs.Emitted.{emitted, part_of, parts}
 use Rattle.emit_rules.specs.Entry.{Frame, entry, frame_of}
 use Rattle.emit_rules.specs.Named.{IsExternalOf}
+use Rattle.emit_rules.specs.Units.{is_free, tests_first}
 use Rattle.image_form.specs.Tables.{Desc, Tables}
 use Rattle.layout_rules.specs.declared.form.Form.{Form}
 use Rattle.layout_rules.specs.Conditions.{IsFunctionLaid, IsNamed}
@@ -30,7 +31,7 @@ use Rattle.lin_ir.specs.declared.descr.Descr.{Descr}
 use Rattle.lin_ir.specs.declared.lin.Lin.{Lin}
 use Rattle.lin_ir.specs.declared.lin.Line.{Line}
 use Rattle.line_calls.specs.Points.{AreMarked, EntriesStand, IsTurn, PointStands}
-use Rattle.line_stands.specs.Lines.{LineStands, Nowhere, OffsetFits}
+use Rattle.line_stands.specs.Lines.{FreeStands, LineStands, Nowhere, OffsetFits}
 use Rattle.line_stands.specs.Names.{IsRowAt, NamesStand}
 use Rattle.line_stands.specs.Parts.{PartStands, label_place}
 use Rattle.linear_machine.specs.Relation.{Laid, StandsFor}
@@ -38,6 +39,7 @@ use Rattle.linear_machine.specs.View.{Fixed}
 use Rattle.linear_rules.proofs.Homes.{IsIn, in_of}
 use Rattle.linear_rules.proofs.Marks.{all_in}
 use Rattle.emit_rules.proofs.Names.{stands-contains}
+use Rattle.emit_rules.proofs.Units.{free_is_exit, part_unless_free}
 use Rattle.linear_rules.proofs.Walked.{Tail, stands_tail, tail_next}
 use Rattle.mach_ir.specs.Acts.{On, row_of}
 use Rattle.mach_ir.specs.declared.op.External.{External}
@@ -52,6 +54,7 @@ use Rattle.function_stands.proofs.Ending.{place_before, points_go_on}
 use Rattle.function_stands.proofs.Entries.{as_many, entry_address, entry_is, frame_at, rows_are}
 use Rattle.function_stands.proofs.Exact.{Described, described}
 use Rattle.function_stands.proofs.Found.{all_found, shares}
+use Rattle.function_stands.proofs.Free.{falls_after, free_place}
 use Rattle.function_stands.proofs.Handlers.{pushed, pushed_stands}
 use Rattle.function_stands.proofs.Labels.{entry_past, label_past, label_place_is}
 use Rattle.function_stands.proofs.Parts.{AreFound, PartFound, found_second, Place, descriptor_of, line_part, place_first, place_moved, place_rises, place_within}
@@ -278,13 +281,17 @@ module _ (image : Tables) (file : FileTree) (ps : List Pieces) (c : Setting) (k 
     abbrev descr_of : List Line → Option Descr
     descr_of next = descriptor_of ds m.code (length next)
 
-    module _ (i : Line) (next : List Line) (tries : List ℕ) (stands : Stands i next m.code) (reached : Reached m (i ∷ next) tries) where
+    module _ (i : Line) (next : List Line) (tries : List ℕ) (stands : Stands i next m.code) (reached : Reached m (i ∷ next) tries)
+        (unless : is_free i.op next ≡ false) where
       line_found : PartFound s n (part_place (suc (length next))) (part_place (length next)) (part_of (length tries) f (descr_of next) i)
       line_found =
           let has' = subst (λ (t : Tables). HasPieces t.code n start body left) (sym same) body_has in
           let found' = subst (λ t. AreFound t start body left) (sym same) body_found in
+          let before = line_part s n traps f ds m.code left start stands has' body_reach found' in
+          let own = subst (PartFound s n (part_place (suc (length next))) (part_place (length next)))
+          (part_unless_free (traps (length next)) f (descr_of next) i next unless) before in
           subst (λ t. PartFound s n (part_place (suc (length next))) (part_place (length next)) (part_of t f (descr_of next) i))
-          (it.emitted.pushed.pushed i next stands tries reached) (line_part s n traps f ds m.code left start stands has' body_reach found')
+          (it.emitted.pushed.pushed i next stands tries reached) own
 
       line_among : Contains m.code i
       line_among = stands-contains m.code stands
@@ -364,6 +371,20 @@ module _ (image : Tables) (file : FileTree) (ps : List Pieces) (c : Setting) (k 
       unfolding line_stands
       line_at = record { descr = descr_of next; stands = line_stands; point = line_point }
 
+  -- ---- exits that have no words
+
+  free_stands : (i : Line) (next : List Line) → Stands i next m.code → is_free i.op next ≡ true → FreeStands laid m i next
+  unfolding laid
+  free_stands i next stands e =
+      let exit = free_is_exit i.op next e in
+      let after = falls_after exit.to next exit.falls m well stands in
+      record {
+        label = exit.to;
+        is = exit.is;
+        place = ap (λ code. part_place (length code)) after ∙ free_place traps f ds m.code left start exit.to stands e exit.falls;
+        tests = ap tests_first after ∙ exit.falls.tests;
+      }
+
   -- ---- the whole
 
   place_is : entry_place image k ≡ place
@@ -395,4 +416,5 @@ module _ (image : Tables) (file : FileTree) (ps : List Pieces) (c : Setting) (k 
             subst (λ at. PartStands s n at (part_place (length m.code)) (entry f)) (sym place_is)
             (subst (λ to. PartStands s n place to (entry f)) (sym first_part) (entry_stands s e));
         line = line_at;
+        free = free_stands;
       }

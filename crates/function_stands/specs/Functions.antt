@@ -1,8 +1,9 @@
 -- How a function stands in the image: what the laws of its lines and of its entry take as known.
-use Rattle.std.specs.Prelude.{◌≡◌, ℕ, ◌+◌, ◌-◌, ◌/◌, ◌≤◌, List, ◌∷◌, length, Option, slice_index}
+use Rattle.std.specs.Prelude.{◌≡◌, ℕ, ◌+◌, ◌-◌, ◌/◌, ◌≤◌, true, false, List, ◌∷◌, length, Option, slice_index}
 use Rattle.cmm_meaning.specs.Setting.{Setting}
 use Rattle.correctness.specs.Setting.{layout_of}
 use Rattle.emit_rules.specs.Entry.{entry, frame_of}
+use Rattle.emit_rules.specs.Units.{is_free}
 use Rattle.image_form.specs.Tables.{Tables}
 use Rattle.layout_rules.specs.Words.{Named}
 use Rattle.lin_ir.specs.Meaning.{NamedAt}
@@ -11,7 +12,7 @@ use Rattle.lin_ir.specs.declared.descr.Descr.{Descr}
 use Rattle.lin_ir.specs.declared.lin.Lin.{Lin}
 use Rattle.lin_ir.specs.declared.lin.Line.{Line}
 use Rattle.line_calls.specs.Points.{IsTurn, PointStands}
-use Rattle.line_stands.specs.Lines.{LineStands, Nowhere}
+use Rattle.line_stands.specs.Lines.{FreeStands, LineStands, Nowhere}
 use Rattle.line_stands.specs.Parts.{PartStands}
 use Rattle.linear_machine.specs.Relation.{Laid}
 use Rattle.linear_machine.specs.View.{Fixed}
@@ -22,7 +23,8 @@ use Rattle.rv_machine.specs.Memory.{code_start}
 abbrev pub entry_place : Tables → ℕ → ℕ
 entry_place image f = (function_at image.funcs f - code_start) / 4
 
--- A line to which a walk comes, where these traps are pushed, with its descriptor if it has one.
+-- A line to which a walk comes, and which is no exit without words, where these traps are pushed, with
+-- its descriptor if it has one.
 pub record LineAt (s : Fixed) (laid : Laid) (n : Named) (m : Lin) (c : Setting) (named : NamedAt)
     (tries : List ℕ) (i : Line) (next : List Line) : Type 0 where
   pub descr : Option Descr
@@ -48,4 +50,7 @@ pub record FunctionStands (image : Tables) (m : Lin) (c : Setting) (named : Name
       PartStands s names (entry_place image k) (laid.part (length m.code))
       (entry (record { bytes = laid.frame; saves = laid.saves }))
   pub line : (s : Fixed) → s.image ≡ image → (i : Line) (next : List Line) (tries : List ℕ) →
-      Stands i next m.code → Reached m (i ∷ next) tries → LineAt s laid names m c named tries i next
+      Stands i next m.code → Reached m (i ∷ next) tries → is_free i.op next ≡ false →
+      LineAt s laid names m c named tries i next
+  pub free : (i : Line) (next : List Line) → Stands i next m.code → is_free i.op next ≡ true →
+      FreeStands laid m i next

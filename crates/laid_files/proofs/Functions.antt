@@ -5,10 +5,12 @@ use Rattle.std.specs.List.{AllByRecursion}
 use Rattle.std.proofs.lemmas.List.Sums.{sum_by-cons}
 use Rattle.std.proofs.lemmas.List.Elements.{Contains-append_right}
 use Rattle.bs_words.specs.declared.types.Loc.{Loc}
-use Rattle.emit_rules.specs.Emitted.{part_of, parts, descriptor, left_after, emitted}
+use Rattle.emit_rules.specs.Emitted.{part_before, parts, descriptor, left_after, emitted}
 use Rattle.emit_rules.specs.Entry.{Frame, frame_of, entry}
 use Rattle.emit_rules.specs.Sizes.{least_words, words_at_least}
-use Rattle.emit_rules.proofs.Acts.{ActsAt, part_acts}
+use Rattle.emit_rules.specs.Units.{is_free}
+use Rattle.emit_rules.proofs.Acts.{ActsAt, part_acts, falls_act}
+use Rattle.emit_rules.proofs.Units.{free_is_exit, part_unless_free}
 use Rattle.image_form.specs.Image.{First, EachNext, IsEntry, IsNextEntry}
 use Rattle.layout_rules.specs.Conditions.{IsDescriptor}
 use Rattle.lin_ir.specs.Descriptors.{AreExact, ComesBefore, Describes, IsWithin, NamesLive, frame_bytes, has_frame_point, of_register, of_slot, register_first, rising}
@@ -59,19 +61,33 @@ module _ (m : Lin) (unended : (tries : List ℕ) → Reached m [] tries → ⊥)
   later_acts : (i : Line) (next : List Line) (ds : List Descr) → ((ds : List Descr) → 1 ≤ words_at_least (parts traps f ds next)) → 1 ≤ words_at_least (parts traps f ds (i ∷ next))
   later_acts i next ds later =
       let more = later (left_after (passes_frame i.op) ds) in
-      omega (arith, more, words_both (part_of (traps (length next)) f (descriptor (passes_frame i.op) ds) i) (parts traps f (left_after (passes_frame i.op) ds) next))
+      omega (arith, more, words_both (part_before (traps (length next)) f (descriptor (passes_frame i.op) ds) i next) (parts traps f (left_after (passes_frame i.op) ds) next))
 
-  here_acts : (i : Line) (next : List Line) (ds : List Descr) → ActsAt i.op i.args i.results → 1 ≤ words_at_least (parts traps f ds (i ∷ next))
-  here_acts i next ds acts =
-      let own = part_acts (traps (length next)) f (descriptor (passes_frame i.op) ds) i.op i.args i.results acts in
-      omega (arith, own, words_both (part_of (traps (length next)) f (descriptor (passes_frame i.op) ds) i) (parts traps f (left_after (passes_frame i.op) ds) next))
+  here_acts : (i : Line) (next : List Line) (ds : List Descr) → is_free i.op next ≡ false → ActsAt i.op i.args i.results →
+      1 ≤ words_at_least (parts traps f ds (i ∷ next))
+  here_acts i next ds unless acts =
+      let t = traps (length next) in
+      let d = descriptor (passes_frame i.op) ds in
+      let own = part_acts t f d i.op i.args i.results acts in
+      let same = ap words_at_least (part_unless_free t f d i next unless) in
+      omega (arith, own, same, words_both (part_before t f d i next) (parts traps f (left_after (passes_frame i.op) ds) next))
+
+  -- an exit has one, or the branch to which it goes
+  exit_acts : (i : Line) (next : List Line) (ds : List Descr) → ActsAt i.op i.args i.results → 1 ≤ words_at_least (parts traps f ds (i ∷ next))
+  exit_acts i next ds acts = by (is_free i.op next) refl
+    where
+      by : (b : Bool) → is_free i.op next ≡ b → 1 ≤ words_at_least (parts traps f ds (i ∷ next))
+      by true e = let exit = free_is_exit i.op next e in later_acts i next ds (λ ds. falls_act traps f ds exit.to next exit.falls)
+      by false e = here_acts i next ds e acts
 
   by_op : (g : LinOp) (i : Line) (next : List Line) (tries : List ℕ) (ds : List Descr) → i.op ≡ g → Reached m (i ∷ next) tries →
       ((left : List ℕ) → Reached m next left → (ds : List Descr) → 1 ≤ words_at_least (parts traps f ds next)) → 1 ≤ words_at_least (parts traps f ds (i ∷ next))
   by_op (lin.Flow (flow.Label l)) i next tries ds e r later = later_acts i next ds (later _ (by_step r (goes On (subst (λ g. OneOf On (targets g)) (sym e) this))))
   by_op (lin.Flow flow.EnterTrap) i next tries ds e r later = later_acts i next ds (later _ (by_step r (goes On (subst (λ g. OneOf On (targets g)) (sym e) this))))
   by_op (lin.Op (op.Pure (pure.Copy kind))) i next tries ds e r later = later_acts i next ds (later _ (by_step r (goes On (subst (λ g. OneOf On (targets g)) (sym e) this))))
-  by_op _ i next tries ds e r later = here_acts i next ds (subst (λ g. ActsAt g i.args i.results) (sym e) tt)
+  by_op (lin.Flow (flow.Exit l)) i next tries ds e r later = exit_acts i next ds (subst (λ g. ActsAt g i.args i.results) (sym e) tt)
+  by_op _ i next tries ds e r later =
+      here_acts i next ds (subst (λ g. is_free g next ≡ false) (sym e) refl) (subst (λ g. ActsAt g i.args i.results) (sym e) tt)
 
   acts_from : (code : List Line) (tries : List ℕ) → Reached m code tries → (ds : List Descr) → 1 ≤ words_at_least (parts traps f ds code)
   acts_from [] tries r ds = absurd (unended tries r)

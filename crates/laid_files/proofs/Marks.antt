@@ -1,8 +1,9 @@
 -- Behind the entry of a function and between two of its descriptors there is a word.
-use Rattle.std.proofs.Common.{◌≡◌, ℕ, ◌+◌, ◌≤◌, Bool, true, false, List, [], ◌∷◌, ◌++◌, length, Some, None, refl, arith}
+use Rattle.std.proofs.Common.{◌≡◌, ℕ, ◌+◌, ◌≤◌, Bool, true, false, List, [], ◌∷◌, ◌++◌, length, Some, None, refl, sym, ◌∙◌, arith}
+use Rattle.std.proofs.lemmas.Bool.{true≢false}
 use Rattle.std.specs.List.{AllByRecursion}
 use Rattle.emit_rules.specs.Calls.{call_words, external_words}
-use Rattle.emit_rules.specs.Emitted.{part_of, parts, descriptor, left_after, emitted}
+use Rattle.emit_rules.specs.Emitted.{part_of, part_before, parts, descriptor, left_after, emitted}
 use Rattle.emit_rules.specs.Entry.{Frame, frame_of, entry}
 use Rattle.emit_rules.specs.Memory.{reserved, addresses}
 use Rattle.emit_rules.specs.Constants.{lowered}
@@ -10,7 +11,8 @@ use Rattle.emit_rules.specs.Instructions.{load, calls_at}
 use Rattle.emit_rules.specs.Slots.{first, register_of, fetched}
 use Rattle.emit_rules.specs.Sizes.{least_words, words_at_least}
 use Rattle.emit_rules.specs.Traversal.{Each, each_none, each_more, Allows}
-use Rattle.emit_rules.proofs.Traverse.{entry-in, part-in}
+use Rattle.emit_rules.proofs.Traverse.{entry-in, part-in, before-in}
+use Rattle.emit_rules.proofs.Units.{free_passes_no_frame, part_by}
 use Rattle.layout_rules.specs.Conditions.{AreDescriptors, IsDescriptor}
 use Rattle.lin_ir.specs.Meaning.{passes_frame}
 use Rattle.lin_ir.specs.declared.descr.Descr.{Descr}
@@ -178,19 +180,26 @@ part_are t f d (lin.Op (op.Calling (calling.External row frame))) args results h
     part-in NoMark None t f (record { op = lin.Op (op.Calling (calling.External row frame)); args = args; results = results }) (unmarked (lin.Op (op.Calling (calling.External row frame)))) in
     marked_last d (external_words row frame) (each_front (external_words row frame) [] all) (omega arith) is
 
-plain_part : (t : ℕ) (f : Frame) (i : Line) → AreDescriptors false (part_of t f None i)
-plain_part t f i = none_are false (part_of t f None i) (part-in NoMark None t f i (unmarked i.op))
+plain_part : (t : ℕ) (f : Frame) (i : Line) (next : List Line) → AreDescriptors false (part_before t f None i next)
+plain_part t f i next = none_are false (part_before t f None i next) (before-in NoMark None t f i next (unmarked i.op))
+
+-- a frame point is no exit, and has its words
+point_part : (t : ℕ) (f : Frame) (d : Descr) (i : Line) (next : List Line) → passes_frame i.op ≡ true → IsDescriptor d →
+    AreDescriptors false (part_before t f (Some d) i next)
+point_part t f d i next h is =
+    part_by t f (Some d) i next (λ ps. AreDescriptors false ps) (λ free. absurd (true≢false (sym h ∙ free_passes_no_frame i.op next free)))
+    (λ unless. part_are t f d i.op i.args i.results h is)
 
 module _ (f : Frame) (traps : ℕ → ℕ) where
   step : (i : Line) (next : List Line) (b : Bool) → passes_frame i.op ≡ b → ((ds : List Descr) → AllByRecursion IsDescriptor ds → AreDescriptors false (parts traps f ds next)) →
       (ds : List Descr) → AllByRecursion IsDescriptor ds →
-      AreDescriptors false (part_of (traps (length next)) f (descriptor b ds) i ++ parts traps f (left_after b ds) next)
+      AreDescriptors false (part_before (traps (length next)) f (descriptor b ds) i next ++ parts traps f (left_after b ds) next)
   step i next true p later [] all =
-      joined false (part_of (traps (length next)) f None i) (parts traps f [] next) (plain_part (traps (length next)) f i) (weaker _ (parts traps f [] next) (later [] tt))
+      joined false (part_before (traps (length next)) f None i next) (parts traps f [] next) (plain_part (traps (length next)) f i next) (weaker _ (parts traps f [] next) (later [] tt))
   step i next true p later (d ∷ ds) all =
-      joined false (part_of (traps (length next)) f (Some d) i) (parts traps f ds next) (part_are (traps (length next)) f d i.op i.args i.results p all.0) (weaker _ (parts traps f ds next) (later ds all.1))
+      joined false (part_before (traps (length next)) f (Some d) i next) (parts traps f ds next) (point_part (traps (length next)) f d i next p all.0) (weaker _ (parts traps f ds next) (later ds all.1))
   step i next false p later ds all =
-      joined false (part_of (traps (length next)) f None i) (parts traps f ds next) (plain_part (traps (length next)) f i) (weaker _ (parts traps f ds next) (later ds all))
+      joined false (part_before (traps (length next)) f None i next) (parts traps f ds next) (plain_part (traps (length next)) f i next) (weaker _ (parts traps f ds next) (later ds all))
 
   parts_are : (is : List Line) (ds : List Descr) → AllByRecursion IsDescriptor ds → AreDescriptors false (parts traps f ds is)
   parts_are [] ds all = tt

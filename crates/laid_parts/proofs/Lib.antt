@@ -13,6 +13,7 @@ pub mod EverySlots
 pub mod Calls
 pub mod Marks
 pub mod Raising
+pub mod Free
 pub mod Decoded
 pub mod Whole
 pub mod Examples

@@ -1,7 +1,8 @@
 -- The pieces of a function are laid out as its Linear function.
 use Rattle.std.proofs.Common.{◌≡◌, ℕ, List, [], ◌∷◌, length, refl, sym, subst, ap, arith}
+use Rattle.std.proofs.lemmas.List.Elements.{All-contains}
 use Rattle.lin_ir.specs.Descriptors.{IsWithin, frame_points}
-use Rattle.lin_ir.specs.Formed.{WellFormed, Seated}
+use Rattle.lin_ir.specs.Formed.{IsFormed, WellFormed, Seated}
 use Rattle.lin_ir.specs.Meaning.{passes_frame}
 use Rattle.lin_ir.specs.Walks.{Stands, here, below, Traps, by_walk, unreached}
 use Rattle.lin_ir.specs.declared.descr.Descr.{Descr}
@@ -11,9 +12,11 @@ use Rattle.rv_pieces.specs.declared.piece.Pieces.{Pieces}
 use Rattle.emit_rules.specs.Emitted.{part_of, parts, descriptor, left_after, IsEmitted}
 use Rattle.emit_rules.specs.Entry.{frame_of}
 use Rattle.emit_rules.proofs.Names.{stands-contains}
-use Rattle.laid_parts.specs.Laid.{CarriesSlots, AreParts, no_line, a_line, IsLaidOutAs}
+use Rattle.emit_rules.proofs.Units.{part_by}
+use Rattle.laid_parts.specs.Laid.{CarriesSlots, IsPartOf, AreParts, no_line, a_line, IsLaidOutAs}
 use Rattle.laid_parts.proofs.Each.{carried}
 use Rattle.laid_parts.proofs.EverySlots.{slots_carried}
+use Rattle.laid_parts.proofs.Free.{free_part}
 use Rattle.laid_parts.proofs.Marks.{line_marked, left_length}
 use Rattle.laid_parts.proofs.Raising.{raises_behind_branch}
 
@@ -30,16 +33,20 @@ module _ (m : Lin) (w : WellFormed m) (seated : Seated m) (within : IsWithin m) 
       let at = s i next here in
       let t = e.traps (length next) in
       let d = descriptor (passes_frame i.op) left in
+      let among = stands-contains m.code at in
+      let others = left_after (passes_frame i.op) left in
       a_line
-      (record {
-        registers = carried m w seated i (stands-contains m.code at) t (frame_of m) d;
+      (part_by t (frame_of m) d i next (λ part. IsPartOf m left others i next part)
+      (free_part m left next i (All-contains IsFormed m.code i w.forms among))
+      (λ unless. record {
+        registers = carried m w seated i among t (frame_of m) d;
         slots = λ tries traps.
             subst (λ (t : ℕ). CarriesSlots (frame_of m) (length tries) i (part_of t (frame_of m) d i)) (sym (counted i next at tries traps))
-            (slots_carried m w seated within i next tries (stands-contains m.code at) traps d);
+            (slots_carried m w seated within i next tries among traps d);
         mark = line_marked t (frame_of m) i (frame_points next) (passes_frame i.op) refl left k;
         raises = raises_behind_branch t (frame_of m) d i.op i.args i.results;
-      })
-      (parts-laid next (λ j rest h. s j rest (below h)) (left_after (passes_frame i.op) left)
+      }))
+      (parts-laid next (λ j rest h. s j rest (below h)) others
       (left_length (frame_points next) (passes_frame i.op) left k))
 
   pub laid_out : length ds ≡ frame_points m.code → IsLaidOutAs m ds p

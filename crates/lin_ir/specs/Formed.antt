@@ -1,5 +1,5 @@
 -- What holds of every Linear function that the back end takes, whatever it does.
-use Rattle.std.specs.Prelude.{◌≡◌, ◌≢◌, ◌⊎◌, ℕ, suc, ◌<◌, Bool, true, false, List, [], ◌∷◌, ◌++◌, length, map, All, AllPairs, Contains}
+use Rattle.std.specs.Prelude.{◌≡◌, ◌≢◌, ◌⊎◌, ℕ, suc, ◌<◌, ◌≤◌, Bool, true, false, List, [], ◌∷◌, ◌++◌, length, map, All, AllPairs, Contains}
 use Rattle.bs_words.specs.declared.types.Comp.{Comp}
 use Rattle.bs_words.specs.declared.types.Comp.TheVariants as comp
 use Rattle.bs_words.specs.declared.types.Loc.{Loc}
@@ -167,20 +167,19 @@ abbrev pub is_exit : LinOp → Bool
 is_exit (lin.Flow (flow.Exit l)) = true
 is_exit _ = false
 
--- Only an exit, which is a unit, leads back: any other label that a line names comes later, and so
--- does the handler of a raise.
-pub record GoesForward (m : Lin) : Type 0 where
-  pub labels : (i : Line) (next : List Line) → Stands i next m.code → is_exit i.op ≡ false →
-      (l : ℕ) → NamesLabel l i.op → Contains (labels_in next) l
-  pub handlers : (i : Line) (next : List Line) (l : ℕ) (tries : List ℕ) →
-      Reached m (i ∷ next) (l ∷ tries) → may_raise i.op ≡ true → Contains (labels_in next) l
+abbrev pub is_label : LinOp → Bool
+is_label (lin.Flow (flow.Label l)) = true
+is_label _ = false
 
 -- A number for each place, by the lines that are left, which each step of a walk lowers that is no
--- exit. So control comes back to a place only by an exit, which is a unit.
+-- exit; a label, which has no instruction, need not lower it. So control comes back to a place only by
+-- an exit, which is a unit.
 pub record GoesDown (m : Lin) : Type 0 where
   pub order : ℕ → ℕ
+  pub labels : (i : Line) (next : List Line) (tries : List ℕ) → Reached m (i ∷ next) tries →
+      is_label i.op ≡ true → order (length next) ≤ order (suc (length next))
   pub steps : (i : Line) (next to : List Line) (tries left : List ℕ) → Reached m (i ∷ next) tries →
-      is_exit i.op ≡ false → Leads m i next tries to left →
+      is_exit i.op ≡ false → is_label i.op ≡ false → Leads m i next tries to left →
       order (length to) < order (suc (length next))
   pub raises : (i : Line) (next to : List Line) (tries left : List ℕ) → Reached m (i ∷ next) tries →
       Raises m i tries to left → order (length to) < order (suc (length next))

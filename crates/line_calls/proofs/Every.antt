@@ -1,21 +1,32 @@
 -- Every line, of whatever kind.
-use Rattle.std.proofs.Common.{◌≡◌, ◌⊎◌, inl, inr, ⊎_elim, ℕ, ◌+◌, ◌*◌, List, ◌∷◌, length, refl, sym, subst, arith}
+use Rattle.std.proofs.Common.{◌≡◌, ◌⊎◌, inl, inr, ⊎_elim, ℕ, suc, ◌+◌, ◌*◌, true, List, ◌∷◌, length, Option, refl, sym, subst, ◌∙◌, arith}
 use Rattle.emit_rules.specs.Emitted.{part_of}
+use Rattle.emit_rules.specs.Entry.{Frame}
+use Rattle.emit_rules.specs.Units.{is_branch}
+use Rattle.emit_rules.proofs.Units.{if_branch}
 use Rattle.layout_rules.specs.Forms.{total_words}
-use Rattle.lin_ir.specs.Meaning.{step}
+use Rattle.layout_rules.specs.Words.{Named}
+use Rattle.lin_ir.specs.Meaning.{Locations, NamedAt, step}
+use Rattle.lin_ir.specs.declared.descr.Descr.{Descr}
 use Rattle.lin_ir.specs.declared.lin.Flow.TheVariants as flow
+use Rattle.lin_ir.specs.declared.lin.Lin.{Lin}
 use Rattle.lin_ir.specs.declared.lin.Line.{Line}
 use Rattle.lin_ir.specs.declared.lin.LinOp.{LinOp}
 use Rattle.lin_ir.specs.declared.lin.LinOp.TheVariants as lin
+use Rattle.mach_ir.specs.Acts.{Around}
+use Rattle.mach_ir.specs.Runs.{Place}
 use Rattle.mach_ir.specs.declared.op.Access.TheVariants as access
 use Rattle.mach_ir.specs.declared.op.Leaving.TheVariants as leaving
 use Rattle.mach_ir.specs.declared.op.Op.TheVariants as op
-use Rattle.linear_machine.specs.Follows.{FollowsStep}
-use Rattle.line_values.specs.Followed.{IsPlain, plain_pure, plain_load, plain_store, plain_check, plain_label, plain_jump, plain_exit, plain_branch, plain_switch}
-use Rattle.line_values.proofs.Following.{plain_followed}
+use Rattle.linear_machine.specs.Follows.{FollowsStep, IsAt}
+use Rattle.linear_machine.specs.Relation.{Below, Laid}
+use Rattle.linear_machine.specs.View.{Fixed, View}
+use Rattle.line_stands.specs.Lines.{LineStands}
+use Rattle.line_values.specs.Followed.{FollowsBranch, IsPlain, plain_pure, plain_load, plain_store, plain_check, plain_label, plain_jump, plain_exit, plain_branch, plain_switch}
+use Rattle.line_values.proofs.Following.{branches_followed, plain_followed}
 use Rattle.line_calls.specs.Calls.{FollowsSo}
 use Rattle.line_calls.specs.Laws.{EntryFollows, EveryLineFollows}
-use Rattle.line_calls.specs.Points.{IsTurn, before_service, it_calls, it_returns, it_raises, it_allocates, it_pushes, it_pops, it_enters}
+use Rattle.line_calls.specs.Points.{IsReadyFor, IsTurn, before_service, it_calls, it_returns, it_raises, it_allocates, it_pushes, it_pops, it_enters}
 use Rattle.line_calls.proofs.Entering.{entry_follows}
 use Rattle.line_calls.proofs.NoWaits.{Comes, so_without, step_no}
 use Rattle.line_calls.proofs.Whole.{lines_follow}
@@ -88,6 +99,21 @@ every_line live s n laid entry c place named m f d i next v file a k lines point
     (subst (λ w. FollowsStep w s laid live entry c v does) same
     (plain_followed s laid n m place named live entry c f d next i plain file a v lines (fit.raised (begins_none i.op plain)) at))))
     (λ turn. lines_follow s n laid live entry c place named m f d i next v file a k turn lines (points turn) fit behind at) (kinds i.op)
+
+-- And a branch takes at least one instruction.
+pub every_branch : (live : List Line → Type 0) (s : Fixed) (n : Named) (laid : Laid) (c : Below) (place : Place) (named : NamedAt) (m : Lin) (f : Frame)
+    (d : Option Descr) (i : Line) (next : List Line) (v : View) (file : Locations) (a : Around) (words : ℕ) → is_branch i.op ≡ true →
+    LineStands s laid n m place.setting live a.tries f d i next → IsReadyFor i a → laid.part (length next) ≡ laid.part (suc (length next)) + words →
+    IsAt s laid live c (record { rest = i ∷ next; file = file; around = a }) v →
+    FollowsBranch (before_service i.op words) s laid live c v (step place named m (record { rest = i ∷ next; file = file; around = a }))
+every_branch live s n laid c place named m f d i next v file a k branch lines fit behind at =
+    let past = lines.part.past in
+    let many = total_words (part_of (length a.tries) f d i) lines.part.forms in
+    let does = step place named m (record { rest = i ∷ next; file = file; around = a }) in
+    let same : many ≡ k = omega (arith, past, behind) in
+    let plain : IsPlain i.op = if_branch IsPlain (λ t l. plain_branch) i.op branch in
+    subst (λ w. FollowsBranch w s laid live c v does) (same ∙ sym (without_service i.op k plain))
+    (branches_followed live s laid n m place named c f d i next branch file a v lines (fit.raised (begins_none i.op plain)) at)
 
 -- And every entry.
 pub every_entry : (live : List Line → Type 0) → EntryFollows live

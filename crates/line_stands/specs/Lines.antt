@@ -4,11 +4,13 @@ use Rattle.bs_words.specs.declared.types.Comp.{Comp}
 use Rattle.cmm_meaning.specs.Setting.{Setting}
 use Rattle.emit_rules.specs.Emitted.{part_of}
 use Rattle.emit_rules.specs.Entry.{Frame}
+use Rattle.emit_rules.specs.Units.{tests_first}
 use Rattle.layout_rules.specs.Words.{Named}
 use Rattle.lin_ir.specs.Formed.{IsFormed, IsQuiet, Locates, NamesLabel, Sets, labels_in, lin_operand_seats, lin_result_seats, places_of, spare}
 use Rattle.lin_ir.specs.Meaning.{after_label, code_at}
 use Rattle.lin_ir.specs.Walks.{may_raise, targets}
 use Rattle.lin_ir.specs.declared.descr.Descr.{Descr}
+use Rattle.lin_ir.specs.declared.lin.Flow.TheVariants as flow
 use Rattle.lin_ir.specs.declared.lin.Line.{Line}
 use Rattle.lin_ir.specs.declared.lin.LinOp.{LinOp}
 use Rattle.lin_ir.specs.declared.lin.LinOp.TheVariants as lin
@@ -65,3 +67,11 @@ pub record LineStands (s : Fixed) (laid : Laid) (n : Named) (m : Lin) (c : Setti
   pub named : (l : ℕ) → NamesLabel l i.op → Contains (labels_in m.code) l
   pub handlers : (l : ℕ) → Contains tries l → Contains (labels_in m.code) l
   pub spare : SparePasses m live tries i next
+
+-- An exit that has no words. Control goes to a branch, whose part begins where that of the exit
+-- does, since the label between has no words either.
+pub record FreeStands (laid : Laid) (m : Lin) (i : Line) (next : List Line) : Type 0 where
+  pub label : ℕ
+  pub is : i.op ≡ lin.Flow (flow.Exit label)
+  pub place : laid.part (length (after_label label m.code)) ≡ laid.part (suc (length next))
+  pub tests : tests_first (after_label label m.code) ≡ true

@@ -234,7 +234,7 @@ module _ (s : Fixed) (n : Named) (laid : Laid) (m : Lin) (slots : m.slots ≡ la
         go_step s u (Branch condition.Bltu (number right) (number left) 28) (u.place + 7) code
         (goes_branch_taken s u condition.Bltu (number right) (number left) 28 (u.place + 7) taken
         (skips (code_start + 4 * u.place) 28 (code_start + 4 * (u.place + 7)) (omega arith) (omega arith) (omega (arith, near)))) in
-        lands s n laid m live entry c place named next v young held file a within before agrees k (k1 + 1) 0 (omega arith) (omega (arith, sum, e7)) next
+        lands s n laid m live entry c place named next v young held file a within before agrees k (k1 + 1) (omega (arith, sum, e7)) next
         (at_place (u.place + 7) u) (then_leads s k1 1 v u (at_place (u.place + 7) u) comes.leads over) (omega (arith, at, e7, sum, behind))
         (within_at s laid u young held a c (u.place + 7) comes.holds.0) passes
 

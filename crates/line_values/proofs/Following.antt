@@ -1,15 +1,17 @@
 -- Each plain line is followed.
-use Rattle.std.proofs.Common.{◌≡◌, ℕ, zero, suc, ◌+◌, ◌^◌, ◌<◌, ◌⊎◌, inl, inr, true, ◌&&◌, nat_le, nat_lt, List, [], ◌∷◌, length, map, Option, Some, slice_get, refl, ap, arith, ◌∙◌, sym, subst, ⊎_elim}
+use Rattle.std.proofs.Common.{◌≡◌, ℕ, zero, suc, ◌+◌, ◌^◌, ◌<◌, ◌⊎◌, inl, inr, true, ◌&&◌, nat_le, nat_lt, List, [], ◌∷◌, length, map, Option, Some, None, slice_get, refl, ap, arith, ◌∙◌, sym, subst, ⊎_elim}
 use Rattle.std.specs.List.{AllByRecursion, Contains}
 use Rattle.std.proofs.lemmas.Bool.{and_parts, leb-true, ltb-true, or_cases}
 use Rattle.std.proofs.lemmas.List.Elements.{recursion_from_All}
 use Rattle.bs_words.specs.declared.types.Comp.{Comp}
 use Rattle.emit_rules.specs.Emitted.{part_of}
 use Rattle.emit_rules.specs.Entry.{Frame}
+use Rattle.emit_rules.specs.Units.{is_branch}
+use Rattle.emit_rules.proofs.Units.{if_branch}
 use Rattle.layout_rules.specs.Forms.{total_words}
 use Rattle.layout_rules.specs.Words.{Named}
 use Rattle.lin_ir.specs.Formed.{FlowHasForm, label_form, jump_form, exit_form, branch_form, switch_form, IsFormed, formed_op, formed_flow, IsLocation, goes_to, comps, spare}
-use Rattle.lin_ir.specs.Meaning.{NamedAt, after_label, code_at}
+use Rattle.lin_ir.specs.Meaning.{Locations, NamedAt, State, after_label, code_at, step}
 use Rattle.lin_ir.specs.Walks.{may_raise, targets}
 use Rattle.lin_ir.specs.declared.descr.Descr.{Descr}
 use Rattle.lin_ir.specs.declared.lin.Flow.{Flow}
@@ -21,7 +23,7 @@ use Rattle.lin_ir.specs.declared.lin.LinOp.TheVariants as lin
 use Rattle.lin_ir.specs.declared.lin.Spot.{Spot}
 use Rattle.mach_ir.specs.Acts.{Around, At, On}
 use Rattle.mach_ir.specs.Forms.{IsTested, HasForm, checks, copies, constant, symbol, operates, loads, stores, a_register, a_constant, is_immediate, is_immediate_12}
-use Rattle.mach_ir.specs.Runs.{Place}
+use Rattle.mach_ir.specs.Runs.{Place, Step, Continues, Pays, Deepens, Waits, FinishesBy, Finishes, FinishesRaising, IsStuck}
 use Rattle.mach_ir.specs.Walks.{OneOf, this, other}
 use Rattle.mach_ir.specs.declared.op.Access.TheVariants as access
 use Rattle.mach_ir.specs.declared.op.Leaving.TheVariants as leaving
@@ -33,13 +35,15 @@ use Rattle.bs_words.specs.declared.operators.IntOp.{IntOp}
 use Rattle.bs_words.specs.declared.operators.IntOp.TheVariants as operator
 use Rattle.mach_ir.specs.declared.op.Right.{Right}
 use Rattle.mach_ir.specs.declared.op.Right.TheVariants as right
+use Rattle.linear_machine.specs.Follows.{FollowsStep, IsAt}
 use Rattle.linear_machine.specs.Relation.{Below, Laid}
 use Rattle.linear_machine.specs.View.{Fixed, View}
+use Rattle.linear_machine.proofs.Arriving.{at_least}
 use Rattle.linear_machine.proofs.Pure.{Reads}
 use Rattle.linear_machine.proofs.Rows.{immediate_small}
 use Rattle.line_stands.specs.Lines.{LineStands}
 use Rattle.line_stands.specs.Parts.{PartStands}
-use Rattle.line_values.specs.Followed.{Followed, IsPlain, plain_pure, plain_load, plain_store, plain_check, plain_label, plain_jump, plain_exit, plain_branch, plain_switch}
+use Rattle.line_values.specs.Followed.{BranchesAreFollowed, Followed, FollowsBranch, IsPlain, plain_pure, plain_load, plain_store, plain_check, plain_label, plain_jump, plain_exit, plain_branch, plain_switch}
 use Rattle.layout_rules.specs.Laid.{address_of_place}
 use Rattle.line_values.proofs.Checking.{check_line, check_with_line}
 use Rattle.line_values.proofs.Landing.{Lies, exit_line, jump_line, label_line}
@@ -162,10 +166,30 @@ case_of [] j l e = absurd (cc)
 case_of (x ∷ labels) zero l e = let same : x ≡ l = cc in subst (λ z. OneOf (At l) (At z ∷ map At labels)) (sym same) this
 case_of (x ∷ labels) (suc j) l e = other (case_of labels j l e)
 
+-- a branch's step is one of a line
+branch_follows : (k : ℕ) (s : Fixed) (laid : Laid) (live : List Line → Type 0) (entry : ℕ → ℕ) (c : Below) (v : View) (x : Step State) →
+    FollowsBranch k s laid live c v x → FollowsStep k s laid live entry c v x
+branch_follows k s laid live entry c v (Continues u) b = at_least 1 0 k k s v (IsAt s laid live c u) (omega arith) (omega arith) b
+branch_follows k s laid live entry c v (Pays u) b = absurd b
+branch_follows k s laid live entry c v (Deepens bytes u) b = absurd b
+branch_follows k s laid live entry c v (Waits call go) b = absurd b
+branch_follows k s laid live entry c v (FinishesBy call kept) b = absurd b
+branch_follows k s laid live entry c v (Finishes x) b = absurd b
+branch_follows k s laid live entry c v (FinishesRaising x) b = absurd b
+branch_follows k s laid live entry c v IsStuck b = tt
+
 module _ (s : Fixed) (laid : Laid) (n : Named) (m : Lin) (place : Place) (named : NamedAt) (live : List Line → Type 0) (entry : ℕ → ℕ) (c : Below) (f : Frame)
     (d : Option Descr) (next : List Line) where
   abbrev Goal : LinOp → List Spot → List Spot → Type 0
   Goal o args results = Followed s laid n m place named live entry c f d (record { op = o; args = args; results = results }) next
+
+  abbrev Branches : LinOp → List Spot → List Spot → Type 0
+  Branches o args results =
+      (file : Locations) (a : Around) (v : View)
+      (st : LineStands s laid n m place.setting live a.tries f d (record { op = o; args = args; results = results }) next) → a.raised ≡ None →
+      IsAt s laid live c (record { rest = record { op = o; args = args; results = results } ∷ next; file = file; around = a }) v →
+      FollowsBranch (total_words (part_of (length a.tries) f d (record { op = o; args = args; results = results })) st.part.forms) s laid live c v
+      (step place named m (record { rest = record { op = o; args = args; results = results } ∷ next; file = file; around = a }))
 
   module _ (o : LinOp) (args results : List Spot) (a : Around)
       (st : LineStands s laid n m place.setting live a.tries f d (record { op = o; args = args; results = results }) next) where
@@ -343,14 +367,21 @@ module _ (s : Fixed) (laid : Laid) (n : Named) (m : Lin) (place : Place) (named 
       later : (x : Spot) (xs : List Spot) (p : Spot) → Contains xs p → Contains (x ∷ xs) p
       later x xs p (k, l, e) = (suc k, omega (arith, l), e)
 
-  branch_case : (t : _) (l : ℕ) (args : List Spot) → IsTested t (comps args) → Goal (lin.Flow (flow.Branch t l)) args []
-  branch_case t l args tested file a v st none (young, held, agrees, during) =
+  branch_takes : (t : _) (l : ℕ) (args : List Spot) → IsTested t (comps args) → Branches (lin.Flow (flow.Branch t l)) args []
+  branch_takes t l args tested file a v st none (young, held, agrees, during) =
       let o = lin.Flow (flow.Branch t l) in
       branch_line s n laid m st.slots live entry c place named next v young held file a none during.within
       (live (record { op = o; args = args; results = [] } ∷ next)) agrees (words o args [] a st) (behind o args [] a st v during.place) l
       (lies o args [] a st l (other this)) (passes_to o args [] a st On this refl, passes_to o args [] a st (At l) (other this) refl) t args tested
       (all_read (live (record { op = o; args = args; results = [] } ∷ next)) args (locates o args [] a st) (reads o args [] a st))
       (part_at o args [] a st v during.place)
+
+  branch_case : (t : _) (l : ℕ) (args : List Spot) → IsTested t (comps args) → Goal (lin.Flow (flow.Branch t l)) args []
+  branch_case t l args tested file a v st none at =
+      let o = lin.Flow (flow.Branch t l) in
+      branch_follows (words o args [] a st) s laid live entry c v
+      (step place named m (record { rest = record { op = o; args = args; results = [] } ∷ next; file = file; around = a }))
+      (branch_takes t l args tested file a v st none at)
 
   switch_case : (labels : List ℕ) (p : Spot) → Goal (lin.Flow (flow.Switch labels)) (p ∷ []) []
   switch_case labels p file a v st none (young, held, agrees, during) =
@@ -431,3 +462,23 @@ module _ (s : Fixed) (laid : Laid) (n : Named) (m : Lin) (place : Place) (named 
   -- Whatever plain line it is.
   pub plain_followed : (i : Line) → IsPlain i.op → Followed s laid n m place named live entry c f d i next
   plain_followed i plain file a v st none at = by_op i.op i.args i.results plain st.formed file a v st none at
+
+  branch_by : (o : LinOp) (args results : List Spot) → is_branch o ≡ true → IsFormed (record { op = o; args = args; results = results }) →
+      Branches o args results
+  branch_by o args results b =
+      if_branch (λ g. IsFormed (record { op = g; args = args; results = results }) → Branches g args results)
+      (λ t l h.
+      let i = branch_inv t l (comps args) (comps results) (flow_form_of (flow.Branch t l) args results h) in
+      with_none results i.1 (λ ys. Branches (lin.Flow (flow.Branch t l)) args ys) (branch_takes t l args i.0)) o b
+
+  -- And a branch takes at least one instruction.
+  pub branch_followed : (i : Line) → is_branch i.op ≡ true → (file : Locations) (a : Around) (v : View)
+      (st : LineStands s laid n m place.setting live a.tries f d i next) → a.raised ≡ None →
+      IsAt s laid live c (record { rest = i ∷ next; file = file; around = a }) v →
+      FollowsBranch (total_words (part_of (length a.tries) f d i) st.part.forms) s laid live c v
+      (step place named m (record { rest = i ∷ next; file = file; around = a }))
+  branch_followed i b file a v st none at = branch_by i.op i.args i.results b st.formed file a v st none at
+
+pub branches_followed : (live : List Line → Type 0) → BranchesAreFollowed live
+branches_followed live s laid n m place named c f d i next b file a v st none at =
+    branch_followed s laid n m place named live (λ g. 0) c f d next i b file a v st none at

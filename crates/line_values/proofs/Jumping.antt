@@ -208,6 +208,7 @@ module _ (s : Fixed) (u : View) (are : AreRegisters u.registers) (to : ℕ) (nea
   -- a branch is one word to three
   pub record Branched (t : Bool) (k there : ℕ) : Type 0 where
     pub count : ℕ
+    pub some : 1 ≤ count
     pub few : count ≤ k
     pub goes : Goes s u count there
     -- t1 is lost on the way to a label alone
@@ -220,12 +221,14 @@ module _ (s : Fixed) (u : View) (are : AreRegisters u.registers) (to : ℕ) (nea
   unfolding near_branch goes_at goes_over
   branch_goes true e Near reach code = record {
     count = 1;
+    some = omega arith;
     few = omega arith;
     goes = near_branch (near_test (branch_reaches u.place to) (jal_reaches (u.place + 1) to) reach) true e code.0;
     same = λ q. absurd (cc);
   }
   branch_goes false e Near reach code = record {
     count = 1;
+    some = omega arith;
     few = omega arith;
     goes = near_branch (near_test (branch_reaches u.place to) (jal_reaches (u.place + 1) to) reach) false e code.0;
     same = λ q. refl;
@@ -235,23 +238,37 @@ module _ (s : Fixed) (u : View) (are : AreRegisters u.registers) (to : ℕ) (nea
       subst (λ z. IsCode s (u.place + 1) (Jal 0 (jal_offset z (address_of_place to)))) next_address code.1.0 in
       record {
         count = 2;
+        some = omega arith;
         few = omega arith;
         goes = goes_then s u (u.place + 1) 1 to (goes_on 8 e code.0)
             (near_jump s (at_place (u.place + 1) u) are to (omega (arith, near_u)) near_to (jal_after reach) next);
         same = λ q. absurd (cc);
       }
-  branch_goes false e Middle reach code = record { count = 1; few = omega arith; goes = goes_over 2 (omega arith) e code.0; same = λ q. refl }
+  branch_goes false e Middle reach code = record {
+    count = 1;
+    some = omega arith;
+    few = omega arith;
+    goes = goes_over 2 (omega arith) e code.0;
+    same = λ q. refl;
+  }
   branch_goes true e Far reach code =
       let next : HasCode s (u.place + 1) (far_jump 0 6 (address_of_place (u.place + 1)) (address_of_place to)) =
       subst (λ z. HasCode s (u.place + 1) (far_jump 0 6 z (address_of_place to))) next_address code.1 in
       record {
         count = 3;
+        some = omega arith;
         few = omega arith;
         goes = goes_then s u (u.place + 1) 2 to (goes_on 12 e code.0)
             (far_goes s (at_place (u.place + 1) u) are to (omega (arith, near_u)) near_to next);
         same = λ q. absurd (cc);
       }
-  branch_goes false e Far reach code = record { count = 1; few = omega arith; goes = goes_over 3 (omega arith) e code.0; same = λ q. refl }
+  branch_goes false e Far reach code = record {
+    count = 1;
+    some = omega arith;
+    few = omega arith;
+    goes = goes_over 3 (omega arith) e code.0;
+    same = λ q. refl;
+  }
 
 -- ---- code lies in the image
 

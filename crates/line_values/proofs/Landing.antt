@@ -16,7 +16,8 @@ use Rattle.rv_machine.specs.Hart.{Placed}
 use Rattle.rv_machine.specs.Sound.{AreRegisters}
 use Rattle.rv_pieces.specs.declared.piece.Piece.{Piece}
 use Rattle.rv_pieces.specs.declared.piece.Piece.TheVariants.{Jump, Label}
-use Rattle.linear_machine.specs.Follows.{Agrees, FollowsStep, IsAt}
+use Rattle.linear_machine.specs.Arrival.{ArrivesIn}
+use Rattle.linear_machine.specs.Follows.{Agrees, FollowsStep, IsAt, needs_of}
 use Rattle.linear_machine.specs.Relation.{Below, Laid, ReturnStands, Within}
 use Rattle.linear_machine.specs.Straight.{Differs}
 use Rattle.linear_machine.specs.View.{Fixed, View, HasCode, Leads}
@@ -102,12 +103,19 @@ jump_lands s laid n m u are l lies k ys part =
 module _ (s : Fixed) (n : Named) (laid : Laid) (m : Lin) (live : List Line → Type 0) (entry : ℕ → ℕ) (c : Below)
     (place : Place) (named : NamedAt) (next : List Line) (v : View) (young : List Placed) (held file : Locations) (a : Around)
     (within : Within s laid v young 0 held a c) (before : Type 0) (agrees : Agrees before held file) (k : ℕ) where
-  -- it lands before this code in so many instructions or fewer
-  pub lands : (count least : ℕ) → least ≤ count → count ≤ k → (rest : List Line) (w : View) → Leads s count v w → w.place ≡ laid.part (length rest) →
-      Within s laid w young 0 held a c → (live rest → before) → FollowsStep k s laid live entry c v (wrote rest a (Some file))
-  lands count least some few rest w leads at stands passes =
-      leads_in 0 k s count (omega arith) few v w (IsAt s laid live c (record { rest = rest; file = file; around = a })) leads
+  -- it lands before this code in at least so many instructions
+  pub lands_in : (least count : ℕ) → least ≤ count → count ≤ k → (rest : List Line) (w : View) → Leads s count v w → w.place ≡ laid.part (length rest) →
+      Within s laid w young 0 held a c → (live rest → before) →
+      ArrivesIn least k s (needs_of laid c (record { rest = rest; file = file; around = a })) v
+      (IsAt s laid live c (record { rest = rest; file = file; around = a }))
+  lands_in least count some few rest w leads at stands passes =
+      leads_in least k s count some few v w (IsAt s laid live c (record { rest = rest; file = file; around = a })) leads
       (young, held, agrees_on before (live rest) held file passes agrees, record { place = at; within = stands })
+
+  -- or in so many or fewer
+  pub lands : (count : ℕ) → count ≤ k → (rest : List Line) (w : View) → Leads s count v w → w.place ≡ laid.part (length rest) →
+      Within s laid w young 0 held a c → (live rest → before) → FollowsStep k s laid live entry c v (wrote rest a (Some file))
+  lands count few rest w leads at stands passes = lands_in 0 count (omega arith) few rest w leads at stands passes
 
   pub label_line : (l : ℕ) → laid.part (length next) ≡ v.place + k → PartStands s n v.place (v.place + k) (Label l ∷ []) → (live next → before) →
       FollowsStep k s laid live entry c v (step place named m (record {
@@ -138,7 +146,7 @@ module _ (s : Fixed) (n : Named) (laid : Laid) (m : Lin) (live : List Line → T
     }))
     jump_line =
         let j = jumps in
-        lands j.count 1 j.some j.few (after_label l m.code) j.goes.view j.goes.leads j.goes.place
+        lands j.count j.few (after_label l m.code) j.goes.view j.goes.leads j.goes.place
         (within_gone s laid v j.goes.view young held a c j.goes.differs within) passes
 
     -- an exit is a unit, and has an instruction
@@ -149,12 +157,5 @@ module _ (s : Fixed) (n : Named) (laid : Laid) (m : Lin) (live : List Line → T
     }))
     exit_line =
         let j = jumps in
-        leads_in 1 k s j.count j.some j.few v j.goes.view (IsAt s laid live c (record { rest = after_label l m.code; file = file; around = a })) j.goes.leads (
-          young,
-          held,
-          agrees_on before (live (after_label l m.code)) held file passes agrees,
-          record {
-            place = j.goes.place;
-            within = within_gone s laid v j.goes.view young held a c j.goes.differs within;
-          },
-        )
+        lands_in 1 j.count j.some j.few (after_label l m.code) j.goes.view j.goes.leads j.goes.place
+        (within_gone s laid v j.goes.view young held a c j.goes.differs within) passes

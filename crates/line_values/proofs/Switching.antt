@@ -341,6 +341,6 @@ module _ (s : Fixed) (n : Named) (laid : Laid) (m : Lin) (slots : m.slots ≡ la
       let r = cases_go s laid n m labels lie u comes.holds.0.own.are j l get comes.holds.1 g.others (nat_le (length labels) 4) there in
       let few = r.few in
       let sum = g.sum in
-      lands s n laid m live entry c place named next v young held file a within before agrees k (g.own + r.count) 0 (omega arith) (omega (arith, few, sum))
+      lands s n laid m live entry c place named next v young held file a within before agrees k (g.own + r.count) (omega (arith, few, sum))
       (after_label l m.code) r.goes.view (then_leads s g.own r.count v u r.goes.view comes.leads r.goes.leads) r.goes.place
       (within_gone s laid u r.goes.view young held a c r.goes.differs comes.holds.0) (passes j l get)))

@@ -44,7 +44,7 @@ use Rattle.rv_machine.specs.Hart.{Placed}
 use Rattle.rv_machine.specs.Sound.{AreRegisters}
 use Rattle.rv_pieces.specs.declared.piece.Piece.{Piece}
 use Rattle.rv_pieces.specs.declared.piece.Piece.TheVariants as piece
-use Rattle.linear_machine.specs.Follows.{Agrees, FollowsStep}
+use Rattle.linear_machine.specs.Follows.{Agrees}
 use Rattle.linear_machine.specs.Relation.{Below, Laid, StandsFor, Within, all_of}
 use Rattle.linear_machine.specs.Straight.{Changes, Comes}
 use Rattle.linear_machine.specs.View.{Fixed, View, HasCode}
@@ -56,12 +56,13 @@ use Rattle.linear_machine.proofs.Sequences.{no_change, widened}
 use Rattle.linear_machine.proofs.Standing.{within_past}
 use Rattle.linear_machine.proofs.Steps.{reg, then_leads}
 use Rattle.line_stands.specs.Parts.{PartStands}
+use Rattle.line_values.specs.Followed.{FollowsBranch}
 use Rattle.line_stands.proofs.Parts.{counts, none_left, starts}
 use Rattle.line_values.proofs.Agreeing.{compared_words, condition_word, signed_agrees, unsigned_agrees}
 use Rattle.line_values.proofs.Chains.{constant_comes}
 use Rattle.line_values.proofs.Compared.{int_le_is, le_is}
 use Rattle.line_values.proofs.Jumping.{Goes, branch_goes, code_near}
-use Rattle.line_values.proofs.Landing.{Lies, lands, lies_near, lies_place, within_gone}
+use Rattle.line_values.proofs.Landing.{Lies, lands_in, lies_near, lies_place, within_gone}
 use Rattle.line_values.proofs.Operands.{fetches}
 use Rattle.line_values.proofs.Operations.{no_second, sized}
 
@@ -78,6 +79,7 @@ pub record BranchLands (s : Fixed) (n : Named) (u : View) (k to : ℕ) (t : Bool
   pub others : ℕ
   pub sum : k ≡ words + others
   pub count : ℕ
+  pub some : 1 ≤ count
   pub few : count ≤ words
   pub goes : Goes s u count (cond t to (u.place + words))
   pub same : t ≡ false → goes.view.registers ≡ u.registers
@@ -100,6 +102,7 @@ branch_lands s laid n m u are l lies c a b t e k ys part =
       others = g.others;
       sum = g.sum;
       count = branched.count;
+      some = branched.some;
       few = branched.few;
       goes = branched.goes;
       same = branched.same;
@@ -325,7 +328,7 @@ module _ (s : Fixed) (n : Named) (laid : Laid) (m : Lin) (slots : m.slots ≡ la
   module _ (t : Test) (args : List Spot) (p : Piece) (k1 k2 : ℕ) (sum : k ≡ k1 + k2)
       (part : PartStands s n (v.place + k1) (v.place + k1 + k2) (p ∷ [])) where
     branched : (b : Bool) → Comes s v k1 (λ u. Within s laid u young 0 held a c × Tests p l u.registers b) →
-        FollowsStep k s laid live entry c v (on_act place m (record {
+        FollowsBranch k s laid live c v (on_act place m (record {
           op = lin.Flow (flow.Branch t l);
           args = args;
           results = [];
@@ -338,30 +341,31 @@ module _ (s : Fixed) (n : Named) (laid : Laid) (m : Lin) (slots : m.slots ≡ la
         subst (λ q. PartStands s n u.place (u.place + k2) (q ∷ [])) tests.is
         (subst (λ z. PartStands s n z (z + k2) (p ∷ [])) (sym at) part) in
         let g = branch_lands s laid n m u comes.holds.0.own.are l lies tests.condition tests.left tests.right b tests.taken k2 [] there in
+        let some = g.some in
         let few = g.few in
         let e = g.sum in
         let z = none_left s n (u.place + g.words) g.others g.rest in
         let on : u.place + g.words ≡ laid.part (length next) = omega (arith, behind, sum, at, e, z) in
-        by_truth b g.count g.words few (omega (arith, e, sum)) on g.goes
+        by_truth b g.count g.words some few (omega (arith, e, sum)) on g.goes
       where
-        by_truth : (b : Bool) (count words : ℕ) → count ≤ words → k1 + words ≤ k → comes.view.place + words ≡ laid.part (length next) →
+        by_truth : (b : Bool) (count words : ℕ) → 1 ≤ count → count ≤ words → k1 + words ≤ k → comes.view.place + words ≡ laid.part (length next) →
             Goes s comes.view count (cond b (laid.part (length (after_label l m.code))) (comes.view.place + words)) →
-            FollowsStep k s laid live entry c v (on_act place m (record {
+            FollowsBranch k s laid live c v (on_act place m (record {
               op = lin.Flow (flow.Branch t l);
               args = args;
               results = [];
             }) next file a (branches a (At l) On (Some b)))
-        by_truth true count words few all on goes =
-            lands s n laid m live entry c place named next v young held file a within before agrees k (k1 + count) 0 (omega arith) (omega (arith, few, all))
-            (after_label l m.code) goes.view (then_leads s k1 count v comes.view goes.view comes.leads goes.leads) goes.place
+        by_truth true count words some few all on goes =
+            lands_in s n laid m live entry c place named next v young held file a within before agrees k 1 (k1 + count)
+            (omega (arith, some)) (omega (arith, few, all)) (after_label l m.code) goes.view (then_leads s k1 count v comes.view goes.view comes.leads goes.leads) goes.place
             (within_gone s laid comes.view goes.view young held a c goes.differs comes.holds.0) passes.1
-        by_truth false count words few all on goes =
-            lands s n laid m live entry c place named next v young held file a within before agrees k (k1 + count) 0 (omega arith) (omega (arith, few, all))
-            next goes.view (then_leads s k1 count v comes.view goes.view comes.leads goes.leads) (goes.place ∙ on)
+        by_truth false count words some few all on goes =
+            lands_in s n laid m live entry c place named next v young held file a within before agrees k 1 (k1 + count)
+            (omega (arith, some)) (omega (arith, few, all)) next goes.view (then_leads s k1 count v comes.view goes.view comes.leads goes.leads) (goes.place ∙ on)
             (within_gone s laid comes.view goes.view young held a c goes.differs comes.holds.0) passes.0
 
     branched_by : (o : Option Bool) → ((b : Bool) → o ≡ Some b → Comes s v k1 (λ u. Within s laid u young 0 held a c × Tests p l u.registers b)) →
-        FollowsStep k s laid live entry c v (on_act place m (record {
+        FollowsBranch k s laid live c v (on_act place m (record {
           op = lin.Flow (flow.Branch t l);
           args = args;
           results = [];
@@ -374,7 +378,7 @@ module _ (s : Fixed) (n : Named) (laid : Laid) (m : Lin) (slots : m.slots ≡ la
       PartStands s n v.place (v.place + k) (fetched (length a.tries) T1 p.loc ++ branch ∷ []) →
       ((b : Bool) (u : View) (x : Value) → Within s laid u young 0 held a c → StandsFor s (all_of u young) (reg u.registers (number (register_of T1 p.loc))) x →
       truth_of (sizes a.memory) t (x ∷ []) ≡ Some b → Tests branch l u.registers b) →
-      FollowsStep k s laid live entry c v (step place named m (record {
+      FollowsBranch k s laid live c v (step place named m (record {
         rest = record { op = lin.Flow (flow.Branch t l); args = p ∷ []; results = [] } ∷ next;
         file = file;
         around = a;
@@ -382,7 +386,7 @@ module _ (s : Fixed) (n : Named) (laid : Laid) (m : Lin) (slots : m.slots ≡ la
   one_line t p at_p reads branch part says =
       let g = counts s n v.place k (fetched (length a.tries) T1 p.loc) (branch ∷ []) part in
       reads_one place.setting.end file
-      (λ vs. FollowsStep k s laid live entry c v (on_values place (named (length next)) m (record {
+      (λ vs. FollowsBranch k s laid live c v (on_values place (named (length next)) m (record {
         op = lin.Flow (flow.Branch t l);
         args = p ∷ [];
         results = [];
@@ -400,7 +404,7 @@ module _ (s : Fixed) (n : Named) (laid : Laid) (m : Lin) (slots : m.slots ≡ la
       (t : Test) (args : List Spot) (o : Option Bool) (x y : Value) → held p.loc ≡ Some x → holds y →
       ((b : Bool) (u : View) → Within s laid u young 0 held a c → StandsFor s (all_of u young) (reg u.registers (number (register_of T1 p.loc))) x →
       StandsFor s (all_of u young) (reg u.registers (number right)) y → o ≡ Some b → Tests branch l u.registers b) →
-      FollowsStep k s laid live entry c v (on_act place m (record {
+      FollowsBranch k s laid live c v (on_act place m (record {
         op = lin.Flow (flow.Branch t l);
         args = args;
         results = [];
@@ -435,14 +439,14 @@ module _ (s : Fixed) (n : Named) (laid : Laid) (m : Lin) (slots : m.slots ≡ la
       StandsFor s (all_of u young) (reg u.registers (number (register_of T1 p.loc))) x →
       StandsFor s (all_of u young) (reg u.registers (number (register_of T2 q.loc))) y →
       truth_of (sizes a.memory) t (x ∷ y ∷ []) ≡ Some b → Tests branch l u.registers b) →
-      FollowsStep k s laid live entry c v (step place named m (record {
+      FollowsBranch k s laid live c v (step place named m (record {
         rest = record { op = lin.Flow (flow.Branch t l); args = p ∷ q ∷ []; results = [] } ∷ next;
         file = file;
         around = a;
       }))
   register_line t p q at_p at_q reads_p reads_q branch part says =
       reads_two place.setting.end file
-      (λ vs. FollowsStep k s laid live entry c v (on_values place (named (length next)) m (record {
+      (λ vs. FollowsBranch k s laid live c v (on_values place (named (length next)) m (record {
         op = lin.Flow (flow.Branch t l);
         args = p ∷ q ∷ [];
         results = [];
@@ -460,14 +464,14 @@ module _ (s : Fixed) (n : Named) (laid : Laid) (m : Lin) (slots : m.slots ≡ la
       StandsFor s (all_of u young) (reg u.registers (number (register_of T1 p.loc))) x →
       StandsFor s (all_of u young) (reg u.registers (number (constant_register w))) (Word w) →
       truth_of (sizes a.memory) t (x ∷ []) ≡ Some b → Tests branch l u.registers b) →
-      FollowsStep k s laid live entry c v (step place named m (record {
+      FollowsBranch k s laid live c v (step place named m (record {
         rest = record { op = lin.Flow (flow.Branch t l); args = p ∷ []; results = [] } ∷ next;
         file = file;
         around = a;
       }))
   constant_line t w small p at_p reads_p branch part says =
       reads_one place.setting.end file
-      (λ vs. FollowsStep k s laid live entry c v (on_values place (named (length next)) m (record {
+      (λ vs. FollowsBranch k s laid live c v (on_values place (named (length next)) m (record {
         op = lin.Flow (flow.Branch t l);
         args = p ∷ [];
         results = [];
@@ -481,7 +485,7 @@ module _ (s : Fixed) (n : Named) (laid : Laid) (m : Lin) (slots : m.slots ≡ la
   -- Each test of locations and constants.
   pub branch_line : (t : Test) (args : List Spot) → IsTested t (comps args) → AllByRecursion (λ (p : Spot). IsLocation m p.loc × Reads before p.loc) args →
       PartStands s n v.place (v.place + k) (branch_part (length a.tries) t l args) →
-      FollowsStep k s laid live entry c v (step place named m (record {
+      FollowsBranch k s laid live c v (step place named m (record {
         rest = record { op = lin.Flow (flow.Branch t l); args = args; results = [] } ∷ next;
         file = file;
         around = a;

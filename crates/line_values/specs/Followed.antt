@@ -1,10 +1,11 @@
 -- The lines that compute, load, store, test and jump, and that the machine follows them.
-use Rattle.std.specs.Prelude.{◌≡◌, ℕ, List, ◌∷◌, length, Option, None}
+use Rattle.std.specs.Prelude.{◌≡◌, ℕ, true, List, ◌∷◌, length, Option, None}
 use Rattle.emit_rules.specs.Emitted.{part_of}
 use Rattle.emit_rules.specs.Entry.{Frame}
+use Rattle.emit_rules.specs.Units.{is_branch}
 use Rattle.layout_rules.specs.Forms.{total_words}
 use Rattle.layout_rules.specs.Words.{Named}
-use Rattle.lin_ir.specs.Meaning.{Locations, NamedAt, step}
+use Rattle.lin_ir.specs.Meaning.{Locations, NamedAt, State, step}
 use Rattle.lin_ir.specs.declared.descr.Descr.{Descr}
 use Rattle.lin_ir.specs.declared.lin.Flow.TheVariants as flow
 use Rattle.lin_ir.specs.declared.lin.Lin.{Lin}
@@ -12,14 +13,15 @@ use Rattle.lin_ir.specs.declared.lin.Line.{Line}
 use Rattle.lin_ir.specs.declared.lin.LinOp.{LinOp}
 use Rattle.lin_ir.specs.declared.lin.LinOp.TheVariants as lin
 use Rattle.mach_ir.specs.Acts.{Around}
-use Rattle.mach_ir.specs.Runs.{Place}
+use Rattle.mach_ir.specs.Runs.{Place, Step, Continues, IsStuck}
 use Rattle.mach_ir.specs.declared.mach.Test.{Test}
 use Rattle.mach_ir.specs.declared.op.Access.TheVariants as access
 use Rattle.mach_ir.specs.declared.op.Leaving.TheVariants as leaving
 use Rattle.mach_ir.specs.declared.op.Op.TheVariants as op
 use Rattle.mach_ir.specs.declared.op.Pure.{Pure}
 use Rattle.mach_ir.specs.declared.op.Right.{Right}
-use Rattle.linear_machine.specs.Follows.{FollowsStep, IsAt}
+use Rattle.linear_machine.specs.Arrival.{ArrivesIn}
+use Rattle.linear_machine.specs.Follows.{FollowsStep, IsAt, needs_of}
 use Rattle.linear_machine.specs.Relation.{Below, Laid}
 use Rattle.linear_machine.specs.View.{Fixed, View}
 use Rattle.line_stands.specs.Lines.{LineStands}
@@ -54,3 +56,24 @@ PlainLinesAreFollowed live =
     (s : Fixed) (laid : Laid) (n : Named) (m : Lin) (place : Place) (named : NamedAt)
     (entry : ℕ → ℕ) (c : Below) (f : Frame) (d : Option Descr) (i : Line) (next : List Line) →
     IsPlain i.op → Followed s laid n m place named live entry c f d i next
+
+-- ---- branches
+
+-- The step of a branch: whichever way it goes on, that takes at least one instruction.
+abbrev pub FollowsBranch : ℕ → Fixed → Laid → (List Line → Type 0) → Below → View → Step State →
+    Type 0
+FollowsBranch n s laid live c v (Continues u) =
+    ArrivesIn 1 n s (needs_of laid c u) v (IsAt s laid live c u)
+FollowsBranch n s laid live c v IsStuck = Unit {0}
+FollowsBranch n s laid live c v _ = ⊥
+
+-- So the machine follows every branch.
+abbrev pub BranchesAreFollowed : (List Line → Type 0) → Type 0
+BranchesAreFollowed live =
+    (s : Fixed) (laid : Laid) (n : Named) (m : Lin) (place : Place) (named : NamedAt) (c : Below)
+    (f : Frame) (d : Option Descr) (i : Line) (next : List Line) → is_branch i.op ≡ true →
+    (file : Locations) (a : Around) (v : View)
+    (stands : LineStands s laid n m place.setting live a.tries f d i next) → a.raised ≡ None →
+    IsAt s laid live c (record { rest = i ∷ next; file = file; around = a }) v →
+    FollowsBranch (total_words (part_of (length a.tries) f d i) stands.part.forms) s laid live c v
+    (step place named m (record { rest = i ∷ next; file = file; around = a }))

@@ -4,11 +4,16 @@
 //! The crate holds laws alone.
 #![tactic(auto)]
 
-ghost use Rattle.line_values.specs.Followed.{PlainLinesAreFollowed};
+ghost use Rattle.line_values.specs.Followed.{BranchesAreFollowed, PlainLinesAreFollowed};
 ghost use Rattle.line_stands.specs.Lines.{Nowhere};
 
 /// The machine follows each plain line, wherever its operands and its result are, whatever its numbers
 /// are and in whatever form its branches and jumps stand.
 pub fn plain_lines_are_followed()
     ensures { PlainLinesAreFollowed Nowhere }
+{}
+
+/// A branch takes at least one instruction, whichever way it goes.
+pub fn branches_are_followed()
+    ensures { BranchesAreFollowed Nowhere }
 {}

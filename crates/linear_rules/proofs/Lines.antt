@@ -5,22 +5,17 @@ use Rattle.std.proofs.lemmas.Bool.{true≢false}
 use Rattle.bs_words.specs.declared.types.Comp.{Comp}
 use Rattle.bs_words.specs.declared.types.Loc.{Loc}
 use Rattle.bs_words.specs.declared.types.Loc.TheVariants as loc
-use Rattle.bs_words.specs.declared.operators.CmpOp.{CmpOp}
-use Rattle.bs_words.specs.declared.operators.IntOp.TheVariants as operator
 use Rattle.mach_ir.specs.Formed as mach_formed
-use Rattle.mach_ir.specs.Formed.{MarkHasForm, if_form, switch_form, try_form, handler_form, formed_op, formed_mark, HasPlace, HasHandler, handler_here, handler_below, WellFormed}
-use Rattle.mach_ir.specs.Forms.{HasForm, IsRight, a_register, a_constant, IsTested, holds, fails, signed, unsigned}
-use Rattle.mach_ir.specs.Keeps.{NamesSymbol, NamesExternal}
+use Rattle.mach_ir.specs.Formed.{MarkHasForm, if_form, switch_form, try_form, handler_form, formed_op, formed_mark}
+use Rattle.mach_ir.specs.Forms.{HasForm}
 use Rattle.mach_ir.specs.Keeps as kept
 use Rattle.mach_ir.specs.Seats as seats
-use Rattle.mach_ir.specs.Seats.{Seats, Anywhere, InOrder, AfterFirst, AreSeated, in_order, after_first, argument_places, result_places, operand_seats, result_seats}
-use Rattle.mach_ir.specs.declared.mach.Test.{Test}
+use Rattle.mach_ir.specs.Seats.{Seats, Anywhere, InOrder, AfterFirst, AreSeated, in_order, after_first, argument_places, operand_seats, result_seats}
 use Rattle.mach_ir.specs.declared.op.Callee.TheVariants as callee
 use Rattle.mach_ir.specs.declared.op.Calling.TheVariants as calling
 use Rattle.mach_ir.specs.declared.op.Leaving.TheVariants as leaving
 use Rattle.mach_ir.specs.declared.op.Op.{Op}
 use Rattle.mach_ir.specs.declared.op.Op.TheVariants as op
-use Rattle.mach_ir.specs.declared.op.Right.{Right}
 use Rattle.mach_ir.specs.declared.reg.Reg.{Reg}
 use Rattle.mach_ir.specs.declared.mach.Mark.TheVariants as mark
 use Rattle.mach_ir.specs.declared.mach.MachOp.{MachOp}
@@ -28,7 +23,7 @@ use Rattle.mach_ir.specs.declared.mach.MachOp.TheVariants as mach
 use Rattle.mach_ir.specs.declared.mach.Instr.{Instr}
 use Rattle.mach_ir.specs.declared.mach.Mach.{Mach}
 use Rattle.lin_ir.specs.Formed as formed
-use Rattle.lin_ir.specs.Formed.{FlowHasForm, IsHome, IsLocation, is_home, Locates, NamesLabel, goes_to, pushes, EntersAt, enters_here, enters_below, labels_in, is_exit, lin_operand_seats, lin_result_seats}
+use Rattle.lin_ir.specs.Formed.{FlowHasForm, labels_in, lin_operand_seats, lin_result_seats}
 use Rattle.lin_ir.specs.Keeps.{IsNamedIn}
 use Rattle.lin_ir.specs.declared.lin.Flow.{Flow}
 use Rattle.lin_ir.specs.declared.lin.Flow.TheVariants as flow
@@ -37,11 +32,12 @@ use Rattle.lin_ir.specs.declared.lin.LinOp.TheVariants as lin
 use Rattle.lin_ir.specs.declared.lin.Line.{Line}
 use Rattle.lin_ir.specs.declared.lin.Lin.{Lin}
 use Rattle.lin_ir.specs.declared.lin.Spot.{Spot}
-use Rattle.linear_rules.specs.Lowered.{opposite_test, home, spots, is_idle, line_of, bare, pops, lines_of, lowered_code}
+use Rattle.linear_rules.specs.Lowered.{home, spots, is_idle, line_of, bare, pops, lines_of, lowered_code}
 use Rattle.linear_rules.specs.Sizes.{tries_ended_by, tries_ended}
 use Rattle.linear_rules.proofs.Homes.{IsIn, is_first, is_later, in_of, contains_of}
 use Rattle.linear_rules.proofs.Marks.{all_in, instr, AsLine, op_line, if_line, switch_line, try_line, handler_line, idle_of, idle_labels}
 use Rattle.linear_rules.proofs.Places.{pops_length}
+use Rattle.linear_rules.proofs.Opposite.{tested_opposite}
 
 -- ---- lists
 
@@ -114,20 +110,6 @@ module _ (number : ℕ → ℕ) where
   pub comps_same : (rs : List Reg) → formed.comps (spots number rs) ≡ mach_formed.comps rs
   comps_same [] = refl
   comps_same (r ∷ rs) = ap (λ ts. r.comp ∷ ts) (comps_same rs)
-
-  signed_right : {f g : CmpOp} {r : Right} {rest : List Comp} → IsRight (operator.Cmp f) r rest → IsRight (operator.Cmp g) r rest
-  signed_right a_register = a_register
-  signed_right (a_constant e) = a_constant e
-
-  unsigned_right : {f g : CmpOp} {r : Right} {rest : List Comp} → IsRight (operator.CmpU f) r rest → IsRight (operator.CmpU g) r rest
-  unsigned_right a_register = a_register
-  unsigned_right (a_constant e) = a_constant e
-
-  tested_opposite : {t : Test} {args : List Comp} → IsTested t args → IsTested (opposite_test t) args
-  tested_opposite holds = fails
-  tested_opposite fails = holds
-  tested_opposite (signed r) = signed (signed_right r)
-  tested_opposite (unsigned r) = unsigned (unsigned_right r)
 
   data FormsLine : LinOp → List Comp → List Comp → Type 0 where
     forms_op : {f : Op} {args results : List Comp} → HasForm f args results → FormsLine (lin.Op f) args results

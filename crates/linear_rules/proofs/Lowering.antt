@@ -16,12 +16,13 @@ use Rattle.mach_ir.specs.declared.reg.Reg.{Reg}
 use Rattle.mach_ir.specs.declared.mach.Mach.{Mach}
 use Rattle.lin_ir.specs.Descriptors.{NoAddrLive}
 use Rattle.lin_ir.specs.Formed as formed
-use Rattle.lin_ir.specs.Formed.{IsHome, IsSelfMove, GoesForward, labels_in}
+use Rattle.lin_ir.specs.Formed.{IsHome, IsSelfMove, labels_in}
 use Rattle.lin_ir.specs.Meaning.{passes_frame}
 use Rattle.lin_ir.specs.Walks.{Stands, Traps, by_walk, unreached, Reached, LiveAcross, TrapsBalance}
 use Rattle.lin_ir.specs.declared.lin.Line.{Line}
 use Rattle.lin_ir.specs.declared.lin.Lin.{Lin}
 use Rattle.lin_ir.specs.declared.lin.Spot.{Spot}
+use Rattle.linear_rules.specs.Forward.{GoesForward}
 use Rattle.linear_rules.specs.Keeps.{NoAddrReached, OneTraps, KeepsReached}
 use Rattle.linear_rules.specs.Kept.{Does}
 use Rattle.linear_rules.specs.Lowered.{home, is_among, slots_of, slot_number, slot_count, lowered}

@@ -1,4 +1,4 @@
--- The opposite of a test holds where the test fails, and fails where it holds.
+-- The opposite of a test holds where the test fails, and fails where it holds; it has the same operands.
 use Rattle.std.proofs.Common.{◌≡◌, ℕ, suc, ◌≤◌, ◌<◌, Bool, true, false, not, ⊎_elim, List, [], ◌∷◌, Option, Some, None, Result, Ok, Err, ℤ, pos, negsuc, int_lt, int_le, nat_lt, nat_le, leb, refl, sym, ap, ◌∙◌, arith}
 use Rattle.std.proofs.lemmas.Bool.Decides.{leb_tells}
 use Rattle.bs_words.specs.Memory.{sizes}
@@ -7,11 +7,16 @@ use Rattle.bs_words.specs.Operators as operators
 use Rattle.bs_words.specs.Word.{signed_of}
 use Rattle.bs_words.specs.declared.operators.CmpOp.{CmpOp}
 use Rattle.bs_words.specs.declared.operators.CmpOp.TheVariants as compare
+use Rattle.bs_words.specs.declared.operators.IntOp.TheVariants as operator
+use Rattle.bs_words.specs.declared.types.Comp.{Comp}
 use Rattle.bs_words.specs.declared.values.Kind.{Kind}
 use Rattle.bs_words.specs.declared.values.Kind.TheVariants as kind
 use Rattle.bs_words.specs.declared.values.Value.{Value}
 use Rattle.bs_words.specs.declared.values.Value.TheVariants as value
 use Rattle.mach_ir.specs.Acts.{Around, Target, opposite, as_condition, truth_of, branches}
+use Rattle.mach_ir.specs.Forms as forms
+use Rattle.mach_ir.specs.Forms.{IsRight, IsTested}
+use Rattle.mach_ir.specs.declared.op.Right.{Right}
 use Rattle.mach_ir.specs.declared.op.Right.TheVariants as right
 use Rattle.mach_ir.specs.declared.mach.Test.{Test}
 use Rattle.mach_ir.specs.declared.mach.Test.TheVariants as test
@@ -132,3 +137,19 @@ pub branch_opposite : (a : Around) (holds fails : Target) (o : Option Bool) → 
 branch_opposite a holds fails (Some true) = refl
 branch_opposite a holds fails (Some false) = refl
 branch_opposite a holds fails None = refl
+
+-- ---- its form
+
+signed_right : {f g : CmpOp} {r : Right} {rest : List Comp} → IsRight (operator.Cmp f) r rest → IsRight (operator.Cmp g) r rest
+signed_right forms.a_register = forms.a_register
+signed_right (forms.a_constant e) = forms.a_constant e
+
+unsigned_right : {f g : CmpOp} {r : Right} {rest : List Comp} → IsRight (operator.CmpU f) r rest → IsRight (operator.CmpU g) r rest
+unsigned_right forms.a_register = forms.a_register
+unsigned_right (forms.a_constant e) = forms.a_constant e
+
+pub tested_opposite : {t : Test} {args : List Comp} → IsTested t args → IsTested (opposite_test t) args
+tested_opposite forms.holds = forms.fails
+tested_opposite forms.fails = forms.holds
+tested_opposite (forms.signed r) = forms.signed (signed_right r)
+tested_opposite (forms.unsigned r) = forms.unsigned (unsigned_right r)

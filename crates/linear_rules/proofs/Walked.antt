@@ -26,7 +26,7 @@ use Rattle.mach_ir.specs.declared.mach.Mach.{Mach}
 use Rattle.mach_laws.specs.Expand.{Ending, all, more}
 use Rattle.mach_laws.proofs.Places.{ending_next}
 use Rattle.lin_ir.specs.Formed as formed
-use Rattle.lin_ir.specs.Formed.{IsHome, IsLocation, is_home, Locates, SpareIsPassing, NamesLabel, goes_to, pushes, EntersAt, enters_here, enters_below, labels_in, is_exit, GoesForward}
+use Rattle.lin_ir.specs.Formed.{IsHome, IsLocation, is_home, Locates, SpareIsPassing, NamesLabel, goes_to, pushes, EntersAt, enters_here, enters_below, labels_in, is_exit}
 use Rattle.lin_ir.specs.Meaning as lines
 use Rattle.lin_ir.specs.Meaning.{NamedAt, is_named}
 use Rattle.lin_ir.specs.Walks as walks
@@ -38,6 +38,7 @@ use Rattle.lin_ir.specs.declared.lin.LinOp.TheVariants as lin
 use Rattle.lin_ir.specs.declared.lin.Line.{Line}
 use Rattle.lin_ir.specs.declared.lin.Lin.{Lin}
 use Rattle.lin_ir.specs.declared.lin.Spot.{Spot}
+use Rattle.linear_rules.specs.Forward.{GoesForward}
 use Rattle.linear_rules.specs.Keeps.{NoAddrReached, OneTraps}
 use Rattle.linear_rules.specs.Lowered.{is_among, home, spots, is_idle, line_of, bare, pops, lines_of, lowered_code}
 use Rattle.linear_rules.proofs.Homes.{IsIn, is_first, is_later, in_of, contains_of, spot_of}

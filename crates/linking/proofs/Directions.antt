@@ -91,7 +91,7 @@ pub record Over (X : Type 0) (see : X → Seen) (most words n : ℕ) (e : Seen) 
   pub units : ℕ
   pub no_more : units + left ≤ n
   pub enough : n ≤ left + most * (2 * units + 1)
-  pub lower : units ≤ count
+  pub lower : units ≤ count + 1
   pub c : ℕ
   pub d : ℕ
   pub is : count ≡ c + d
@@ -205,9 +205,9 @@ module _ (X : Type 0) (turn : X → X) (see : X → Seen) (stack heap most words
   abbrev pub IsOver : ℕ → Run → ℕ → X → Type 0
   IsOver n r = Over X see most words n (seen_of r) r.left
 
-  just : {n : ℕ} (r : Run) {left count : ℕ} {y : X} (P : X → Type 0) → r.left ≡ left → (P y → see y ≡ seen_of r) → Spends most words n left P count y →
-      IsOver n r count y
-  just r {count = count} P is to s =
+  just : {n : ℕ} (r : Run) {left count : ℕ} {y : X} (P : X → Type 0) → r.left ≡ left → (P y → see y ≡ seen_of r) → {owed : ℕ} → owed ≤ 1 →
+      Spends owed most words n left P count y → IsOver n r count y
+  just r {count = count} P is to few s =
       let no = s.no_more in
       let en = s.enough in
       let up = s.upper in
@@ -215,7 +215,7 @@ module _ (X : Type 0) (turn : X → X) (see : X → Seen) (stack heap most words
         units = s.units;
         no_more = omega (arith, no, is);
         enough = omega (arith, en, is);
-        lower = s.lower;
+        lower = let low = s.lower in omega (arith, low, few);
         c = count;
         d = 0;
         is = omega arith;
@@ -272,10 +272,10 @@ module _ (X : Type 0) (turn : X → X) (see : X → Seen) (stack heap most words
       }))
   told_of w x (Stops OutOfFuel u) fit raised c proper =
       comes_map X turn see stack heap x (omega arith) (omega arith) (Begins-same u.made) c
-      (λ d y s. just (finished layout (Stops OutOfFuel u)) _ refl (λ at. at) s)
+      (λ d y s. just (finished layout (Stops OutOfFuel u)) _ refl (λ at. at) (omega arith) s)
   told_of w x (Stops (NoAnswer call) u) fit raised c proper =
       comes_map X turn see stack heap x (omega arith) (omega arith) (Begins-same u.made) c
-      (λ d y s. just (finished layout (Stops (NoAnswer call) u)) _ refl (λ at. at) s)
+      (λ d y s. just (finished layout (Stops (NoAnswer call) u)) _ refl (λ at. at) (omega arith) s)
   told_of w x (Stops (NotProper kind) u) fit raised c proper = absurd proper
   told_of w x (Stops (Asking call) u) fit raised c proper = absurd proper
   told_of w x (Exits label values h u) fit raised c proper = absurd proper

@@ -103,22 +103,30 @@ module _ (S : Type 0) (p : Program S) (pace : Words S) (file : FileTree) (layout
   EndAt spare a f below o x (Ended d t) = Back a d o x
   EndAt spare a f below o x Wrong = Unit {0}
 
-  -- What a function and its callees took, where it had so many units behind it and so many instructions before the next one.
-  pub record Took (units owed ahead : ℕ) (r : Run S) (calls : List Came) (P : ℕ → X → Type 0) (count : ℕ) (x : X) : Type 0 where
+  -- the units that may be owed where a run of the function stands
+  abbrev pub due : (f : ℕ) → Run S → ℕ
+  due f (Running s t) = pace.owed f s
+  due f (Asking call t) = 0
+  due f (Ended d t) = 0
+  due f Wrong = 0
+
+  -- What a function and its callees took, where it had paid so many units, of which so many were owed, and then paid so many without an
+  -- instruction yet, and had so many instructions before the next one.
+  pub record Took (f units owed paid ahead : ℕ) (r : Run S) (calls : List Came) (P : ℕ → X → Type 0) (count : ℕ) (x : X) : Type 0 where
     -- the units of the callees
     pub theirs : ℕ
     pub no_more : theirs ≤ spent_by calls
     pub enough : spent_by calls ≤ most * (2 * theirs + units_called calls)
-    pub lower : ((tally_of r).units + extra r) + theirs ≤ (units + owed) + count
+    pub lower : (((tally_of r).units + extra r) + theirs) + owed ≤ ((units + paid) + count) + due f r
     -- so many more would do
     pub spare : ℕ
     pub upper : (count + spare) + words * units ≤ ahead + words * ((tally_of r).units + (2 * theirs + units_called calls))
     pub at : P spare x
 
-  abbrev pub Reaches : Below → (f below : ℕ) → World → List Came → (units owed ahead : ℕ) → Run S → X → Type 0
-  Reaches a f below last calls units owed ahead r x =
+  abbrev pub Reaches : Below → (f below : ℕ) → World → List Came → (units owed paid ahead : ℕ) → Run S → X → Type 0
+  Reaches a f below last calls units owed paid ahead r x =
       Comes X turn see stack heap (max (tally_of r).need last.stack_need) (max (top_heap p r) (heap_need last.memory)) last.made
-      (Took units owed ahead r calls (λ k y. EndAt k a f below (outer_of last) y r)) x
+      (Took f units owed paid ahead r calls (λ k y. EndAt k a f below (outer_of last) y r)) x
 
   abbrev pub Serves : ℕ → Type 0
   Serves bound =
@@ -129,7 +137,7 @@ module _ (S : Type 0) (p : Program S) (pace : Words S) (file : FileTree) (layout
   -- what the machine does for a call of a function that came back
   pub came_so : (a : Below) (w : World) (x : X) {u : World} {e : Evaluation} {d : Doing} → CameBack e d u →
       Does X turn see stack heap most words (Back a) w x e →
-      Comes X turn see stack heap u.stack_need (heap_need u.memory) u.made (Spends most words w.left u.left (Back a d (outer_of u))) x
+      Comes X turn see stack heap u.stack_need (heap_need u.memory) u.made (Spends 0 most words w.left u.left (Back a d (outer_of u))) x
   came_so a w x gave does = does
   came_so a w x threw does = does
 
@@ -149,8 +157,14 @@ module _ (S : Type 0) (p : Program S) (pace : Words S) (file : FileTree) (layout
     abbrev After : Step S → Outer → X → Type 0
     After x o y = IsAfter S p pace file layout X turn see stack heap Below At Entry Back a f below x o y
 
-    abbrev CarriesThis : ℕ → Step S → Outer → X → Type 0
-    CarriesThis cost x o y = CarriesStep S p pace file layout X turn see stack heap Below At Entry Back cost f below a x o y
+    abbrev CarriesThis : (owed cost : ℕ) → Step S → Outer → X → Type 0
+    CarriesThis owed cost x o y = CarriesStep S p pace file layout X turn see stack heap Below At Entry Back owed cost f below a x o y
+
+    abbrev AsksThis : ℕ → Asked → (Doing → Step S) → Outer → X → Type 0
+    AsksThis cost call go o y = CarriesAsked S p pace file layout X turn see stack heap Below At Entry Back cost f below a call go call.callee o y
+
+    abbrev TailsThis : ℕ → Asked → Outer → X → Type 0
+    TailsThis cost call o y = CarriesTail S p pace file layout X turn see stack heap Below At Entry Back cost a call call.callee o y
 
     abbrev LinkOf : ℕ → Type 0
     LinkOf k =
@@ -158,7 +172,7 @@ module _ (S : Type 0) (p : Program S) (pace : Words S) (file : FileTree) (layout
         AllGiven IsGiven calls →
         (tally_of (runs (p.step f c) k s (tally asked calls units need))).asked ≡ asked ++ map asked_by calls →
         IsMoving (runs (p.step f c) k s (tally asked calls units need)) → IsReached S p f c s → p.stack c s ≤ need → At a f below s (outer_of w) x →
-        Reaches a f below last calls units 0 (pace.ahead f s) (runs (p.step f c) k s (tally asked calls units need)) x
+        Reaches a f below last calls units (pace.owed f s) 0 (pace.ahead f s) (runs (p.step f c) k s (tally asked calls units need)) x
 
     facts_of : (k : ℕ) (s : S) (w last : World) (calls : List Came) (asked : List Asked) (units need : ℕ) →
         CallsBetween (whole file layout) bound w calls last →
@@ -170,9 +184,9 @@ module _ (S : Type 0) (p : Program S) (pace : Words S) (file : FileTree) (layout
 
     -- ---- what has been done, and makes no call, goes on
 
-    at_end : (d : Doing) {w last : World} (units owed left : ℕ) (t : Tally) (y : X) → OnItsOwn w last → t.units ≡ units + owed → Back a d (outer_of w) y →
-        Reaches a f below last [] units owed left (Ended d t) y
-    at_end d {w} {last} units owed left t y o e at =
+    at_end : (d : Doing) {w last : World} (units paid left : ℕ) (t : Tally) (y : X) → OnItsOwn w last → t.units ≡ units + paid → Back a d (outer_of w) y →
+        Reaches a f below last [] units 0 paid left (Ended d t) y
+    at_end d {w} {last} units paid left t y o e at =
         let more : words * units ≤ words * t.units = mul-le-mul_left words (omega (arith, e)) in
         comes_now X turn see stack heap y
         (record {
@@ -185,12 +199,23 @@ module _ (S : Type 0) (p : Program S) (pace : Words S) (file : FileTree) (layout
           at = subst (λ z. Back a d z y) (same_outer o) at;
         })
 
+    -- the units that are owed where a step leads
+    abbrev owed_after : Step S → ℕ
+    owed_after (Continues u) = pace.owed f u
+    owed_after (Pays u) = pace.owed f u
+    owed_after (Deepens bytes u) = pace.owed f u
+    owed_after (Waits call go) = 0
+    owed_after (FinishesBy call kept) = 0
+    owed_after (Finishes d) = 0
+    owed_after (FinishesRaising d) = 0
+    owed_after IsStuck = 0
+
     after_step : (k : ℕ) → LinkOf k → (x : Step S) (stack' heap' left : ℕ) → IsRegularStep S p c stack' heap' x → StepForward S words (pace.ahead f) left x →
         ((u : S) → LeadsTo S u x → IsReached S p f c u) → {w last : World} {calls : List Came} (asked : List Asked) (units need : ℕ) (y : X) → stack' ≤ need →
         CallsBetween (whole file layout) bound w calls last → AllGiven IsGiven calls →
         (tally_of (onward (runs (p.step f c) k) x (tally asked calls units need))).asked ≡ asked ++ map asked_by calls →
         IsMoving (onward (runs (p.step f c) k) x (tally asked calls units need)) → After x (outer_of w) y →
-        Reaches a f below last calls units (paid_by x) left (onward (runs (p.step f c) k) x (tally asked calls units need)) y
+        Reaches a f below last calls units (owed_after x) (paid_by x) left (onward (runs (p.step f c) k) x (tally asked calls units need)) y
     after_step k ih (Continues u) stack' heap' left g forth reached {w} {last} {calls} asked units need y fits between given same m at =
         let fit = g.0 in
         comes_map X turn see stack heap y (omega arith) (omega arith) (Begins-same last.made)
@@ -256,7 +281,8 @@ module _ (S : Type 0) (p : Program S) (pace : Words S) (file : FileTree) (layout
 
     -- ---- a step that makes no call
 
-    made_step : (k : ℕ) → LinkOf k → (x : Step S) (stack' heap' cost left ahead : ℕ) → cost + left ≤ ahead → IsRegularStep S p c stack' heap' x →
+    made_step : (k : ℕ) → LinkOf k → (x : Step S) (owed least : ℕ) → owed + paid_by x ≤ least + owed_after x →
+        (stack' heap' cost left ahead : ℕ) → cost + left ≤ ahead → IsRegularStep S p c stack' heap' x →
         StepForward S words (pace.ahead f) left x → ((u : S) → LeadsTo S u x → IsReached S p f c u) →
         (w last : World) (calls : List Came) (asked : List Asked) (units need : ℕ)
         (y : X) → stack' ≤ need → CallsBetween (whole file layout) bound w calls last → AllGiven IsGiven calls →
@@ -264,9 +290,10 @@ module _ (S : Type 0) (p : Program S) (pace : Words S) (file : FileTree) (layout
         IsMoving (onward (runs (p.step f c) k) x (tally asked calls units need)) → (s h : ℕ) →
         s ≤ (tally_of (onward (runs (p.step f c) k) x (tally asked calls units need))).need →
         h ≤ top_heap p (onward (runs (p.step f c) k) x (tally asked calls units need)) →
-        Comes X turn see stack heap s h w.made (Near (paid_by x) cost (After x (outer_of w))) y →
-        Reaches a f below last calls units 0 ahead (onward (runs (p.step f c) k) x (tally asked calls units need)) y
-    made_step k ih x stack' heap' cost left ahead room g forth reached w last calls asked units need y fits between given same m s h st hp comes =
+        Comes X turn see stack heap s h w.made (Near least cost (After x (outer_of w))) y →
+        Reaches a f below last calls units owed 0 ahead (onward (runs (p.step f c) k) x (tally asked calls units need)) y
+    made_step k ih x owed least covers stack' heap' cost left ahead room g forth reached w last calls asked units need y fits between given same m s h st hp
+        comes =
         let onto = called_later between in
         comes_on X turn see stack heap y (omega (arith, st)) (omega (arith, hp)) onto.onward.calls comes
         (λ n z near.
@@ -281,7 +308,7 @@ module _ (S : Type 0) (p : Program S) (pace : Words S) (file : FileTree) (layout
           theirs = took.theirs;
           no_more = took.no_more;
           enough = took.enough;
-          lower = omega (arith, lower, less);
+          lower = omega (arith, lower, less, covers);
           spare = took.spare;
           upper = omega (arith, upper, few, room);
           at = took.at;
@@ -351,7 +378,7 @@ module _ (S : Type 0) (p : Program S) (pace : Words S) (file : FileTree) (layout
     asks_last : (cost ahead : ℕ) → cost ≤ ahead → {w last : World} (asked : List Asked) (units need : ℕ) (y : X) → OnItsOwn w last →
         (call : Asked) (go : Doing → Step S) (callee : Callee) →
         call.callee ≡ callee → CarriesAsked S p pace file layout X turn see stack heap Below At Entry Back cost f below a call go callee (outer_of w) y →
-        Reaches a f below last [] units 0 ahead (Asking call (tally asked [] units need)) y
+        Reaches a f below last [] units 0 0 ahead (Asking call (tally asked [] units need)) y
     asks_last cost ahead room {w} {last} asked units need y o call go (Inside callee) e carries =
         let same = same_outer o in
         let one : unit_of call.callee ≡ 1 = ap unit_of e in
@@ -401,7 +428,7 @@ module _ (S : Type 0) (p : Program S) (pace : Words S) (file : FileTree) (layout
         IsMoving (onward (runs (p.step f c) k) (go came.doing) (tally (asked ++ call ∷ []) calls (units_of call.callee units) need)) →
         Comes X turn see stack heap came.after.stack_need (heap_need came.after.memory) came.after.made
         (Served (unit_of call.callee) cost came.before.left came.after.left (After (go came.doing) (outer_of came.after))) y →
-        Reaches a f below last (came ∷ calls) units 0 ahead (onward (runs (p.step f c) k) (go came.doing)
+        Reaches a f below last (came ∷ calls) units 0 0 ahead (onward (runs (p.step f c) k) (go came.doing)
         (tally (asked ++ call ∷ []) calls (units_of call.callee units) need)) y
     goes_on k ih call go stack' heap' cost left ahead room g forth reached last came calls asked units need y fits rest given grown head same m comes =
         let onto = called_later rest in
@@ -444,8 +471,8 @@ module _ (S : Type 0) (p : Program S) (pace : Words S) (file : FileTree) (layout
         stack' ≤ need → CallsBetween (whole file layout) bound w calls last → AllGiven IsGiven calls →
         (tally_of (onward (runs (p.step f c) k) (Waits call go) (tally asked calls units need))).asked ≡ asked ++ map asked_by calls →
         IsMoving (onward (runs (p.step f c) k) (Waits call go) (tally asked calls units need)) →
-        CarriesThis cost (Waits call go) (outer_of w) y →
-        Reaches a f below last calls units 0 ahead (onward (runs (p.step f c) k) (Waits call go) (tally asked calls units need)) y
+        AsksThis cost call go (outer_of w) y →
+        Reaches a f below last calls units 0 0 ahead (onward (runs (p.step f c) k) (Waits call go) (tally asked calls units need)) y
     asks k ih call go stack' heap' cost left ahead room g forth reached asked units need y fits (no_more o) given same m carries =
         asks_last cost ahead (omega (arith, room)) asked units need y o call go call.callee refl carries
     asks k ih call go stack' heap' cost left ahead room g forth reached {w} {last} asked units need y fits
@@ -459,12 +486,12 @@ module _ (S : Type 0) (p : Program S) (pace : Words S) (file : FileTree) (layout
         let later_heap = extends_need onto.onward.memory in
         goes_on k ih call go stack' heap' cost left ahead room g forth reached last came calls asked units need y fits rest given.1
         (omega (arith, heap_is, after_is, later_heap)) at.head at.tail m
-        (by came.call refl fit did given.0 (subst (λ q. CarriesThis cost (Waits q go) (outer_of w) y) at.head carries)
+        (by came.call refl fit did given.0 (subst (λ q. AsksThis cost q go (outer_of w) y) at.head carries)
         (ap (λ (q : Asked). unit_of q.callee) at.head))
       where
         by : (q : Call) → came.call ≡ q → FitsCall (whole file layout) q → CameBack (done_by (whole file layout) q came.before) came.doing came.after →
             IsGivenTo IsGiven q came.before →
-            CarriesThis cost (Waits (asked_in came.before.memory q) go) (outer_of w) y →
+            AsksThis cost (asked_in came.before.memory q) go (outer_of w) y →
             unit_of call.callee ≡ unit_of (asked_in came.before.memory q).callee →
             Comes X turn see stack heap came.after.stack_need (heap_need came.after.memory) came.after.made
             (Served (unit_of call.callee) cost came.before.left came.after.left (After (go came.doing) (outer_of came.after))) y
@@ -485,7 +512,7 @@ module _ (S : Type 0) (p : Program S) (pace : Words S) (file : FileTree) (layout
     tail_last : (cost ahead : ℕ) → cost ≤ ahead → {w last : World} (asked : List Asked) (units need : ℕ) (y : X) → OnItsOwn w last →
         (call : Asked) (callee : Callee) →
         call.callee ≡ callee → CarriesTail S p pace file layout X turn see stack heap Below At Entry Back cost a call callee (outer_of w) y →
-        Reaches a f below last [] units 0 ahead (Asking call (tally asked [] units need)) y
+        Reaches a f below last [] units 0 0 ahead (Asking call (tally asked [] units need)) y
     tail_last cost ahead room {w} {last} asked units need y o call (Inside callee) e carries =
         let same = same_outer o in
         let one : unit_of call.callee ≡ 1 = ap unit_of e in
@@ -509,8 +536,8 @@ module _ (S : Type 0) (p : Program S) (pace : Words S) (file : FileTree) (layout
         {w last : World} {calls : List Came} (asked : List Asked) (units need : ℕ) (y : X) →
         CallsBetween (whole file layout) bound w calls last → AllGiven IsGiven calls →
         (tally_of (onward (runs (p.step f c) k) (FinishesBy call kept) (tally asked calls units need))).asked ≡ asked ++ map asked_by calls →
-        CarriesThis cost (FinishesBy call kept) (outer_of w) y →
-        Reaches a f below last calls units 0 ahead (onward (runs (p.step f c) k) (FinishesBy call kept) (tally asked calls units need)) y
+        TailsThis cost call (outer_of w) y →
+        Reaches a f below last calls units 0 0 ahead (onward (runs (p.step f c) k) (FinishesBy call kept) (tally asked calls units need)) y
     tails k call kept cost ahead room asked units need y (no_more o) given same carries =
         tail_last cost ahead room asked units need y o call call.callee refl carries
     tails k call kept cost ahead room {w} {last} asked units need y (next {c = came} o fewer fit did onto (no_more own)) given same carries =
@@ -518,7 +545,7 @@ module _ (S : Type 0) (p : Program S) (pace : Words S) (file : FileTree) (layout
         let unit_is : unit_of (asked_by came).callee ≡ unit_of call.callee = ap (λ (q : Asked). unit_of q.callee) (sym at.head) in
         let one = units_came call.callee units in
         comes_map X turn see stack heap y (let st = own.stack in omega (arith, st)) (let hp = extends_need own.memory in omega (arith, hp)) (own_begins own)
-        (by came.call refl fit did given.0 (subst (λ q. CarriesThis cost (FinishesBy q kept) (outer_of w) y) at.head carries)
+        (by came.call refl fit did given.0 (subst (λ q. TailsThis cost q (outer_of w) y) at.head carries)
         (ap (λ (q : Asked). unit_of q.callee) at.head))
         (λ n z served.
         let su = served.upper in
@@ -545,7 +572,7 @@ module _ (S : Type 0) (p : Program S) (pace : Words S) (file : FileTree) (layout
 
         by : (q : Call) → came.call ≡ q → FitsCall (whole file layout) q → CameBack (done_by (whole file layout) q came.before) came.doing came.after →
             IsGivenTo IsGiven q came.before →
-            CarriesThis cost (FinishesBy (asked_in came.before.memory q) kept) (outer_of w) y →
+            TailsThis cost (asked_in came.before.memory q) (outer_of w) y →
             unit_of call.callee ≡ unit_of (asked_in came.before.memory q).callee →
             Comes X turn see stack heap came.after.stack_need (heap_need came.after.memory) came.after.made
             (Served (unit_of call.callee) cost came.before.left came.after.left (Back a came.doing (outer_of came.after))) y
@@ -565,50 +592,59 @@ module _ (S : Type 0) (p : Program S) (pace : Words S) (file : FileTree) (layout
 
     -- ---- every step
 
-    acts : (k : ℕ) → LinkOf k → (x : Step S) (stack' heap' cost left ahead : ℕ) → cost + left ≤ ahead → IsRegularStep S p c stack' heap' x →
+    -- where none is owed
+    owing : (owed units ahead : ℕ) (last : World) (calls : List Came) (r : Run S) (y : X) → owed ≡ 0 → Reaches a f below last calls units 0 0 ahead r y →
+        Reaches a f below last calls units owed 0 ahead r y
+    owing owed units ahead last calls r y none reaches = subst (λ n. Reaches a f below last calls units n 0 ahead r y) (sym none) reaches
+
+    acts : (k : ℕ) → LinkOf k → (x : Step S) (owed stack' heap' cost left ahead : ℕ) → cost + left ≤ ahead → IsRegularStep S p c stack' heap' x →
         StepForward S words (pace.ahead f) left x → ((u : S) → LeadsTo S u x → IsReached S p f c u) →
         (w last : World) (calls : List Came) (asked : List Asked) (units need : ℕ)
         (y : X) → stack' ≤ need → CallsBetween (whole file layout) bound w calls last → AllGiven IsGiven calls →
         (tally_of (onward (runs (p.step f c) k) x (tally asked calls units need))).asked ≡ asked ++ map asked_by calls →
-        IsMoving (onward (runs (p.step f c) k) x (tally asked calls units need)) → CarriesThis cost x (outer_of w) y →
-        Reaches a f below last calls units 0 ahead (onward (runs (p.step f c) k) x (tally asked calls units need)) y
-    acts k ih (Continues u) stack' heap' cost left ahead room g forth reached w last calls asked units need y fits between given same m carries =
+        IsMoving (onward (runs (p.step f c) k) x (tally asked calls units need)) → CarriesThis owed cost x (outer_of w) y →
+        Reaches a f below last calls units owed 0 ahead (onward (runs (p.step f c) k) x (tally asked calls units need)) y
+    acts k ih (Continues u) owed stack' heap' cost left ahead room g forth reached w last calls asked units need y fits between given same m carries =
         let on = facts_of k u w last calls asked units need between same m in
         let n = on.need in
         let fit = g.0 in
-        made_step k ih (Continues u) stack' heap' cost left ahead room g forth reached w last calls asked units need y fits between given same m
-        (p.stack c u) (p.heap u)
+        made_step k ih (Continues u) owed (owed - pace.owed f u) (omega arith) stack' heap' cost left ahead room g forth reached w last calls asked
+        units need y fits between given same m (p.stack c u) (p.heap u)
         (omega (arith, n, fit, fits)) on.heap carries
-    acts k ih (Pays u) stack' heap' cost left ahead room g forth reached w last calls asked units need y fits between given same m carries =
+    acts k ih (Pays u) owed stack' heap' cost left ahead room g forth reached w last calls asked units need y fits between given same m carries =
         let on = facts_of k u w last calls asked (suc units) need between same m in
         let n = on.need in
         let fit = g.0 in
-        made_step k ih (Pays u) stack' heap' cost left ahead room g forth reached w last calls asked units need y fits between given same m
-        (p.stack c u) (p.heap u)
+        made_step k ih (Pays u) owed (suc owed - pace.owed f u) (omega arith) stack' heap' cost left ahead room g forth reached w last calls asked
+        units need y fits between given same m (p.stack c u) (p.heap u)
         (omega (arith, n, fit, fits)) on.heap carries
-    acts k ih (Deepens bytes u) stack' heap' cost left ahead room g forth reached w last calls asked units need y fits between given same m carries =
+    acts k ih (Deepens bytes u) owed stack' heap' cost left ahead room g forth reached w last calls asked units need y fits between given same m carries =
         let on = facts_of k u w last calls asked units (max need bytes) between same m in
         let n = on.need in
         let fit = g.0 in
-        made_step k ih (Deepens bytes u) stack' heap' cost left ahead room g forth reached w last calls asked units need y fits between given same m
-        (p.stack c u) (p.heap u)
+        made_step k ih (Deepens bytes u) owed (owed - pace.owed f u) (omega arith) stack' heap' cost left ahead room g forth reached w last calls asked
+        units need y fits between given same m (p.stack c u) (p.heap u)
         (omega (arith, n, fit, fits)) on.heap carries
-    acts k ih (Waits call go) stack' heap' cost left ahead room g forth reached w last calls asked units need y fits between given same m carries =
-        asks k ih call go stack' heap' cost left ahead room g forth reached asked units need y fits between given same m carries
-    acts k ih (FinishesBy call kept) stack' heap' cost left ahead room g forth reached w last calls asked units need y fits between given same m carries =
-        tails k call kept cost ahead (omega (arith, room)) asked units need y between given same carries
-    acts k ih (Finishes d) stack' heap' cost left ahead room g forth reached w last calls asked units need y fits between given same m carries =
-        made_step k ih (Finishes d) stack' heap' cost left ahead room g forth reached w last calls asked units need y fits between given same m 0 0
-        (omega arith) (omega arith) carries
-    acts k ih (FinishesRaising d) stack' heap' cost left ahead room g forth reached w last calls asked units need y fits between given same m carries =
-        made_step k ih (FinishesRaising d) stack' heap' cost left ahead room g forth reached w last calls asked units need y fits between given same m 0
-        0 (omega arith) (omega arith) carries
-    acts k ih IsStuck stack' heap' cost left ahead room g forth reached w last calls asked units need y fits between given same m carries = absurd m
+    acts k ih (Waits call go) owed stack' heap' cost left ahead room g forth reached w last calls asked units need y fits between given same m carries =
+        owing owed units ahead last calls _ y carries.0
+        (asks k ih call go stack' heap' cost left ahead room g forth reached asked units need y fits between given same m carries.1)
+    acts k ih (FinishesBy call kept) owed stack' heap' cost left ahead room g forth reached w last calls asked units need y fits between given same m carries =
+        owing owed units ahead last calls _ y carries.0
+        (tails k call kept cost ahead (omega (arith, room)) asked units need y between given same carries.1)
+    acts k ih (Finishes d) owed stack' heap' cost left ahead room g forth reached w last calls asked units need y fits between given same m carries =
+        let none = carries.0 in
+        made_step k ih (Finishes d) owed 0 (omega (arith, none)) stack' heap' cost left ahead room g forth reached w last calls asked units need y
+        fits between given same m 0 0 (omega arith) (omega arith) carries.1
+    acts k ih (FinishesRaising d) owed stack' heap' cost left ahead room g forth reached w last calls asked units need y fits between given same m carries =
+        let none = carries.0 in
+        made_step k ih (FinishesRaising d) owed 1 (omega (arith, none)) stack' heap' cost left ahead room g forth reached w last calls asked units need y
+        fits between given same m 0 0 (omega arith) (omega arith) carries.1
+    acts k ih IsStuck owed stack' heap' cost left ahead room g forth reached w last calls asked units need y fits between given same m carries = absurd m
 
     stands : (s : S) {w last : World} {calls : List Came} (asked : List Asked) (units need ahead : ℕ) (x : X) →
         CallsBetween (whole file layout) bound w calls last →
         asked ≡ asked ++ map asked_by calls → At a f below s (outer_of w) x →
-        Reaches a f below last calls units 0 ahead (Running s (tally asked calls units need)) x
+        Reaches a f below last calls units (pace.owed f s) 0 ahead (Running s (tally asked calls units need)) x
     stands s {w} {last} asked units need ahead x (no_more o) same at =
         comes_now X turn see stack heap x
         (record {
@@ -630,6 +666,6 @@ module _ (S : Type 0) (p : Program S) (pace : Words S) (file : FileTree) (layout
         let cost = forward.cost f c s reached in
         acts k (λ s w last calls asked units need x between given same m reached fits at. link k s w last calls asked units need x between given same m
         reached fits at) (p.step f c s)
-        (p.stack c s) (p.heap s) (pace.cost f s) (pace.ahead f s - pace.cost f s) (pace.ahead f s) (omega (arith, cost)) (regular.step f c s)
+        (pace.owed f s) (p.stack c s) (p.heap s) (pace.cost f s) (pace.ahead f s - pace.cost f s) (pace.ahead f s) (omega (arith, cost)) (regular.step f c s)
         (forward.on f c s reached)
         (λ u to. by_step reached to) w last calls asked units need x fits between given same m (carry.steps a f below s (outer_of w) x reached at)

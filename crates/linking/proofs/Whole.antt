@@ -42,7 +42,7 @@ use Rattle.linking.specs.Keeps as keeps
 use Rattle.linking.specs.Carries.{Outer, outer_of, Comes, Spends, Does, Carries}
 use Rattle.linking.proofs.Coming.{comes_on, comes_map}
 use Rattle.linking.proofs.Running.{units_called, top_heap, facts}
-use Rattle.linking.proofs.Following.{answered_left, extra, IsGivenTo, AllGiven, AskedAt, EndAt, Serves, link}
+use Rattle.linking.proofs.Following.{answered_left, extra, due, IsGivenTo, AllGiven, AskedAt, EndAt, Serves, link}
 
 -- ---- arithmetic
 
@@ -125,12 +125,15 @@ module _ (S : Type 0) (p : Program S) (pace : Words S) (file : FileTree) (layout
   abbrev Ends : ℕ → Below → (f below : ℕ) → Outer → X → Run S → Type 0
   Ends k a f below o y r = EndAt S p pace file layout X turn see stack heap Below At Entry Back most words IsGiven k a f below o y r
 
+  abbrev Due : ℕ → Run S → ℕ
+  Due f r = due S p pace file layout X turn see stack heap Below At Entry Back most words IsGiven f r
+
   -- what a function and its callees took
-  record Total (r : Run S) (calls : List Came) (P : ℕ → X → Type 0) (count : ℕ) (x : X) : Type 0 where
+  record Total (f : ℕ) (r : Run S) (calls : List Came) (P : ℕ → X → Type 0) (count : ℕ) (x : X) : Type 0 where
     theirs : ℕ
     no_more : theirs ≤ spent_by calls
     enough : spent_by calls ≤ most * (2 * theirs + units_called calls)
-    lower : ((tally_of r).units + extra r) + theirs ≤ count
+    lower : ((tally_of r).units + extra r) + theirs ≤ count + Due f r
     spare : ℕ
     upper : count + spare ≤ words + words * ((tally_of r).units + (2 * theirs + units_called calls))
     at : P spare x
@@ -141,7 +144,7 @@ module _ (S : Type 0) (p : Program S) (pace : Words S) (file : FileTree) (layout
     same : Same S p most own e r
     counted : units_called calls ≤ (tally_of r).units
     comes : Comes X turn see stack heap (max (tally_of r).need last.stack_need) (max (top_heap p r) (heap_need last.memory)) last.made
-        (Total r calls (λ k y. Ends k a f below (outer_of last) y r)) x
+        (Total f r calls (λ k y. Ends k a f below (outer_of last) y r)) x
 
   reached : (call : Called) (tree : FunctionTree) (is : slice_get (functions file) call.function ≡ Some tree) →
       fit_parameters (data_end file) (comps_of tree) call.arguments ≡ true → (w : World) → ServesHere w.left → IsGiven call.arguments w.memory →
@@ -235,6 +238,19 @@ module _ (S : Type 0) (p : Program S) (pace : Words S) (file : FileTree) (layout
   asked_there k f below a o y (keeps.asks e) at =
       subst (λ (q : Asked). AskedAt S p pace file layout X turn see stack heap Below At Entry Back most words IsGiven k o y q q.callee) e at
 
+  -- where it ends or asks, no unit is owed, and else one at most
+  due_gives : (f : ℕ) {v : Option Value} {h : Here} {u : World} {r : Run S} → EndsAs S p (Gives v h u) r → Due f r ≤ 0
+  due_gives f (keeps.gives e) = omega arith
+
+  due_raises : (f : ℕ) {v : Value} {h : Here} {u : World} {r : Run S} → EndsAs S p (Raises v h u) r → Due f r ≤ 0
+  due_raises f (keeps.raises e) = omega arith
+
+  due_out : (f : ℕ) {u : World} {r : Run S} → EndsAs S p (Stops OutOfFuel u) r → Due f r ≤ 1
+  due_out f (keeps.out_of_units {s = s} le) = forward.owed f s
+
+  due_asked : (f : ℕ) {u : World} {asked : Asked} {r : Run S} → EndsAs S p (Stops (Asking asked) u) r → Due f r ≤ 0
+  due_asked f (keeps.asks e) = omega arith
+
   extra_asked : {u : World} {asked : Asked} {r : Run S} → EndsAs S p (Stops (Asking asked) u) r → extra r ≡ unit_of asked.callee
   extra_asked (keeps.asks e) = ap (λ (c : Asked). unit_of c.callee) e
 
@@ -255,10 +271,10 @@ module _ (S : Type 0) (p : Program S) (pace : Words S) (file : FileTree) (layout
     heap_fits asked = let hp = heap_reached w last own e r.same.end s.memory asked in omega (arith, hp)
 
     -- the function ends
-    finish : (P : X → Type 0) → pending e ≡ 0 → ((call : Asked) (u : World) → e ≡ Stops (Asking call) u → ⊥) →
+    finish : (P : X → Type 0) (owed : ℕ) → Due f r.r ≤ owed → pending e ≡ 0 → ((call : Asked) (u : World) → e ≡ Stops (Asking call) u → ⊥) →
         ((k : ℕ) (y : X) → Ends k a f below (outer_of last) y r.r → P y) →
-        Comes X turn see stack heap last.stack_need (heap_need last.memory) last.made (Spends most words w.left last.left P) x
-    finish P none ends to =
+        Comes X turn see stack heap last.stack_need (heap_need last.memory) last.made (Spends owed most words w.left last.left P) x
+    finish P owed at_most none ends to =
         comes_map X turn see stack heap x stack_fits (heap_fits (λ call u is. absurd (ends call u is))) (Begins-same last.made) r.comes
         (λ n y took.
         let no = took.no_more in
@@ -273,17 +289,17 @@ module _ (S : Type 0) (p : Program S) (pace : Words S) (file : FileTree) (layout
           no_more = omega (arith, no, own_no, units, left);
           enough = enough_ended most w.left last.left own (spent_by calls) (tally_of r.r).units took.theirs (units_called calls) units
               (omega (arith, own_enough, left)) took.enough r.counted;
-          lower = omega (arith, lo);
+          lower = omega (arith, lo, at_most);
           upper = upper_ended words n (tally_of r.r).units took.theirs (units_called calls) (omega (arith, up)) r.counted;
           at = to took.spare y took.at;
         })
 
     -- the run stops in a callee
-    onward : (call : Called) (u v : World) (P : X → Type 0) → e ≡ Stops (Asking (asked_in last.memory (OfFunction call))) u → Later last v →
+    onward : (call : Called) (u v : World) (P : X → Type 0) (owed : ℕ) → e ≡ Stops (Asking (asked_in last.memory (OfFunction call))) u → Later last v →
         ((b : Below) (y : X) → Entry b call.function call.below call.arguments last.memory (outer_of last) y →
-        Comes X turn see stack heap v.stack_need (heap_need v.memory) v.made (Spends most words last.left v.left P) y) →
-        Comes X turn see stack heap v.stack_need (heap_need v.memory) v.made (Spends most words w.left v.left P) x
-    onward call u v P is later on =
+        Comes X turn see stack heap v.stack_need (heap_need v.memory) v.made (Spends owed most words last.left v.left P) y) →
+        Comes X turn see stack heap v.stack_need (heap_need v.memory) v.made (Spends owed most words w.left v.left P) x
+    onward call u v P owed is later on =
         let st = stack_fits in
         let hp = heap_fits (λ c z ez. ap (λ (q : Asked). q.memory) (same_call ez is)) in
         let st2 = later.onward.stack in
@@ -293,6 +309,7 @@ module _ (S : Type 0) (p : Program S) (pace : Words S) (file : FileTree) (layout
         let end : EndsAs S p (Stops (Asking (asked_in last.memory (OfFunction call))) u) r.r = subst (λ z. EndsAs S p z r.r) is r.same.end in
         let at = asked_there took.spare f below a (outer_of last) y end took.at in
         let one : extra r.r ≡ 1 = extra_asked end in
+        let none_due : Due f r.r ≤ 0 = due_asked f end in
         let pend : pending e ≡ 1 = ap pending is in
         comes_map X turn see stack heap y (omega arith) (omega arith) (Begins-same v.made) (on at.0 y at.1)
         (λ d z spends.
@@ -312,7 +329,7 @@ module _ (S : Type 0) (p : Program S) (pace : Words S) (file : FileTree) (layout
               enough_asking most w.left last.left v.left own (spent_by calls) (tally_of r.r).units took.theirs (units_called calls) spends.units units
               (omega (arith, own_enough, left))
               took.enough spends.enough r.counted;
-          lower = omega (arith, lo, clo, one);
+          lower = omega (arith, lo, clo, one, none_due);
           upper = upper_asking words n d (tally_of r.r).units took.theirs (units_called calls) spends.units (omega (arith, up)) spends.upper r.counted;
           at = spends.at;
         }))
@@ -322,7 +339,7 @@ module _ (S : Type 0) (p : Program S) (pace : Words S) (file : FileTree) (layout
         e ≡ Stops (Asking (asked_in last.memory (OfOutside row frame arguments))) u → Later last v →
         outside (data_end file) layout row frame arguments last ≡ Stops (NoAnswer made) v →
         Comes X turn see stack heap v.stack_need (heap_need v.memory) v.made
-        (Spends most words w.left v.left (λ (y : X). see y ≡ record { calls = v.made; end = machine.Asks made })) x
+        (Spends 0 most words w.left v.left (λ (y : X). see y ≡ record { calls = v.made; end = machine.Asks made })) x
     unanswered_there row frame arguments made u v is later no_answer =
         let st = stack_fits in
         let hp = heap_fits (λ c z ez. ap (λ (q : Asked). q.memory) (same_call ez is)) in
@@ -344,13 +361,14 @@ module _ (S : Type 0) (p : Program S) (pace : Words S) (file : FileTree) (layout
         let lo = took.lower in
         let up = took.upper in
         let few = near.upper in
+        let none_due : Due f r.r ≤ 0 = due_asked f end in
         record {
           units = (tally_of r.r).units + took.theirs;
           no_more = omega (arith, no, own_no, units, left, same_left);
           enough =
               enough_ended most w.left v.left own (spent_by calls) (tally_of r.r).units took.theirs (units_called calls) units
               (omega (arith, own_enough, left, same_left)) took.enough r.counted;
-          lower = omega (arith, lo);
+          lower = omega (arith, lo, none_due);
           upper = upper_ended words (n + d) (tally_of r.r).units took.theirs (units_called calls) (omega (arith, up, few)) r.counted;
           at = near.at;
         }))
@@ -365,7 +383,7 @@ module _ (S : Type 0) (p : Program S) (pace : Words S) (file : FileTree) (layout
         FitsCall (whole file layout) q → IsGivenTo IsGiven q last →
         StoppedIn (done_by (whole file layout) q last) why v → DoesSo a w x (Stops why v)
     stopped_in last v calls own (OfFunction call) u OutOfFuel s r later fewer (fits_function fit) given st =
-        onward f below a w last calls own _ x s r call u v _ refl later
+        onward f below a w last calls own _ x s r call u v _ 1 refl later
         (λ b y entry. stops_so b y (stopped_so st) (serves b call last y fewer fit given entry))
       where
         stops_so : (b : Below) (y : X) {z : Evaluation} → (z ≡ Stops OutOfFuel v) ⊎ (OutOfFuel ≡ NotProper BadCall) → DoesSo b last y z →
@@ -373,7 +391,7 @@ module _ (S : Type 0) (p : Program S) (pace : Words S) (file : FileTree) (layout
         stops_so b y (inl e) does = subst (DoesSo b last y) e does
         stops_so b y (inr e) does = absurd (cc)
     stopped_in last v calls own (OfFunction call) u (NoAnswer made) s r later fewer (fits_function fit) given st =
-        onward f below a w last calls own _ x s r call u v _ refl later
+        onward f below a w last calls own _ x s r call u v _ 0 refl later
         (λ b y entry. stops_so b y (stopped_so st) (serves b call last y fewer fit given entry))
       where
         stops_so : (b : Below) (y : X) {z : Evaluation} → (z ≡ Stops (NoAnswer made) v) ⊎ (NoAnswer made ≡ NotProper BadCall) → DoesSo b last y z →
@@ -402,18 +420,21 @@ module _ (S : Type 0) (p : Program S) (pace : Words S) (file : FileTree) (layout
     by_end last calls own e all s reach given (links.gives {v = v} {h = h} {u = u}) =
         let r = reach tt in
         let same_memory : Gave v u.memory ≡ Gave v last.memory = ap (Gave v) s.memory in
-        finish f below a w last calls own (Gives v h u) x s r (Back a (Gave v last.memory) (outer_of last)) refl (λ call z is. absurd (cc))
+        finish f below a w last calls own (Gives v h u) x s r (Back a (Gave v last.memory) (outer_of last))
+        0 (due_gives f r.same.end) refl (λ call z is. absurd (cc))
         (λ k y end. subst (λ d. Back a d (outer_of last) y) same_memory (gave_back k f below a (outer_of last) y r.same.end end))
     by_end last calls own e all s reach given (links.raises {v = v} {h = h} {u = u}) =
         let r = reach tt in
         let same_memory : Threw v u.memory ≡ Threw v last.memory = ap (Threw v) s.memory in
-        finish f below a w last calls own (Raises v h u) x s r (Back a (Threw v last.memory) (outer_of last)) refl (λ call z is. absurd (cc))
+        finish f below a w last calls own (Raises v h u) x s r (Back a (Threw v last.memory) (outer_of last))
+        0 (due_raises f r.same.end) refl (λ call z is. absurd (cc))
         (λ k y end. subst (λ d. Back a d (outer_of last) y) same_memory (threw_back k f below a (outer_of last) y r.same.end end))
     by_end last calls own e all s reach given links.exits = tt
     by_end last calls own e all s reach given links.improper = tt
     by_end last calls own e all s reach given (links.out_of_units {u = u}) =
         let r = reach tt in
-        finish f below a w last calls own (Stops OutOfFuel u) x s r (λ y. see y ≡ record { calls = last.made; end = Runs_on }) refl (λ call z is. absurd (cc))
+        finish f below a w last calls own (Stops OutOfFuel u) x s r (λ y. see y ≡ record { calls = last.made; end = Runs_on })
+        1 (due_out f r.same.end) refl (λ call z is. absurd (cc))
         (λ k y end. still_runs k f below a (outer_of last) y r.same.end end)
     by_end last calls own e all s reach given (links.in_callee {u = u} {v = v} {why = why} q fewer fit st later) =
         stopped_in last v calls own q u why s (reach tt) later fewer fit (given q u refl) st

@@ -135,7 +135,8 @@ module _ (S : Type 0) (p : Program S) (w : Words S) (file : FileTree) (layout : 
   pub record Carries : Type 0 where
     pub steps : (a : Below) (f below : ℕ) (s : S) (o : Outer) (x : X) →
         IsReached S p f (place_in file layout f below) s → At a f below s o x →
-        CarriesStep (w.owed f s) (w.cost f s) f below a (p.step f (place_in file layout f below) s) o x
+        CarriesStep (w.owed f s) (w.cost f s) f below a
+        (p.step f (place_in file layout f below) s) o x
     -- what took a function's place leaves less
     pub kept : (a : Below) (kept : Ret) (d : Doing) (o : Outer) (x : X) → Back a d o x →
         Back a (kept_of kept d) o x
@@ -173,8 +174,8 @@ module _ (X : Type 0) (next : X → X) (see : X → Seen) (stack heap most words
       (Spends 0 most words w.left u.left (Back (Threw v u.memory) (outer_of u))) x
   Does w x (Stops OutOfFuel u) =
       Comes X next see stack heap u.stack_need (heap_need u.memory) u.made
-      (Spends 1 most words w.left u.left (λ (y : X). see y ≡ record { calls = u.made; end = Running }))
-      x
+      (Spends 1 most words w.left u.left
+      (λ (y : X). see y ≡ record { calls = u.made; end = Running })) x
   Does w x (Stops (NoAnswer call) u) =
       Comes X next see stack heap u.stack_need (heap_need u.memory) u.made
       (Spends 0 most words w.left u.left

@@ -15,8 +15,8 @@ pub record Words (S : Type 0) : Type 0 where
   pub entry : ℕ → ℕ
   -- how many it may still take up to the next unit
   pub ahead : ℕ → S → ℕ
-  -- how many units have been counted before without an instruction of their own: its step answers for
-  -- them
+  -- how many units have been counted before without an instruction of their own: its step answers
+  -- for them
   pub owed : ℕ → S → ℕ
 
 module _ (S : Type 0) (words : ℕ) (ahead : S → ℕ) where

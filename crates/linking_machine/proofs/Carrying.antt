@@ -180,10 +180,10 @@ module _ (file : FileTree) (image : Tables) (lins : ℕ → Lin) (named : ℕ �
   After c f below x o y = IsAfter State (linear_program lins named) w file (layout_of image) Now (guarded_of run.schedule) seen run.stack run.heap Below
       at_ entry_ back_ c f below x o y
 
-  abbrev pub CarriesIt : ℕ → ℕ → ℕ → Below → Step State → Outer → Now → Type 0
-  CarriesIt most f below c x o y =
+  abbrev pub CarriesIt : ℕ → ℕ → ℕ → ℕ → Below → Step State → Outer → Now → Type 0
+  CarriesIt owed most f below c x o y =
       CarriesStep State (linear_program lins named) w file (layout_of image) Now (guarded_of run.schedule) seen run.stack run.heap Below at_ entry_ back_
-      most f below c x o y
+      owed most f below c x o y
 
   abbrev pub place : ℕ → ℕ → Place
   place f below = place_in file (layout_of image) f below

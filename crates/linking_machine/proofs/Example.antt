@@ -86,7 +86,7 @@ abbrev pub words_left : List Line → ℕ
 words_left rest = length rest
 
 abbrev pub paced : Words State
-paced = record { cost = λ f s. 1; entry = λ f. 0; ahead = λ f s. words_left s.rest }
+paced = record { cost = λ f s. 1; entry = λ f. 0; ahead = λ f s. words_left s.rest; owed = λ f s. 0 }
 
 begins_seen : (c : Place) (arguments : List Value) (memory : Memory) (s : State) → start c code arguments memory ≡ Some s → Seen s
 begins_seen c [] memory s e =
@@ -172,6 +172,7 @@ forward =
     record {
       enter = λ f c arguments memory s e. let h = start_words (begins_seen c arguments memory s e) in omega (arith, h);
       cost = λ f c s r. seen_cost (reached_seen r);
+      owed = λ f s. omega arith;
       on = λ f c s r. seen_forward c (reached_seen r);
     }
 
@@ -253,7 +254,7 @@ module _ (image : Tables) (has : HasFunctions image) (bases : (stack : ℕ) → 
     here = place_in file (layout_of image) f below
 
     abbrev Line_of : State → Step State → Type 0
-    Line_of u x = FollowsLine 1 s (laid f) (live f) at c v (used (laid f) u) x
+    Line_of u x = FollowsLine 0 1 s (laid f) (live f) at c v (used (laid f) u) x
 
     first_line : (stored : Locations) (memory : Memory) → IsAt s (laid f) (live f) c
         (record { rest = makes ∷ returns ∷ []; file = stored; around = entered memory }) v →
@@ -282,6 +283,7 @@ module _ (image : Tables) (has : HasFunctions image) (bases : (stack : ℕ) → 
                 (sets_as s v (OpImm Addi 10 0 42) 10 _ 42 sum (sets_imm s v Addi 10 0 42)) within.own.are (omega arith) (omega arith));
             calls = tt;
           };
+          takes = inl refl;
         }
 
     second_follows : (stored : Locations) (memory : Memory) → IsAt s (laid f) (live f) c
@@ -320,10 +322,10 @@ module _ (image : Tables) (has : HasFunctions image) (bases : (stack : ℕ) → 
     second_line : (u : State) (x : Step State) (memory : Memory) → Returns x memory → FollowsStep 1 s (laid f) (live f) at c v x → Line_of u x
     second_line u x memory (stuck e) follows =
         subst (λ (z : Step State). FollowsStep 1 s (laid f) (live f) at c v z → Line_of u z) (sym e)
-        (λ g. record { words = 1; few = omega arith; so = record { follows = g; calls = tt } }) follows
+        (λ g. record { words = 1; few = omega arith; so = record { follows = g; calls = tt }; takes = inl refl }) follows
     second_line u x memory (out w e) follows =
         subst (λ (z : Step State). FollowsStep 1 s (laid f) (live f) at c v z → Line_of u z) (sym e)
-        (λ g. record { words = 1; few = omega arith; so = record { follows = g; calls = tt } }) follows
+        (λ g. record { words = 1; few = omega arith; so = record { follows = g; calls = tt }; takes = inl refl }) follows
 
     -- the machine follows each line that a run comes to
     pub line : (u : State) → IsReached State program f here u → IsAt s (laid f) (live f) c u v → Line_of u (step here (λ n. []) code u)

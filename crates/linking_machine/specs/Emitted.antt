@@ -1,5 +1,5 @@
 -- What layout and emission give of an image, function by function and line by line.
-use Rattle.std.specs.Prelude.{◌≡◌, ℕ, ◌+◌, ◌-◌, ◌*◌, ◌<◌, ◌≤◌, List, [], Some, length, slice_get, slice_index}
+use Rattle.std.specs.Prelude.{◌≡◌, ◌⊎◌, ℕ, ◌+◌, ◌-◌, ◌*◌, ◌<◌, ◌≤◌, List, [], ◌∷◌, Some, length, slice_get, slice_index}
 use Rattle.std.specs.List.{AllByRecursion}
 use Rattle.bs_words.specs.Memory.{Memory}
 use Rattle.bs_words.specs.declared.values.Value.{Value}
@@ -8,9 +8,10 @@ use Rattle.cmm_data.specs.Placement.{data_end}
 use Rattle.cmm_tree.specs.Tree.{FunctionTree, FileTree, functions, comps_of}
 use Rattle.cmm_meaning.specs.State.{Callee, Inside, Outside}
 use Rattle.correctness.specs.Setting.{layout_of}
+use Rattle.emit_rules.specs.Units.{owed_before}
 use Rattle.guarded_machine.specs.Guarded.{guarded_of}
 use Rattle.image_form.specs.Tables.{Tables, Func}
-use Rattle.lin_ir.specs.Meaning.{NamedAt, State, step, start}
+use Rattle.lin_ir.specs.Meaning.{NamedAt, State, after_label, step, start}
 use Rattle.lin_ir.specs.Walks.{Reached}
 use Rattle.lin_ir.specs.declared.lin.Lin.{Lin}
 use Rattle.lin_ir.specs.declared.lin.Line.{Line}
@@ -27,6 +28,8 @@ use Rattle.rv_machine.specs.Sound.{IsStackBase}
 use Rattle.linear_machine.specs.Arrival.{ArrivesIn}
 use Rattle.linear_machine.specs.Contents.{statics_of}
 use Rattle.line_calls.specs.Calls.{FollowsSo}
+use Rattle.line_stands.specs.Lines.{FreeStands}
+use Rattle.line_values.specs.Followed.{FollowsBranch}
 use Rattle.linear_machine.specs.Follows.{IsAt, IsEntered, used, needs_of}
 use Rattle.linear_machine.specs.Relation.{Below, Laid}
 use Rattle.linear_machine.specs.Statics.{StaticsLie}
@@ -49,13 +52,24 @@ abbrev pub service_of : Step State → ℕ
 service_of (Waits call go) = service_in call.callee
 service_of _ = 0
 
--- The machine follows a step from a view, in at most so many instructions, where the function has so
--- many bytes of the stack in use.
-pub record FollowsLine (most : ℕ) (s : Fixed) (laid : Laid) (live : List Line → Type 0)
+-- The machine follows a step from a view, in at most so many instructions, where the function has
+-- so many bytes of the stack in use. Where a unit is owed, the step is that of a branch, which takes
+-- an instruction.
+pub record FollowsLine (owed most : ℕ) (s : Fixed) (laid : Laid) (live : List Line → Type 0)
     (entry : ℕ → ℕ) (c : Below) (v : View) (used : ℕ) (x : Step State) : Type 0 where
   pub words : ℕ
   pub few : words + service_of x ≤ most
   pub so : FollowsSo words s laid live entry c v used x
+  pub takes : (owed ≡ 0) ⊎ FollowsBranch words s laid live c v x
+
+-- The code begins with an exit that has no words: the machine stands already where that leads.
+pub record BeginsFree (laid : Laid) (m : Lin) (live : List Line → Type 0) (code : List Line)
+    : Type 0 where
+  pub line : Line
+  pub next : List Line
+  pub is : code ≡ line ∷ next
+  pub free : FreeStands laid m line next
+  pub passes : live (after_label free.label m.code) → live code
 
 -- ---- an image
 
@@ -79,14 +93,18 @@ module _ (file : FileTree) (image : Tables) (lins : ℕ → Lin) (named : ℕ �
   pub record IsEmitted : Type 0 where
     -- the frames are those of the rows
     pub frames : (f : ℕ) → (laid f).frame ≡ slice_index (layout_of image).frames f
-    -- each line does its step, wherever a run of its function comes to it; some walk comes there too
+    -- a unit may be owed before a branch
+    pub owed : (f : ℕ) (u : State) → w.owed f u ≡ owed_before u.rest
+    -- each line that has words does its step, wherever a run of its function comes to it; some walk
+    -- comes there too
     pub lines : (run : Setup) (f below : ℕ) (c : Below) (v : View) (u : State) →
         IsReached State (linear_program lins named) f (place_in file (layout_of image) f below) u →
         Reached (lins f) u.rest u.around.tries →
         c.top + below ≡ stack_bottom →
         IsAt (fixed_of image has bases run) (laid f) (live f) c u v →
-        FollowsLine (w.cost f u) (fixed_of image has bases run) (laid f) (live f) entry c v
-        (used (laid f) u) (step (place_in file (layout_of image) f below) (named f) (lins f) u)
+        FollowsLine (w.owed f u) (w.cost f u) (fixed_of image has bases run) (laid f) (live f) entry
+        c v (used (laid f) u) (step (place_in file (layout_of image) f below) (named f) (lins f) u)
+        ⊎ BeginsFree (laid f) (lins f) (live f) u.rest
     -- a function begins where its frame fits
     pub begins : (run : Setup) (f below : ℕ) (c : Below) (v : View) (arguments : List Value)
         (memory : Memory) (u : State) →

@@ -5,7 +5,8 @@ ghost use Rattle.lin_ir.specs.Formed.{AreLocated};
 ghost use Rattle.lin_ir.specs.Walks.{OneDepth};
 ghost use Rattle.emit_rules.specs.Calls.{mark_of};
 ghost use Rattle.emit_rules.specs.Emitted.{operator_part, pure_part, access_part, calling_part, leaving_part, op_part};
-ghost use Rattle.emit_rules.specs.Emitted.{flow_part, part_of, descriptor, left_after, parts, emitted, IsEmitted};
+ghost use Rattle.emit_rules.specs.Emitted.{flow_part, part_of, part_before, descriptor, left_after};
+ghost use Rattle.emit_rules.specs.Emitted.{parts, emitted, IsEmitted};
 ghost use Rattle.rv_emit.specs.Outputs.{Adds};
 ghost use Rattle.rv_emit.specs.Frames.{form_of};
 
@@ -13,6 +14,7 @@ use crate::form::FrameForm;
 use crate::frames::frame_of;
 use crate::output::Output;
 use crate::slots::{first, register_of, second, target};
+use crate::units::is_free;
 use bs_words::IntOp;
 use frame_tables::pushed_traps;
 use lin_ir::{Descr, Flow, Lin, LinOp, Line, Spot};
@@ -206,6 +208,25 @@ impl Output {
         }
     }
 
+    /// The part of a line before this code.
+    fn part_before(
+        &mut self,
+        traps: u32,
+        frame: FrameForm,
+        mark: Option<&Descr>,
+        line: &Line,
+        next: &[Line],
+    ) -> Result<(), AllocError>
+        ensures { IfOk result (λ _.
+            Adds self.old self.new
+            (part_before traps (form_of frame) (option_copied mark.entry) line.now next.now)) }
+    {
+        if is_free(&line.op, next) {
+            return Ok(());
+        }
+        self.part(traps, frame, mark, line)
+    }
+
     /// The parts of lines. `pushed`: by the number of lines after a line, the number of traps that
     /// are pushed before it.
     fn parts(
@@ -225,7 +246,7 @@ impl Output {
         while let Some((line, next)) = rest.split_first() {
             let passes = line.op.passes_frame();
             let traps = traps_at(pushed, next.len());
-            self.part(traps, frame, descriptor(passes, left), line)?;
+            self.part_before(traps, frame, descriptor(passes, left), line, next)?;
             left = left_after(passes, left);
             rest = next;
         }

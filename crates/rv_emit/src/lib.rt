@@ -16,5 +16,6 @@ pub mod operators;
 pub mod output;
 pub mod slots;
 pub mod traps;
+pub mod units;
 
 pub use emission::emit;

@@ -11,8 +11,11 @@ use Rattle.lin_ir.specs.declared.lin.Line.{Line}
 use Rattle.lin_ir.specs.declared.lin.Lin.{Lin}
 use Rattle.lin_ir.specs.declared.lin.Spot.{Spot}
 use Rattle.tidy_rules.specs.Leaving.{bare, LabelsBetween, none_between, label_between, LeavesOften, not_once, once_more}
-use Rattle.tidy_rules.specs.Redirecting.{is_label, jumps_to, exits_to, first_goes, leads_to, leaves_to, next_label, followed, last_label, last_exit, redirected_all, GoesOnTo, itself, and_on, ExitsTo, by_exit, Redirects, Tidies, as_it_is, then_leaves, then_redirects}
+use Rattle.tidy_rules.specs.Redirecting.{is_label, jumps_to, exits_to, first_goes, leads_to, leaves_to, next_label, followed, last_label, last_exit, redirected_all, GoesOnTo, itself, and_on, ExitsTo, by_exit, Redirects, Tidies, as_it_is, then_leaves, then_redirects, then_turns}
+use Rattle.tidy_rules.specs.Regular.{IsRegular}
 use Rattle.tidy_rules.specs.Tidied.{IsTidied}
+use Rattle.tidy_rules.proofs.Tidied.{redirecting_regular}
+use Rattle.tidy_rules.proofs.TurningAll.{turns_all}
 
 abbrev pub line : LinOp → List Spot → List Spot → Line
 line f args results = record { op = f; args = args; results = results }
@@ -119,3 +122,7 @@ often_tidies h not_once = h
 often_tidies h (once_more p k) = then_leaves (often_tidies h p) k
 
 -- a function is made tidy by changes that are allowed
+pub tidied_tidies : {m r : Lin} → IsRegular m → IsTidied m r → Tidies m r
+tidied_tidies {m} regular h =
+    let jumps : Redirects m (redirected_all m) = redirects_all m in
+    often_tidies (then_turns (then_redirects as_it_is jumps) (turns_all (redirecting_regular jumps regular).well)) h.leaves

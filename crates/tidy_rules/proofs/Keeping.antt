@@ -27,9 +27,12 @@ use Rattle.linear_rules.proofs.Lowering.{no_addr_live}
 use Rattle.linear_rules.proofs.Walked.{reached_stands}
 use Rattle.tidy_rules.specs.Keeps as lin_keeps
 use Rattle.tidy_rules.specs.Keeps.{SameRound, KeepsLin}
-use Rattle.tidy_rules.specs.Redirecting.{Tidies, as_it_is, then_leaves, then_redirects}
+use Rattle.tidy_rules.specs.Redirecting.{Tidies, as_it_is, then_leaves, then_redirects, then_turns}
+use Rattle.tidy_rules.specs.Regular.{IsRegular}
 use Rattle.tidy_rules.proofs.LeavingDoes.{leaving_keeps}
 use Rattle.tidy_rules.proofs.Redirecting.{redirecting_keeps}
+use Rattle.tidy_rules.proofs.Tidied.{tidied_regular}
+use Rattle.tidy_rules.proofs.TurningDoes.{turning_keeps}
 use Rattle.tidy_rules.proofs.Exact.{reads_no_poison}
 
 -- ---- one after the other
@@ -110,10 +113,11 @@ keeps_lin_then {m} {q} {r} one two =
       addrs = λ h. two.addrs (one.addrs h);
     }
 
-pub keeps_tidied : {p : Mach} {m r : Lin} → KeepsReached p m → Tidies m r → KeepsReached p r
-keeps_tidied one as_it_is = one
-keeps_tidied one (then_leaves t l) = keeps_on (keeps_tidied one t) (leaving_keeps l)
-keeps_tidied one (then_redirects t l) = keeps_on (keeps_tidied one t) (redirecting_keeps l)
+pub keeps_tidied : {p : Mach} {m r : Lin} → KeepsReached p m → IsRegular m → Tidies m r → KeepsReached p r
+keeps_tidied one regular as_it_is = one
+keeps_tidied one regular (then_leaves t l) = keeps_on (keeps_tidied one regular t) (leaving_keeps l)
+keeps_tidied one regular (then_redirects t l) = keeps_on (keeps_tidied one regular t) (redirecting_keeps l)
+keeps_tidied one regular (then_turns t l) = keeps_on (keeps_tidied one regular t) (turning_keeps l (tidied_regular t regular))
 
 -- ---- with names
 

@@ -174,7 +174,7 @@ quiet_labels : {m : Lin} {a b : List Line} → LabelsBetween a b → Quiet m a b
 quiet_labels none_between = is_there
 quiet_labels (label_between p) = by_label (quiet_labels p)
 
-quiet_to : {m : Lin} {l n : ℕ} → GoesOnTo m l n → Quiet m (after_label l m.code) (after_label n m.code)
+pub quiet_to : {m : Lin} {l n : ℕ} → GoesOnTo m l n → Quiet m (after_label l m.code) (after_label n m.code)
 quiet_to itself = is_there
 quiet_to (and_on g p) = quiet_then (quiet_to g) (quiet_then (quiet_labels p) (by_jump is_there))
 

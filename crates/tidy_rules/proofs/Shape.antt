@@ -6,7 +6,7 @@ use Rattle.bs_words.specs.declared.types.Comp.{Comp}
 use Rattle.bs_words.specs.declared.types.Loc.{Loc}
 use Rattle.mach_ir.specs.Acts.{At}
 use Rattle.mach_ir.specs.Walks.{this}
-use Rattle.lin_ir.specs.Formed.{IsFormed, IsHome, is_colour, is_slot, is_home, IsLocation, Locates, spare, SpareIsPassing, label_of, labels_in, EntersAt, enters_here, enters_below, GoesForward, WellFormed}
+use Rattle.lin_ir.specs.Formed.{IsFormed, IsHome, is_colour, is_slot, is_home, IsLocation, Locates, spare, SpareIsPassing, label_of, labels_in, EntersAt, enters_here, enters_below, WellFormed}
 use Rattle.lin_ir.specs.Walks as walks
 use Rattle.lin_ir.specs.Walks.{Stands, here, below, Reached, by_step, Live, LiveAfter, after_step, Traps, by_walk, unreached, TrapsBalance, may_raise}
 use Rattle.lin_ir.specs.declared.lin.Flow.TheVariants as flow
@@ -23,6 +23,7 @@ use Rattle.linear_rules.proofs.Walked.{Tail, tail_all, tail_more, tail_next, tai
 use Rattle.tidy_rules.specs.Leaving as leaving
 use Rattle.tidy_rules.specs.Leaving.{is_landing, IsUseless, unread, LeavesOut}
 use Rattle.tidy_rules.specs.Regular.{AtHomes, IsRegular}
+use Rattle.tidy_rules.proofs.LeavingDown.{down_rest}
 use Rattle.tidy_rules.proofs.Leaving.{self_goes, useless_landing, raise_landing, Comes, there, comes_tail, comes_line, comes_same, K, rest, source, source_line, in_code}
 
 -- ---- ends of a list
@@ -260,55 +261,13 @@ module _ (m : Lin) (goes : ℕ → Bool) (each : (i : Line) (next : List Line) �
           traps = balance_rest;
         }
 
-    -- ---- where lines stand
-
-    record Stood (j : Line) (js is : List Line) : Type 0 where
-      next : List Line
-      same : L next ≡ js
-      stands : Tail (j ∷ next) is
-
-    stood : {j : Line} {js : List Line} (is : List Line) → Tail (j ∷ js) (L is) → Stood j js is
-    stood {j} {js} [] t = absurd (out (j ∷ js) [] t refl refl)
-      where
-        nothing : (j : Line) (js : List Line) → j ∷ js ≡ [] → ⊥
-        nothing j js e = cc
-
-        out : (a b : List Line) → Tail a b → b ≡ [] → a ≡ j ∷ js → ⊥
-        out a b tail_all e u = nothing j js (sym u ∙ e)
-        out a b (tail_more {j = k} {zs = zs} t) e u = nothing k zs e
-    stood {j} {js} (i ∷ is) t = by (goes (length is)) t (λ u. stood is u)
-      where
-        more : Stood j js is → Stood j js (i ∷ is)
-        more y = record { next = y.next; same = y.same; stands = tail_more y.stands }
-
-        split : (i : Line) (is xs : List Line) → L is ≡ xs → Tail (j ∷ js) (i ∷ xs) → (Tail (j ∷ js) xs → Stood j js (i ∷ is)) → Stood j js (i ∷ is)
-        split i is xs e tail_all go = record { next = is; same = e; stands = tail_all }
-        split i is xs e (tail_more t) go = go t
-
-        by : (b : Bool) → Tail (j ∷ js) (cond b (L is) (i ∷ L is)) → (Tail (j ∷ js) (L is) → Stood j js is) → Stood j js (i ∷ is)
-        by true t ih = more (ih t)
-        by false t ih = split i is (L is) refl t (λ u. more (ih u))
-
-    forward_rest : GoesForward R
-    forward_rest =
-        record {
-          labels = λ j js s e l n.
-              let y = stood m.code (stands_tail s) in
-              subst (λ ls. Contains ls l) (sym (labels_rest y.next (tail_next y.stands)) ∙ ap labels_in y.same)
-              (regular.forward.labels j y.next (tail_stands y.stands) e l n);
-          handlers = λ j js l tries r raise.
-              let x = source_line m goes each r in
-              subst (λ ls. Contains ls l) (sym (labels_rest x.next (tail_next (comes_tail x.reached))) ∙ ap labels_in x.same)
-              (regular.forward.handlers j x.next l tries (comes_line x.reached (raise_landing j.op raise)) raise);
-        }
-
     regular_rest : IsRegular R
     regular_rest =
         record {
           well = well_rest;
           homes = homes_rest;
           traps = traps_rest;
-          forward = forward_rest;
+          down = down_rest m goes each regular.down;
           seated = record {
             params = regular.seated.params;
             operands = λ j c. regular.seated.operands j (was_among j c);

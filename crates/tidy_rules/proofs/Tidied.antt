@@ -1,6 +1,6 @@
 -- What is kept of a function's shape where jumps are redirected, and in all.
-use Rattle.std.proofs.Common.{◌≡◌, ◌≢◌, ℕ, suc, ◌≤◌, Bool, true, false, cond, ⊎_elim, List, [], ◌∷◌, ◌++◌, length, All, Option, Some, None, refl, sym, ap, ◌∙◌, subst, arith}
-use Rattle.std.proofs.lemmas.Bool.{true≢false, eqb-true}
+use Rattle.std.proofs.Common.{◌≡◌, ◌≢◌, ℕ, suc, Bool, true, false, List, [], ◌∷◌, ◌++◌, length, All, Option, Some, None, refl, sym, ap, ◌∙◌, subst, arith}
+use Rattle.std.proofs.lemmas.Bool.{true≢false}
 use Rattle.std.specs.List.{Contains, AllPairs}
 use Rattle.bs_words.specs.declared.types.Comp.{Comp}
 use Rattle.mach_ir.specs.Acts.{At}
@@ -9,10 +9,9 @@ use Rattle.mach_ir.specs.Seats.{AreSeated}
 use Rattle.mach_ir.specs.Walks.{OneOf, this, other}
 use Rattle.mach_ir.specs.declared.op.Op.TheVariants as op
 use Rattle.mach_ir.specs.declared.op.Leaving.TheVariants as leaving
-use Rattle.lin_ir.specs.Formed.{comps, FlowHasForm, label_form, jump_form, exit_form, branch_form, switch_form, push_form, pop_form, enter_form, IsFormed, formed_op, formed_flow, IsHome, is_colour, is_slot, is_home, IsLocation, Locates, IsSelfMove, is_self_move, label_of, labels_in, NamesLabel, goes_to, pushes, EntersAt, enters_here, enters_below, is_exit, GoesForward, places_of, lin_operand_seats, lin_result_seats, WellFormed}
-use Rattle.lin_ir.specs.Meaning.{has_label, after_label}
+use Rattle.lin_ir.specs.Formed.{comps, FlowHasForm, label_form, jump_form, exit_form, branch_form, switch_form, push_form, pop_form, enter_form, IsFormed, formed_op, formed_flow, IsHome, is_colour, is_slot, is_home, IsLocation, Locates, IsSelfMove, is_self_move, label_of, labels_in, NamesLabel, goes_to, pushes, EntersAt, enters_here, enters_below, is_exit, places_of, lin_operand_seats, lin_result_seats, WellFormed}
 use Rattle.lin_ir.specs.Walks as walks
-use Rattle.lin_ir.specs.Walks.{targets, may_raise, Stands, Reached, TrapsBalance}
+use Rattle.lin_ir.specs.Walks.{Reached, TrapsBalance}
 use Rattle.lin_ir.specs.declared.lin.Flow.{Flow}
 use Rattle.lin_ir.specs.declared.lin.Flow.TheVariants as flow
 use Rattle.lin_ir.specs.declared.lin.LinOp.{LinOp}
@@ -21,78 +20,18 @@ use Rattle.lin_ir.specs.declared.lin.Line.{Line}
 use Rattle.lin_ir.specs.declared.lin.Lin.{Lin}
 use Rattle.lin_ir.specs.declared.lin.Spot.{Spot}
 use Rattle.linear_rules.specs.Keeps.{OneTraps}
-use Rattle.linear_rules.proofs.Homes.{IsIn, is_later, in_of, contains_of}
+use Rattle.linear_rules.proofs.Homes.{IsIn, in_of, contains_of}
 use Rattle.linear_rules.proofs.Lines.{all_of}
-use Rattle.linear_rules.proofs.Marks.{all_in, pairs_here, pairs_later}
-use Rattle.linear_rules.proofs.Walked.{Tail, tail_all, tail_more, tail_next, tail_label, tail_in, tail_stands, stands_tail, reached_tail}
-use Rattle.tidy_rules.specs.Leaving.{bare, LabelsBetween, none_between, label_between}
-use Rattle.tidy_rules.specs.Redirecting.{goes_by, redirected, redirect, GoesOnTo, itself, and_on, ExitsTo, by_exit, Redirects, Tidies, as_it_is, then_leaves, then_redirects}
+use Rattle.linear_rules.proofs.Marks.{all_in}
+use Rattle.linear_rules.proofs.Walked.{tail_label, tail_in, reached_tail}
+use Rattle.tidy_rules.specs.Leaving.{bare}
+use Rattle.tidy_rules.specs.Redirecting.{goes_by, redirected, redirect, GoesOnTo, itself, and_on, ExitsTo, by_exit, Redirects, Tidies, as_it_is, then_leaves, then_redirects, then_turns}
 use Rattle.tidy_rules.specs.Regular.{AtHomes, IsRegular}
-use Rattle.tidy_rules.proofs.Redirecting.{jump_same, exit_was, same_raise, same_labels, same_leaves, same_operands, same_results, T, turned, split, source, source_line, line_was, op_was}
-use Rattle.tidy_rules.proofs.Shape.{compare, spare_free, balance_of, SameShape, leaving_regular, leaving_shape}
-
--- ---- ends of a list
-
-tail_then : {a b zs : List Line} → Tail a b → Tail b zs → Tail a zs
-tail_then s tail_all = s
-tail_then s (tail_more t) = tail_more (tail_then s t)
-
-pub tail_length : {a b : List Line} → Tail a b → length a ≤ length b
-tail_length tail_all = omega arith
-tail_length (tail_more t) = let le = tail_length t in omega (arith, le)
-
-whole_tail : {a b : List Line} → Tail a b → length b ≤ length a → a ≡ b
-whole_tail tail_all le = refl
-whole_tail (tail_more t) le = let more = tail_length t in absurd (omega (arith, le, more))
-
--- ends of one length are the same
-pub same_tail : {a b zs : List Line} → Tail a zs → Tail b zs → length a ≡ length b → a ≡ b
-same_tail {a} {b} s t e = ⊎_elim (λ u. whole_tail u (omega (arith, e))) (λ u. sym (whole_tail u (omega (arith, e)))) (compare s t)
-
-between_tail : {a b : List Line} → LabelsBetween a b → Tail b a
-between_tail none_between = tail_all
-between_tail (label_between p) = tail_more (between_tail p)
-
-past_labels : {l : ℕ} {ls : List ℕ} (ks : List ℕ) → IsIn l ls → IsIn l (ks ++ ls)
-past_labels [] z = z
-past_labels (k ∷ ks) z = is_later (past_labels ks z)
-
--- a label behind a place is one of the code
-later_label : {l : ℕ} {ys zs : List Line} → Tail ys zs → IsIn l (labels_in ys) → IsIn l (labels_in zs)
-later_label tail_all z = z
-later_label (tail_more {j = j} t) z = past_labels (label_of j.op) (later_label t z)
-
-abbrev Differ : ℕ → ℕ → Type 0
-Differ k l = k ≢ l
-
-label_is : (l : ℕ) (f : LinOp) → has_label l f ≡ true → label_of f ≡ l ∷ []
-label_is l (lin.Op f) e = absurd (true≢false (sym e))
-label_is l (lin.Flow (flow.Label k)) e = ap (λ k. k ∷ []) (eqb-true k l e)
-label_is l (lin.Flow (flow.Jump k)) e = absurd (true≢false (sym e))
-label_is l (lin.Flow (flow.Exit k)) e = absurd (true≢false (sym e))
-label_is l (lin.Flow (flow.Branch t k)) e = absurd (true≢false (sym e))
-label_is l (lin.Flow (flow.Switch ls)) e = absurd (true≢false (sym e))
-label_is l (lin.Flow (flow.PushTrap k)) e = absurd (true≢false (sym e))
-label_is l (lin.Flow flow.PopTrap) e = absurd (true≢false (sym e))
-label_is l (lin.Flow flow.EnterTrap) e = absurd (true≢false (sym e))
-
-pairs_past : (ks ls : List ℕ) → AllPairs Differ (ks ++ ls) → AllPairs Differ ls
-pairs_past [] ls h = h
-pairs_past (k ∷ ks) ls h = pairs_past ks ls (pairs_later Differ k (ks ++ ls) h)
-
--- where labels stand once, what is after one is what is after it from any place before it on
-pub later_after : (l : ℕ) {ys zs : List Line} → Tail ys zs → AllPairs Differ (labels_in zs) → IsIn l (labels_in ys) → after_label l zs ≡ after_label l ys
-later_after l tail_all once z = refl
-later_after l {ys} (tail_more {j = j} {zs = zs} t) once z = by (has_label l j.op) refl (later_after l t (pairs_past (label_of j.op) (labels_in zs) once) z)
-  where
-    out : has_label l j.op ≡ true → ⊥
-    out e =
-        let h : AllPairs Differ (l ∷ labels_in zs) = subst (λ ks. AllPairs Differ (ks ++ labels_in zs)) (label_is l j.op e) once in
-        all_in (Differ l) (pairs_here Differ l (labels_in zs) h) (later_label t z) refl
-
-    by : (b : Bool) → has_label l j.op ≡ b → after_label l zs ≡ after_label l ys → cond b zs (after_label l zs) ≡ after_label l ys
-    by true e u = absurd (out e)
-    by false e u = u
+use Rattle.tidy_rules.proofs.Redirecting.{jump_same, same_labels, same_leaves, same_operands, same_results, T, turned, source, source_line, line_was, op_was}
+use Rattle.tidy_rules.proofs.RedirectingDown.{down_turned}
+use Rattle.tidy_rules.proofs.Ends.{tail_then, same_tail, between_tail}
+use Rattle.tidy_rules.proofs.Shape.{spare_free, balance_of, SameShape, leaving_regular}
+use Rattle.tidy_rules.proofs.TurningShape.{turning_regular}
 
 -- ---- forms
 
@@ -219,16 +158,6 @@ module _ (m : Lin) (to : ℕ → ℕ) (exits : ℕ → Option ℕ) (each : (l : 
       stands_on h
       (regular.well.named (bare (flow.Exit out)) (contains_of (tail_in (tail_then (between_tail p) (tail_label last m.code)))) out (goes_to this))
 
-  later_on : {k n : ℕ} {ys : List Line} → Tail ys m.code → GoesOnTo m k n → IsIn k (labels_in ys) → IsIn n (labels_in ys)
-  later_on w itself z = z
-  later_on {ys = ys} w (and_on {k = k} {n = n} {next = next} g p) z =
-      let y = later_on w g z in
-      let same : after_label k m.code ≡ after_label k ys = later_after k w regular.well.labels y in
-      let t : Tail (bare (flow.Jump n) ∷ next) (after_label k m.code) = between_tail p in
-      let u : Tail (bare (flow.Jump n) ∷ next) ys = tail_then (subst (Tail (bare (flow.Jump n) ∷ next)) same t) (tail_label k ys) in
-      later_label (tail_next u) (in_of n (labels_in next)
-      (regular.forward.labels (bare (flow.Jump n)) next (tail_stands (tail_then u w)) refl n (goes_to this)))
-
   -- ---- walks
 
   traps_turned : OneTraps R
@@ -306,58 +235,6 @@ module _ (m : Lin) (to : ℕ → ℕ) (exits : ℕ → Option ℕ) (each : (l : 
         traps = balance_turned;
       }
 
-  -- ---- where lines stand
-
-  record Stood (j : Line) (js is : List Line) : Type 0 where
-    line : Line
-    next : List Line
-    is_line : redirect to exits line ≡ j
-    is_next : L next ≡ js
-    stands : Tail (line ∷ next) is
-
-  stood : {j : Line} {js : List Line} (is xs : List Line) → L is ≡ xs → Tail (j ∷ js) xs → Stood j js is
-  stood {j} {js} is xs e tail_all =
-      let s = split m to exits each out is j js e in
-      record { line = s.line; next = s.next; is_line = s.is_line; is_next = s.is_next; stands = subst (Tail (s.line ∷ s.next)) (sym s.is_code) tail_all }
-  stood {j} {js} is xs e (tail_more {j = k} {zs = zs} t) =
-      let s = split m to exits each out is k zs e in
-      let y = stood s.next zs s.is_next t in
-      record {
-        line = y.line;
-        next = y.next;
-        is_line = y.is_line;
-        is_next = y.is_next;
-        stands = subst (Tail (y.line ∷ y.next)) (sym s.is_code)
-            (tail_more y.stands);
-      }
-
-  forward_label : (i : Line) (next : List Line) → Tail (i ∷ next) m.code → is_exit (redirected to exits i.op) ≡ false → (l : ℕ) →
-      NamesLabel l (redirected to exits i.op) → Contains (labels_in next) l
-  forward_label i next w e l n = by (names_was to exits l i.op n)
-    where
-      labels : (k : ℕ) → NamesLabel k i.op → Contains (labels_in next) k
-      labels k n = regular.forward.labels i next (tail_stands w) (exit_was to exits i.op e) k n
-
-      by : NamedBy to exits l i.op → Contains (labels_in next) l
-      by (as_before n) = labels l n
-      by (goes_on_to {k = k} n u) =
-          subst (Contains (labels_in next)) (sym u) (contains_of (later_on (tail_next w) (each k) (in_of k (labels_in next) (labels k n))))
-      by (exits_to n u x) = absurd (true≢false (sym x ∙ e))
-
-  forward_turned : GoesForward R
-  forward_turned =
-      record {
-        labels = λ j js s e l n.
-            let y = stood m.code R.code refl (stands_tail s) in
-            subst (λ ls. Contains ls l) (sym (labels_turned y.next) ∙ ap labels_in y.is_next)
-            (forward_label y.line y.next y.stands (ap (λ (j : Line). is_exit j.op) y.is_line ∙ e) l
-            (subst (λ (j : Line). NamesLabel l j.op) (sym y.is_line) n));
-        handlers = λ j js l tries r raise.
-            let x = source_line m to exits each out r in
-            subst (λ ls. Contains ls l) (sym (labels_turned x.next) ∙ ap labels_in x.is_next)
-            (regular.forward.handlers x.line x.next l tries x.reached (sym (same_raise to exits x.line.op) ∙ ap (λ (j : Line). may_raise j.op) x.is_line ∙ raise));
-      }
-
   -- a move is not redirected
   move_was : (i : Line) (j : Line) {from to' : Spot} → redirect to exits i ≡ j → IsSelfMove j from to' → IsSelfMove i from to'
   move_was i j e (is_self_move {from = a} {to = b} same) =
@@ -371,7 +248,7 @@ module _ (m : Lin) (to : ℕ → ℕ) (exits : ℕ → Option ℕ) (each : (l : 
         well = well_turned;
         homes = homes_turned;
         traps = traps_turned;
-        forward = forward_turned;
+        down = down_turned m to exits each out regular.down;
         seated = record {
           params = regular.seated.params;
           operands = λ j c. from_line (λ j. AreSeated (lin_operand_seats j.op) (places_of j.args))
@@ -388,10 +265,10 @@ module _ (m : Lin) (to : ℕ → ℕ) (exits : ℕ → Option ℕ) (each : (l : 
   shape_turned : SameShape m R
   shape_turned = record { slots = refl; params = refl; labels = labels_same; lines = omega (arith, lines_same m.code) }
 
-redirecting_regular : {m r : Lin} → Redirects m r → IsRegular m → IsRegular r
+pub redirecting_regular : {m r : Lin} → Redirects m r → IsRegular m → IsRegular r
 redirecting_regular {m} h regular = subst IsRegular (sym h.is) (regular_turned m h.to h.exits h.each h.out regular)
 
-redirecting_shape : {m r : Lin} → Redirects m r → IsRegular m → SameShape m r
+pub redirecting_shape : {m r : Lin} → Redirects m r → IsRegular m → SameShape m r
 redirecting_shape {m} h regular = subst (SameShape m) (sym h.is) (shape_turned m h.to h.exits h.each h.out regular)
 
 -- ---- all
@@ -401,15 +278,4 @@ pub tidied_regular : {m r : Lin} → Tidies m r → IsRegular m → IsRegular r
 tidied_regular as_it_is regular = regular
 tidied_regular (then_leaves t l) regular = leaving_regular l (tidied_regular t regular)
 tidied_regular (then_redirects t l) regular = redirecting_regular l (tidied_regular t regular)
-
-shape_then : {m q r : Lin} → SameShape m q → SameShape q r → SameShape m r
-shape_then x y =
-    let one = x.lines in
-    let two = y.lines in
-    record { slots = y.slots ∙ x.slots; params = y.params ∙ x.params; labels = y.labels ∙ x.labels; lines = omega (arith, one, two) }
-
--- It has the same slots, parameters and labels, and no more lines.
-pub tidied_shape : {m r : Lin} → Tidies m r → IsRegular m → SameShape m r
-tidied_shape as_it_is regular = record { slots = refl; params = refl; labels = refl; lines = omega arith }
-tidied_shape (then_leaves t l) regular = shape_then (tidied_shape t regular) (leaving_shape l)
-tidied_shape (then_redirects t l) regular = shape_then (tidied_shape t regular) (redirecting_shape l (tidied_regular t regular))
+tidied_regular (then_turns t l) regular = turning_regular l (tidied_regular t regular)

@@ -20,10 +20,12 @@ use Rattle.linear_rules.proofs.Walked.{tail_in, stands_tail}
 use Rattle.tidy_rules.specs.Leaving.{is_landing}
 use Rattle.tidy_rules.specs.Redirecting.{Tidies}
 use Rattle.tidy_rules.specs.Regular.{IsRegular, IsTidy}
+use Rattle.tidy_rules.specs.Tidied.{IsTidied}
 use Rattle.tidy_rules.proofs.Keeping.{keeps_tidied, keeps_named}
 use Rattle.tidy_rules.proofs.Leaving.{self_goes}
-use Rattle.tidy_rules.proofs.Shape.{SameShape}
-use Rattle.tidy_rules.proofs.Tidied.{tidied_regular, tidied_shape}
+use Rattle.tidy_rules.proofs.Following.{tidied_tidies}
+use Rattle.tidy_rules.proofs.Sizes.{KeepsShape, tidied_shape}
+use Rattle.tidy_rules.proofs.Tidied.{tidied_regular}
 
 no_landing : (f : LinOp) → passes_frame f ≡ true → is_landing f ≡ false
 no_landing (lin.Op f) e = refl
@@ -55,12 +57,12 @@ pub tidied_keeps : {p : Mach} {m r : Lin} → KeepsReached p m → IsRegular m �
     NamesLives r named → Keeps p r named
 tidied_keeps {p} {m} {r} keeps regular tidies tidy safe named exact =
     let left = tidied_regular tidies regular in
-    keeps_named p r (keeps_tidied keeps tidies) left.well left.traps (points_reached r left tidy) safe named exact
+    keeps_named p r (keeps_tidied keeps regular tidies) left.well left.traps (points_reached r left tidy) safe named exact
 
 -- no location is live as addr after any of its frame points, where that is so of the Mach function
 pub tidied_no_addr : {p : Mach} {m r : Lin} → KeepsReached p m → IsRegular m → Tidies m r → IsTidy r → mach_walks.NoAddrLive p → NoAddrLive r
 tidied_no_addr {p} {m} {r} keeps regular tidies tidy safe =
-    no_addr_live r (points_reached r (tidied_regular tidies regular) tidy) ((keeps_tidied keeps tidies).addrs safe)
+    no_addr_live r (points_reached r (tidied_regular tidies regular) tidy) ((keeps_tidied keeps regular tidies).addrs safe)
 
 -- what holds of a function that was made tidy
 pub record Whole (p : Mach) (m r : Lin) : Type 0 where
@@ -68,16 +70,17 @@ pub record Whole (p : Mach) (m r : Lin) : Type 0 where
   pub keeps : (named : NamedAt) → NamesLives r named → Keeps p r named
   pub tight : IsTight r
   pub no_addr : NoAddrLive r
-  -- it is well formed, goes forward and is seated, and each place is reached with the same traps
+  -- it is well formed, goes down and is seated, and each place is reached with the same traps
   pub regular : IsRegular r
-  pub shape : SameShape m r
+  pub shape : KeepsShape m r
 
-pub tidied_whole : {p : Mach} {m r : Lin} → KeepsReached p m → IsRegular m → Tidies m r → IsTidy r → mach_walks.NoAddrLive p → Whole p m r
-tidied_whole {p} {m} {r} keeps regular tidies tidy safe =
+pub tidied_whole : {p : Mach} {m r : Lin} → KeepsReached p m → IsRegular m → IsTidied m r → mach_walks.NoAddrLive p → Whole p m r
+tidied_whole {p} {m} {r} keeps regular t safe =
+    let tidies : Tidies m r = tidied_tidies regular t in
     record {
-      keeps = λ named exact. tidied_keeps keeps regular tidies tidy safe named exact;
-      tight = tidy_tight r (tidied_regular tidies regular) tidy;
-      no_addr = tidied_no_addr keeps regular tidies tidy safe;
+      keeps = λ named exact. tidied_keeps keeps regular tidies t.tidy safe named exact;
+      tight = tidy_tight r (tidied_regular tidies regular) t.tidy;
+      no_addr = tidied_no_addr keeps regular tidies t.tidy safe;
       regular = tidied_regular tidies regular;
-      shape = tidied_shape tidies regular;
+      shape = tidied_shape t regular;
     }

@@ -10,6 +10,7 @@ use Rattle.lin_ir.specs.declared.lin.Spot.{Spot}
 use Rattle.lin_ir.specs.declared.lin.Line.{Line}
 use Rattle.lin_ir.specs.declared.lin.Lin.{Lin}
 use Rattle.tidy_rules.specs.Leaving.{bare, LabelsBetween, with_code, LeavesOut}
+use Rattle.tidy_rules.specs.Turning.{Turns}
 
 -- what a jump becomes: an exit to the first label, if it is one, and else a jump to the second
 abbrev pub goes_by : Option ℕ → ℕ → Flow
@@ -110,3 +111,4 @@ pub data Tidies (m : Lin) : Lin → Type 0 where
   as_it_is : Tidies m m
   then_leaves : {q r : Lin} → Tidies m q → LeavesOut q r → Tidies m r
   then_redirects : {q r : Lin} → Tidies m q → Redirects q r → Tidies m r
+  then_turns : {q r : Lin} → Tidies m q → Turns q r → Tidies m r

@@ -1,7 +1,7 @@
 -- What each change of the lines keeps, and what holds when all are done.
 use Rattle.std.specs.Prelude.{◌≡◌, ◌≢◌, ℕ, false, List, ◌∷◌, All, Contains}
 use Rattle.bs_words.specs.declared.types.Comp.{Comp}
-use Rattle.lin_ir.specs.Formed.{IsHome, IsSelfMove, Seated, GoesForward, WellFormed}
+use Rattle.lin_ir.specs.Formed.{IsHome, IsSelfMove, Seated, GoesDown, WellFormed}
 use Rattle.lin_ir.specs.Meaning.{after_label}
 use Rattle.lin_ir.specs.Walks.{Stands, Reached, Live}
 use Rattle.lin_ir.specs.declared.lin.Flow.TheVariants as flow
@@ -19,7 +19,7 @@ pub record IsRegular (m : Lin) : Type 0 where
   -- every location is a colour or a slot: t0 does not occur
   pub homes : All (λ (i : Line). AtHomes m i.args × AtHomes m i.results) m.code
   pub traps : OneTraps m
-  pub forward : GoesForward m
+  pub down : GoesDown m
   pub seated : Seated m
   -- a move of a location to itself changes the component
   pub changes : (i : Line) → Contains m.code i → (from to : Spot) → IsSelfMove i from to →

@@ -22,8 +22,9 @@ pub record Head : Type 0 where
   pub to : ℕ
   pub on : ℕ
 
--- What an exit to a branch becomes: it goes to a label right after it, where the test of that branch
--- stands again. Either the test keeps its label, and the other way is a jump, or the other way round.
+-- What an exit to a branch becomes: it goes to a label right after it, where the test of that
+-- branch stands again. Either the test keeps its label, and the other way is a jump, or the other
+-- way round.
 pub record Turn : Type 0 where
   pub here : ℕ
   pub head : Head
@@ -113,8 +114,8 @@ abbrev pub stands_first : ℕ → List Line → Bool
 stands_first l [] = false
 stands_first l (i ∷ next) = has_label l i.op || (goes_away i.op && comes_first l next)
 
--- The branch to which an exit before this code leads, but not where it stands there already: right after
--- the label that comes next.
+-- The branch to which an exit before this code leads, but not where it stands there already: right
+-- after the label that comes next.
 abbrev pub exit_head : Lin → ℕ → LinOp → (args results : List Spot) → List Line → Option Head
 exit_head m free (lin.Flow (flow.Exit l)) [] [] next =
     cond (stands_first l next) None (head_at free (after_label l m.code))

@@ -1,0 +1,53 @@
+//! Exits that have no words.
+ghost use Rattle.std.specs.Prelude.{◌≡◌};
+ghost use Rattle.lin_ir.specs.Meaning.{has_label};
+ghost use Rattle.emit_rules.specs.Units.{is_branch, tests_first, falls_to, is_free};
+
+use lin_ir::{Flow, LinOp, Line};
+use mach_ir::Label;
+
+fn is_branch(op: &LinOp) -> bool
+    ensures { result ≡ is_branch op.now }
+{
+    matches!(op, LinOp::Flow(Flow::Branch { .. }))
+}
+
+fn has_label(op: &LinOp, wanted: Label) -> bool
+    ensures { result ≡ has_label wanted op.now }
+{
+    match op {
+        LinOp::Flow(Flow::Label(label)) => *label == wanted,
+        _ => false,
+    }
+}
+
+/// Whether a branch comes first.
+fn tests_first(code: &[Line]) -> bool
+    ensures { result ≡ tests_first code.now }
+{
+    match code.first() {
+        Some(line) => is_branch(&line.op),
+        None => false,
+    }
+}
+
+/// Whether the label comes first, and right after it a branch.
+fn falls_to(label: Label, code: &[Line]) -> bool
+    ensures { result ≡ falls_to label code.now }
+{
+    match code.split_first() {
+        Some((line, next)) => has_label(&line.op, label) && tests_first(next),
+        None => false,
+    }
+}
+
+/// Whether an operation, before this code, is an exit that needs no words: the branch to which it
+/// goes comes next, and answers for its unit.
+pub fn is_free(op: &LinOp, next: &[Line]) -> bool
+    ensures { result ≡ is_free op.now next.now }
+{
+    match op {
+        LinOp::Flow(Flow::Exit(label)) => falls_to(*label, next),
+        _ => false,
+    }
+}
