@@ -10,9 +10,10 @@ use crate::use_of_lines::{useless_lines, useless_lines_left};
 use lin_ir::Lin;
 use std::alloc::{AllocError, Global};
 
-/// The function made tidy: its jumps go at once where others lead, each exit to a branch has the
-/// branch after it again, each line that is left is reached by some walk, each move of a location to itself is read later, and no jump leads to where control
-/// comes without it. Labels and the entries of handlers stay.
+/// The function made tidy: its jumps go at once where others lead, a branch stands again right after
+/// each exit that leads to it, each line that is left is reached by some walk, each move of a location
+/// to itself is read later, and no jump leads to where control comes without it. Labels and the
+/// entries of handlers stay.
 ///
 /// Each location has to be a register of the machine or one of the function's slots. Walks are
 /// searched once. When lines went, walks still come to the others, so they are searched again only

@@ -67,7 +67,8 @@ struct Head {
     on: Label,
 }
 
-/// What an exit to a branch becomes: it goes to a label right after it, where the test stands again.
+/// What an exit to a branch becomes: it goes to a label right after it, where the test stands
+/// again.
 #[derive(Drop)]
 struct Turn {
     here: Label,
@@ -79,7 +80,8 @@ struct Turn {
 
 /// The branch that the line is, if it is one.
 fn head_by(line: &Line, on: Label) -> Result<Option<Head>, AllocError>
-    ensures { IfOk result (λ head. (free : ℕ) (next : List Line) → on ≡ label_on free (length next) →
+    ensures { IfOk result (λ head. (free : ℕ) (next : List Line) →
+        on ≡ label_on free (length next) →
         option_map head_view head ≡ head_by free line.now.op line.now.args line.now.results next) }
 {
     if !line.results.is_empty() {
@@ -156,13 +158,14 @@ fn stands_first(label: Label, code: &[Line], place: u32) -> bool
     comes_first(label, code, place)
 }
 
-/// The branch to which the line at the place leads, if it is an exit to one that does not stand there
-/// already.
+/// The branch to which the line at the place leads, if it is an exit to one that does not stand
+/// there already.
 fn exit_head(lin: &Lin, labels: &Labels, free: u32, place: u32) -> Result<Option<Head>, AllocError>
     requires place { place < length lin.now.code }
     requires small { length lin.now.code < 2 ^ 32 }
     requires labels { AreLabelsOf lin.now labels.now }
-    ensures { IfOk result (λ head. (i : Line) (next : List Line) → drop place lin.now.code ≡ i ∷ next →
+    ensures { IfOk result (λ head. (i : Line) (next : List Line) →
+        drop place lin.now.code ≡ i ∷ next →
         option_map head_view head ≡ exit_head lin.now free i.op i.args i.results next) }
 {
     let code = lin.code.as_slice();
@@ -177,13 +180,14 @@ fn exit_head(lin: &Lin, labels: &Labels, free: u32, place: u32) -> Result<Option
     }
 }
 
-/// What the line at the place becomes, if it is an exit to a branch. The label of the branch is kept
-/// where it stands before the exit.
+/// What the line at the place becomes, if it is an exit to a branch. The label of the branch is
+/// kept where it stands before the exit.
 fn line_turn(lin: &Lin, labels: &Labels, free: u32, place: u32) -> Result<Option<Turn>, AllocError>
     requires place { place < length lin.now.code }
     requires small { length lin.now.code < 2 ^ 32 }
     requires labels { AreLabelsOf lin.now labels.now }
-    ensures { IfOk result (λ turn. (i : Line) (next : List Line) → drop place lin.now.code ≡ i ∷ next →
+    ensures { IfOk result (λ turn. (i : Line) (next : List Line) →
+        drop place lin.now.code ≡ i ∷ next →
         option_map turn_view turn ≡ line_turn lin.now free i next) }
 {
     match exit_head(lin, labels, free, place)? {
@@ -288,7 +292,8 @@ impl Changes {
 
     /// The label that is put after the line before all others.
     fn label_put(&self, free: u32) -> Result<Option<Label>, AllocError>
-        ensures { IfOk result (λ label. label ≡ opened_in self.now free (length (turns_in self.now))) }
+        ensures { IfOk result (λ label.
+            label ≡ opened_in self.now free (length (turns_in self.now))) }
     {
         let after = number_after(self.turns.len())?;
         let label = label_on(free, after)?;
@@ -301,7 +306,8 @@ impl Changes {
 
     /// The lines of the function, changed.
     fn change(mut self, alloc: Global, free: u32, code: Seq<Line>) -> Result<Seq<Line>, AllocError>
-        ensures { IfOk result (λ turned. turned ≡ turned_by (opened_in self free) (turns_in self) code) }
+        ensures { IfOk result (λ turned.
+            turned ≡ turned_by (opened_in self free) (turns_in self) code) }
     {
         let mut turned = Vec::with_capacity(alloc, code.len().saturating_add(self.new_lines))?;
         for line in code.into_vec() {
@@ -381,8 +387,9 @@ fn push_turned(
     }
 }
 
-/// The function in which each exit that leads to a branch goes to a label right after it, where that
-/// branch stands again. So a turn of a loop ends with its test, and not with a jump to it.
+/// The function in which each exit that leads to a branch goes to a label right after it, where
+/// that branch stands again. So a turn of a loop ends with its test, and not with a jump to it.
+/// An exit that stands right before its branch is left as it is.
 ///
 /// Labels and lines that a number cannot count are want of memory.
 pub fn turn_loops(alloc: Global, lin: Lin) -> Result<Lin, AllocError>

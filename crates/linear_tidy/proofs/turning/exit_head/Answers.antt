@@ -25,7 +25,8 @@ returns-then-stands_first c =
     (c.index-code-place.is ∙ ap (λ (xs : List Line). get_or xs c.args.place j) c.as_slice-code.ensures)
     (sym (exit_there c.args.lin.now c.args.free l j next c.exit_of.result c.exit_of.ensures c.in-Some.is
     ∙ ap (λ b. cond b None (head_at c.args.free (after_label l code)))
-    (sym (ap (λ (xs : List Line). stands_first l (drop (c.args.place + 1) xs)) c.as_slice-code.ensures) ∙ sym c.stands_first.ensures ∙ c.if-stands_first.true)))
+    (sym (ap (λ (xs : List Line). stands_first l (drop (c.args.place + 1) xs)) c.as_slice-code.ensures)
+    ∙ sym c.stands_first.ensures ∙ c.if-stands_first.true)))
 
 pub returns-else-stands_first : goal.returns-else-stands_first
 returns-else-stands_first c =
@@ -34,7 +35,8 @@ returns-else-stands_first c =
     let l = c.in-Some.label in
     let next = drop (c.args.place + 1) m.code in
     if_ok (λ head. option_map head_view head ≡ head_at c.args.free (drop c.place_of.result m.code))
-    (λ head. (i : Line) (next : List Line) → drop c.args.place m.code ≡ i ∷ next → option_map head_view head ≡ exit_head m c.args.free i.op i.args i.results next)
+    (λ head. (i : Line) (next : List Line) → drop c.args.place m.code ≡ i ∷ next →
+    option_map head_view head ≡ exit_head m c.args.free i.op i.args i.results next)
     c.head_at.result
     (λ head h.
     at_line (λ i next. option_map head_view head ≡ exit_head m c.args.free i.op i.args i.results next) m.code c.args.place j c.requires.place
@@ -42,5 +44,6 @@ returns-else-stands_first c =
     (h ∙ ap (head_at c.args.free) (after_place m c.args.labels.now l c.place_of.result c.requires.labels c.place_of.ensures)
     ∙ sym (exit_there m c.args.free l j next c.exit_of.result c.exit_of.ensures c.in-Some.is
     ∙ ap (λ b. cond b None (head_at c.args.free (after_label l m.code)))
-    (sym (ap (λ (xs : List Line). stands_first l (drop (c.args.place + 1) xs)) c.as_slice-code.ensures) ∙ sym c.stands_first.ensures ∙ c.if-stands_first.false))))
+    (sym (ap (λ (xs : List Line). stands_first l (drop (c.args.place + 1) xs)) c.as_slice-code.ensures)
+    ∙ sym c.stands_first.ensures ∙ c.if-stands_first.false))))
     c.head_at.ensures

@@ -17,7 +17,8 @@ returns c =
     let lt : k < length code = omega (arith, all, out) in
     let at : i ≡ get_or code k i = c.index-as_slice-place.is ∙ ap (λ (xs : List Line). get_or xs k i) c.as_slice.ensures in
     let here = drop_line code k i lt at in
-    if_ok (λ head. (free : ℕ) (next : List Line) → c.in_ok-on.on ≡ label_on free (length next) → option_map head_view head ≡ head_by free i.op i.args i.results next)
+    if_ok (λ head. (free : ℕ) (next : List Line) →
+    c.in_ok-on.on ≡ label_on free (length next) → option_map head_view head ≡ head_by free i.op i.args i.results next)
     (λ head. option_map head_view head ≡ head_at c.args.free (drop k code)) c.head_by.result
     (λ head h.
     h c.args.free (drop (k + 1) code) (c.in_ok-on.ensures ∙ ap (label_on c.args.free) (c.lines_after.ensures i (drop (k + 1) code) here))

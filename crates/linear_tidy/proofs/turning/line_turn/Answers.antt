@@ -10,7 +10,8 @@ returns-in_ok-here-in-Some c = λ i next e.
     let m = c.args.lin.now in
     let head = head_view c.in-Some.head in
     let turn : ℕ → Bool → Turn = λ here keeps. record { here = here; head = head; keeps = keeps } in
-    let told : Some head ≡ exit_head m c.args.free i.op i.args i.results next = sym (ap (option_map head_view) c.in-Some.is) ∙ c.in_ok-exit_head.ensures i next e in
+    let told : Some head ≡ exit_head m c.args.free i.op i.args i.results next =
+    sym (ap (option_map head_view) c.in-Some.is) ∙ c.in_ok-exit_head.ensures i next e in
     ap (λ here. Some (turn here (nat_le c.place_of.result (c.args.place + 1))))
     (c.in_ok-here-in-Some.ensures ∙ ap (label_here c.args.free) (c.lines_after.ensures i next e))
     ∙ ap (λ keeps. Some (turn (label_here c.args.free (length next)) keeps))

@@ -8,7 +8,8 @@ use Rattle.linear_tidy.proofs.turning.push_turned.Goals as goal
 
 pub returns-in-Some : goal.returns-in-Some
 returns-in-Some c =
-    if_ok (λ _. (label : Option ℕ) (line : Line) → c.push_turn.new.code.items ≡ c.args.code.now.items ++ turned_line (Some (turn_view c.in-Some.turn)) label line)
+    if_ok (λ _. (label : Option ℕ) (line : Line) →
+    c.push_turn.new.code.items ≡ c.args.code.now.items ++ turned_line (Some (turn_view c.in-Some.turn)) label line)
     (λ _. c.push_turn.new.code.items ≡ c.args.code.now.items ++ turned_line (option_map turn_view c.args.turn) c.args.label c.args.line)
     c.push_turn.result
     (λ _ h.
