@@ -8,8 +8,8 @@ use Rattle.lin_ir.specs.declared.lin.Line.{Line}
 use Rattle.linear_machine.specs.Relation.{Laid}
 use Rattle.linking.specs.Pace.{Words}
 
--- Control comes back to a place only by an exit. The parts of the lines lie one after the other, from
--- the entry on, and the whole is no longer than the code of all functions.
+-- Control comes back to a place only by an exit. The parts of the lines lie one after the other,
+-- from the entry on, and the whole is no longer than the code of all functions.
 pub record LiesForward (m : Lin) (laid : Laid) (entry words : ℕ) : Type 0 where
   pub down : GoesDown m
   -- the fewer lines are left, the later is the place
@@ -17,8 +17,8 @@ pub record LiesForward (m : Lin) (laid : Laid) (entry words : ℕ) : Type 0 wher
   pub begins : entry ≤ laid.part (length m.code)
   pub ends : laid.part 0 ≤ entry + words
 
--- A step that is no exit leads to a place of less rank: of less order, or, after a label, with fewer
--- lines left.
+-- A step that is no exit leads to a place of less rank: of less order, or, after a label, with
+-- fewer lines left.
 abbrev pub rank : Lin → (order : ℕ → ℕ) → ℕ → ℕ
 rank m order k = suc (length m.code) * order k + k
 
@@ -35,8 +35,8 @@ first_part laid [] = 0
 first_part laid (i ∷ next) = laid.part (length next) - laid.part (suc (length next))
 
 -- A step takes the words of its line's part; before the first step there are those of the entry. Up
--- to the next unit there are at most those of all lines of no greater rank. A branch answers for the
--- unit of an exit that has no words.
+-- to the next unit there are at most those of all lines of no greater rank. A branch answers for
+-- the unit of an exit that has no words.
 abbrev pub words_of : (ℕ → Lin) → (ℕ → Laid) → (entry : ℕ → ℕ) → (orders : ℕ → ℕ → ℕ) →
     Words State
 words_of lins laid entry orders = record {

@@ -1,8 +1,8 @@
 -- Exits that have no words.
 --
--- An exit counts a unit. Where it goes to the label right after it, and a branch stands there, control
--- comes to that branch without it. The branch has an instruction whichever way it goes, and so is one
--- for the exit's unit too.
+-- An exit counts a unit. Where it goes to the label right after it, and a branch stands there,
+-- control comes there without an instruction. The branch takes one whichever way it goes, and that
+-- one stands for the unit.
 use Rattle.std.specs.Prelude.{ℕ, Bool, true, false, cond, ◌&&◌, List, [], ◌∷◌}
 use Rattle.lin_ir.specs.Meaning.{has_label}
 use Rattle.lin_ir.specs.declared.lin.Flow.TheVariants as flow
@@ -29,6 +29,7 @@ abbrev pub is_free : LinOp → List Line → Bool
 is_free (lin.Flow (flow.Exit l)) next = falls_to l next
 is_free _ next = false
 
--- The units that may have been counted before this code without an instruction of their own.
+-- The units that may have been counted before this code, at the most, without an instruction of
+-- their own.
 abbrev pub owed_before : List Line → ℕ
 owed_before code = cond (tests_first code) 1 0

@@ -23,8 +23,8 @@ use Rattle.rv_machine.specs.Memory.{code_start}
 abbrev pub entry_place : Tables → ℕ → ℕ
 entry_place image f = (function_at image.funcs f - code_start) / 4
 
--- A line to which a walk comes, and which is no exit without words, where these traps are pushed, with
--- its descriptor if it has one.
+-- A line to which a walk comes, and which is no exit without words, where these traps are pushed,
+-- with its descriptor if it has one.
 pub record LineAt (s : Fixed) (laid : Laid) (n : Named) (m : Lin) (c : Setting) (named : NamedAt)
     (tries : List ℕ) (i : Line) (next : List Line) : Type 0 where
   pub descr : Option Descr

@@ -91,8 +91,8 @@ leave_at_end [] = false
 leave_at_end (p ∷ []) = leaves p
 leave_at_end (p ∷ q ∷ ps) = not (jumps p) && leave_at_end (q ∷ ps)
 
--- After the branch of a bound test stands its raising path, to the end of the part. So nothing that is
--- written there comes to the next line.
+-- After the branch of a bound test stands its raising path, to the end of the part. So nothing that
+-- is written there comes to the next line.
 abbrev pub RaisesBehind : LinOp → List Piece → Type 0
 RaisesBehind (lin.Op (op.Leaving (leaving.Checkbound r))) part =
     leave_at_end (behind_branch part) ≡ true

@@ -172,8 +172,8 @@ is_label (lin.Flow (flow.Label l)) = true
 is_label _ = false
 
 -- A number for each place, by the lines that are left, which each step of a walk lowers that is no
--- exit; a label, which has no instruction, need not lower it. So control comes back to a place only by
--- an exit, which is a unit.
+-- exit; a label, which has no instruction, need only not raise it. So control comes back to a place
+-- only by an exit, which is a unit.
 pub record GoesDown (m : Lin) : Type 0 where
   pub order : ℕ → ℕ
   pub labels : (i : Line) (next : List Line) (tries : List ℕ) → Reached m (i ∷ next) tries →

@@ -58,16 +58,16 @@ pub record IsLinearOf (p : Mach) (r : Lin) : Type 0 where
   -- stuck; and no location of it is live as addr after a frame point.
   pub keeps : mach_walks.NoAddrLive p → (named : NamedAt) → NamesLives r named → Keeps p r named
   pub no_addr : mach_walks.NoAddrLive p → NoAddrLive r
-  -- Each line but labels and entries of handlers is reached by some walk, each move of a location to
-  -- itself is for its type, and no jump leads to where control comes without it.
+  -- Each line but labels and entries of handlers is reached by some walk, each move of a location
+  -- to itself is for its type, and no jump leads to where control comes without it.
   pub tidy : IsTidy r
   pub tight : IsTight r
   -- It is well formed and seated; control comes back to a place only by an exit; t0 does not occur;
   -- every walk reaches a place with the same pushed traps.
   pub regular : IsRegular r
   pub slots : OneForEach p r.slots
-  -- The labels of the Mach function stand in it, and at most one more for each instruction: where loops
-  -- are turned round there are others.
+  -- The labels of the Mach function stand in it, and at most one more for each instruction: where
+  -- loops are turned round there are others.
   pub labels : (l : ℕ) → Contains (mach_formed.labels_in p.code) l → Contains (labels_in r.code) l
   pub labels_few : length (labels_in r.code) ≤
       length (mach_formed.labels_in p.code) + length p.code

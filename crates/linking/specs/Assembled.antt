@@ -29,7 +29,7 @@ use Rattle.linking.specs.Carries.{Outer, Comes, Near, Carries}
 
 -- ---- where a run begins and ends
 
--- The stub: two instructions behind the return, or the raise, of the entry the run is over.
+-- The stub: two instructions after the return, or the raise, of the entry the run is over.
 pub record IsStub (X : Type 0) (next : X → X) (see : X → Seen) (stack heap : ℕ) (layout : Layout)
     (end : ℕ) (result : Ret) (Back : Doing → Outer → X → Type 0) : Type 0 where
   pub returned : (v : Option Value) (memory : Memory) (o : Outer) (x : X) →

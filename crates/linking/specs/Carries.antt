@@ -1,5 +1,5 @@
--- A machine that carries out a program. Its states only stand for those of the program: how, is told
--- by predicates, which may hide where blocks lie, and when the mover asks.
+-- A machine that carries out a program. Its states only stand for those of the program: how, is
+-- told by predicates, which may hide where blocks lie, and when the mover asks.
 use Rattle.std.specs.Prelude.{◌≡◌, ℕ, suc, ◌+◌, ◌-◌, ◌*◌, ◌≤◌, ◌<◌, ◌⊎◌, List, Some}
 use Rattle.bs_words.specs.Memory.{Memory, heap_need}
 use Rattle.bs_words.specs.Observed.{Made}
@@ -72,7 +72,7 @@ module _ (S : Type 0) (p : Program S) (w : Words S) (file : FileTree) (layout : 
   IsAfter a f below (FinishesRaising d) o x = Back a d o x
   IsAfter a f below IsStuck o x = Unit {0}
 
-  -- A callee begins above its caller, and whatever it does, the caller goes on behind it.
+  -- A callee begins above its caller, and whatever it does, the caller goes on after it.
   pub record CarriesCall (most : ℕ) (f below : ℕ) (a : Below) (callee : ℕ) (call : Asked)
       (go : Doing → Step S) (o : Outer) (x : X) : Type 0 where
     pub above : Below

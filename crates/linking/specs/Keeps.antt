@@ -30,9 +30,9 @@ module _ (S : Type 0) (p : Program S) where
     asks : {u : World} {call asked : Asked} {t : Tally} → call ≡ asked →
         EndsAs (Stops (Asking asked) u) (run.Asking call t)
 
-  -- A run of a function of a program, beside the evaluation of the function of the text alone with n
-  -- units: the same calls and the same end, no more stack, no more units and not too few, where the
-  -- text pays at most so many between two of the program's.
+  -- A run of a function of a program, beside the evaluation of the function of the text alone with
+  -- n units: the same calls and the same end, no more stack, no more units and not too few, where
+  -- the text pays at most so many between two of the program's.
   pub record Same (most n : ℕ) (e : Evaluation) (r : Run S) : Type 0 where
     pub calls : (tally_of r).asked ≡ (world_of e).asked
     pub no_more : (tally_of r).units + (pending e + (world_of e).left) ≤ n

@@ -1,5 +1,5 @@
--- Code that only goes forward between two units: then it takes no more instructions there than it
--- has words.
+-- How many instructions a program takes between two units: each step has less ahead of it than the
+-- one before, and so no more are taken than it has words.
 use Rattle.std.specs.Prelude.{◌≡◌, ℕ, ◌+◌, ◌-◌, ◌≤◌, List, Some}
 use Rattle.bs_words.specs.Memory.{Memory}
 use Rattle.bs_words.specs.declared.values.Value.{Value}
@@ -15,12 +15,12 @@ pub record Words (S : Type 0) : Type 0 where
   pub entry : ℕ → ℕ
   -- how many it may still take up to the next unit
   pub ahead : ℕ → S → ℕ
-  -- how many units have been counted before without an instruction of their own: its step answers
-  -- for them
+  -- how many units may have been counted before, at the most, without an instruction of their own:
+  -- its step answers for them
   pub owed : ℕ → S → ℕ
 
 module _ (S : Type 0) (words : ℕ) (ahead : S → ℕ) where
-  -- behind a call of a function all words may come again, behind an external one those that are left
+  -- after a call of a function all words may come again, after an external one those that are left
   abbrev pub left_behind : Callee → ℕ → ℕ
   left_behind (Inside f) left = words
   left_behind (Outside row frame) left = left
@@ -37,7 +37,7 @@ module _ (S : Type 0) (words : ℕ) (ahead : S → ℕ) where
   StepForward left (FinishesRaising d) = Unit {0}
   StepForward left IsStuck = Unit {0}
 
--- where a step may lead, at once or behind calls
+-- where a step may lead, at once or after calls
 pub data LeadsTo (S : Type 0) (u : S) : Step S → Type 0 where
   continues : LeadsTo S u (Continues u)
   pays : LeadsTo S u (Pays u)
@@ -50,8 +50,8 @@ pub data IsReached (S : Type 0) (p : Program S) (f : ℕ) (c : Place) : S → Ty
       p.start f c arguments memory ≡ Some s → IsReached S p f c s
   by_step : {s u : S} → IsReached S p f c s → LeadsTo S u (p.step f c s) → IsReached S p f c u
 
--- From every state that a run comes to control goes forward, but by a unit: the words that are still
--- ahead are those of the step and those ahead of where it leads.
+-- From every state that a run comes to control goes forward, but by a unit: the words that are
+-- still ahead are at least those of the step and those ahead of where it leads.
 pub record GoesForward (S : Type 0) (p : Program S) (w : Words S) (words : ℕ) : Type 0 where
   pub enter : (f : ℕ) (c : Place) (arguments : List Value) (memory : Memory) (s : S) →
       p.start f c arguments memory ≡ Some s → w.entry f + w.ahead f s ≤ words

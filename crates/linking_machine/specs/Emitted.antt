@@ -53,8 +53,8 @@ service_of (Waits call go) = service_in call.callee
 service_of _ = 0
 
 -- The machine follows a step from a view, in at most so many instructions, where the function has
--- so many bytes of the stack in use. Where a unit is owed, the step is that of a branch, which takes
--- an instruction.
+-- so many bytes of the stack in use. Where a unit is owed, the step is that of a branch, which
+-- takes an instruction.
 pub record FollowsLine (owed most : ℕ) (s : Fixed) (laid : Laid) (live : List Line → Type 0)
     (entry : ℕ → ℕ) (c : Below) (v : View) (used : ℕ) (x : Step State) : Type 0 where
   pub words : ℕ
@@ -73,8 +73,8 @@ pub record BeginsFree (laid : Laid) (m : Lin) (live : List Line → Type 0) (cod
 
 -- ---- an image
 
--- Entries lie where the rows say, and take their arguments in registers; the data stands in the first
--- memory of a run.
+-- Entries lie where the rows say, and take their arguments in registers; the data stands in the
+-- first memory of a run.
 pub record AreEntries (file : FileTree) (image : Tables) (entry : ℕ → ℕ) : Type 0 where
   pub places : (f : ℕ) (row : Func) → slice_get image.funcs f ≡ Some row →
       row.offset ≡ 4 * entry f

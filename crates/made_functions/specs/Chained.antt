@@ -22,7 +22,7 @@ pub record IsChained (tree : FunctionTree) (m : Lin) (ds : List Descr) (pieces :
   where
     -- with exact names it does what is selected of the text's function, and never reads poison
     pub keeps : (named : NamedAt) → NamesLives m named → Keeps (selected tree) m named
-    -- well formed and seated, control goes forward but for exits, t0 does not occur
+    -- well formed and seated, control comes back to a place only by an exit, t0 does not occur
     pub regular : IsRegular m
     pub tidy : IsTidy m
     pub tight : IsTight m

@@ -13,8 +13,8 @@ use Rattle.tidy_rules.specs.Turning.{turned_all}
 use Rattle.tidy_rules.specs.Regular.{IsReadBehind, IsTidy}
 
 -- In the first function jumps go at once where others lead, then loops are turned round, and then
--- lines that have no use are left out until there is none. One function comes of it, whichever lines
--- go first.
+-- lines that have no use are left out until there is none. One function comes of it, whichever
+-- lines go first.
 pub record IsTidied (m r : Lin) : Type 0 where
   pub leaves : LeavesOften (turned_all (redirected_all m)) r
   pub tidy : IsTidy r

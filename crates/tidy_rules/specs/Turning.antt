@@ -62,7 +62,7 @@ pub record ExitsToBranch (m : Lin) (opens : ℕ → Option ℕ) (i : Line) (h : 
   pub leads : after_label label m.code ≡ branch_line h.test h.to h.args ∷ rest
   pub opened : opens (length rest) ≡ Some h.on
 
--- the second function is the first with some exits turned into tests
+-- the second function is the first with the branch repeated after some exits that lead to it
 pub record Turns (m r : Lin) : Type 0 where
   pub turns : ℕ → Option Turn
   pub opens : ℕ → Option ℕ
@@ -120,7 +120,8 @@ exit_head m free (lin.Flow (flow.Exit l)) [] [] next =
     cond (stands_first l next) None (head_at free (after_label l m.code))
 exit_head m free _ args results next = None
 
--- The label of the branch is kept where it stands before the exit: there the loop goes on.
+-- The label of the branch is kept where it stands before the exit: there, most often, the loop goes
+-- on.
 abbrev pub turn_for : Lin → ℕ → List Line → Option Head → Option Turn
 turn_for m free next None = None
 turn_for m free next (Some h) = Some (record {
