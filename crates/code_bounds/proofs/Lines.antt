@@ -125,12 +125,12 @@ branch_short : (t : ℕ) (f : Test) (l : ℕ) (args : List Spot) → words_at_mo
 branch_short t f l args =
     let a = register_of T1 (first args) in
     let last = test_branch f args a l ∷ [] in
-    let whole = words-join (fetched t T1 (first args)) (test_words t f args ++ last) in
-    let after = words-join (test_words t f args) last in
+    let whole = words-join (fetched t T1 (first args) ++ test_words t f args) last in
+    let before = words-join (fetched t T1 (first args)) (test_words t f args) in
     let fetch = fetched_short t T1 (first args) in
     let tested = test_short t f args in
     let one = one_branch f args a l in
-    omega (arith, whole, after, fetch, tested, one)
+    omega (arith, whole, before, fetch, tested, one)
 
 -- ---- lines
 

@@ -165,7 +165,7 @@ without_no_larger goes (i ∷ next) = by (goes (length next)) (without_no_larger
 
 often_no_larger : {q r : Lin} → LeavesOften q r → NoLarger r.code q.code
 often_no_larger not_once = record { words = omega arith; points = omega arith }
-often_no_larger {q} (once_more {r = p} way l) =
+often_no_larger {q} (once_more {q = p} way l) =
     subst (λ (r : Lin). NoLarger r.code q.code) (sym l.is) (no_larger_then (without_no_larger l.goes p.code) (often_no_larger way))
 
 -- a jump and an exit are as many words, and either may be turned
@@ -266,7 +266,7 @@ tidied_fits {m} regular h =
     let turns : Turns (redirected_all m) (turned_all (redirected_all m)) = turns_all (redirecting_regular (redirects_all m) regular).well in
     fits_then (often_no_larger h.leaves) (fits_redirected (last_label m) (last_exit m) (turning_fits turns))
 
--- ---- all three
+-- ---- whole
 
 -- of a Mach function that was lowered and tidied
 module _ (q : Mach) (r : Lin) (regular : IsRegular (lowered q)) (t : IsTidied (lowered q) r) where
