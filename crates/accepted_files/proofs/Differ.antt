@@ -45,7 +45,7 @@ module _ (file : FileTree) (typed : (told : Fault) → TypeFault file told → �
       by None e = refl
       by (Some earlier) e = absurd (typed _ (repeated_symbol before behind s earlier whole e))
 
-  -- none of these is defined before, nor is one that stands behind others
+  -- none of these is defined before, nor is one that stands after others
   all_new : (before behind : List DefinedSymbol) → symbols file ≡ before ++ behind → AllByRecursion (λ (s : DefinedSymbol). definition_of before s.name ≡ None) behind
   all_new before [] whole = tt
   all_new before (s ∷ behind) whole = (
@@ -138,7 +138,7 @@ each_apart (f ∷ fs) xs ys apart front =
     tails [] front = tt
     tails (x ∷ xs) front = (front.0.1, tails xs front.1)
 
--- each of these differs from all behind them
+-- each of these differs from all after them
 each_behind : (xs rest : List (List ℕ)) → AllDiffer (xs ++ rest) → AllByRecursion (λ x. AllByRecursion (λ y. x ≢ y) rest) xs
 each_behind [] rest differ = tt
 each_behind (x ∷ xs) rest differ = (all_back (λ y. x ≢ y) xs rest differ.0, each_behind xs rest differ.1)

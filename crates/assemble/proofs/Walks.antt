@@ -114,7 +114,7 @@ rows_more s i p q f fs own ks entry entry' rows rows' all at e d g k so_far =
     ∙ (append_assoc rows (mine ∷ []) (rows_from (entry + total_words p.code own) fs ps others)
     ∙ (ap₂ (λ (x : List Pieces) (y : List (List Form)). rows ++ rows_from entry (f ∷ fs) x y) (sym at.pieces) (sym at.forms) ∙ so_far))
 
--- behind the last function
+-- after the last function
 pub code_all : (s : Source) (i entry : ℕ) (words all : List ℕ) → length s.pieces.now ≤ i →
     words ++ code_from (tree_of s) (entries_of s) entry (drop i s.pieces.now) (drop i (forms_in s.places.now)) ≡ all → words ≡ all
 code_all s i entry words all h so_far =

@@ -14,7 +14,7 @@ size_of p = weight_of p.code
 abbrev pub forms_in : Places → List (List Form)
 forms_in places = map (λ own. own.items) places.forms.items
 
--- These are the places of functions that are these pieces, which stand behind the stub in order.
+-- These are the places of functions that are these pieces, which stand after the stub in order.
 pub record ArePlaces (ps : List Pieces) (places : Places) : Type 0 where
   pub forms : AreAllForms ps (forms_in places)
   pub entries : places.entries.items ≡ entries_from stub_words ps (forms_in places)

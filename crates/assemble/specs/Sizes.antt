@@ -9,7 +9,7 @@ use Rattle.rv_pieces.specs.declared.piece.Piece.{Piece}
 use Rattle.rv_pieces.specs.declared.piece.Piece.TheVariants.{Descriptor}
 use Rattle.rv_pieces.specs.declared.piece.Pieces.{Pieces}
 
--- of a function: its name behind 2 bytes, its types behind 1, three numbers of 4, and its result
+-- of a function: its name after 2 bytes, its types after 1, three numbers of 4, and its result
 abbrev pub item_size : Item → ℕ
 item_size (item.Function f) = 16 + length f.name + length (contents f.params)
 item_size (item.Data d) = 0

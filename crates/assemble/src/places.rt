@@ -37,7 +37,7 @@ pub fn total_words(code: &[Piece], forms: &[Form]) -> u64
 }
 
 impl Places {
-    /// The places of functions that stand behind the stub, in order.
+    /// The places of functions that stand after the stub, in order.
     pub fn of(alloc: Global, pieces: &[Pieces]) -> Result<Places, AllocError>
         requires { sum_by size_of pieces.now < 2 ^ 48 }
         ensures { IfOk result (ArePlaces pieces.now) }

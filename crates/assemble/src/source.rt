@@ -28,7 +28,7 @@ pub struct Source<'a, 'b> {
     pub places: &'a Places,
 }
 
-/// The address of what lies this many words behind the begin of the code.
+/// The address of what lies this many words after the begin of the code.
 pub fn place_address(place: u64) -> u64
     requires { place < 2 ^ 59 }
     ensures { result ≡ address_of_place place }

@@ -183,7 +183,7 @@ module _ (number : ℕ → ℕ) where
   lowered_closed carried.at_return = closes
   lowered_closed (carried.further {i = i} {is = is} e) = let c = lowered_closed e in either_close (is_idle i.op i.args i.results) c (lines_close i.op i c)
 
--- a label behind a line stands behind it, or is the line
+-- a label after a line stands after it, or is the line
 behind : (l : ℕ) (f : LinOp) {ls : List ℕ} → IsIn l (label_of f ++ ls) → has_label l f ≡ false → IsIn l ls
 behind l (lin.Op f) z e = z
 behind l (lin.Flow (flow.Label k)) is_first e = absurd (true≢false (sym (eq-eqb k k refl) ∙ e))
@@ -233,7 +233,7 @@ module _ (m : Lin) (goes : ℕ → Bool) (each : (i : Line) (next : List Line) �
   abbrev K : List Line → List Line
   K = without goes
 
-  -- labels stay, so where all lines behind go there is none
+  -- labels stay, so where all lines after go there is none
   no_labels : {a b : List Line} → LabelsBetween a b → Tail a m.code → K a ≡ [] → a ≡ b
   no_labels none_between w e = refl
   no_labels (label_between {l = l} {next = next} p) w e = by (goes (length next)) refl e

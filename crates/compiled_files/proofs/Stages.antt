@@ -1,4 +1,4 @@
--- What selection and the passes behind it make of an accepted file does what the text does, on words.
+-- What selection and the passes after it make of an accepted file does what the text does, on words.
 use Rattle.std.proofs.Common.{◌≡◌, ◌≢◌, ℕ, zero, suc, ◌≤◌, true, List, [], ◌∷◌, Some, refl, sym, ap, ◌∙◌, subst, arith}
 use Rattle.std.specs.Prelude.{slice_get}
 use Rattle.std.proofs.Math.Nat.{le-max_left, le-max_right}
@@ -121,7 +121,7 @@ module _ (text : List ℕ) (file : FileTree) (is : IsFileOf text file) where
           (selected_runs f tree e arguments fit below memory doings n given done ok);
     }
 
--- ---- the passes behind selection
+-- ---- the passes after selection
 
 -- Lines that keep what is selected of each function are its program.
 pub lowered_so : (file : FileTree) (lins : ℕ → Lin) (named : ℕ → NamedAt) →

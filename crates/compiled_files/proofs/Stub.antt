@@ -1,4 +1,4 @@
--- The stub ends a run: behind the return of its entry, or a raise that none has caught, two instructions tell the outside.
+-- The stub ends a run: after the return of its entry, or a raise that none has caught, two instructions tell the outside.
 use Rattle.std.proofs.Common.{◌≡◌, ℕ, ◌+◌, ◌-◌, ◌*◌, ◌<◌, inl, ⊎_elim, true, List, [], ◌∷◌, ◌++◌, length, reverse, Option, Some, None, slice_get, slice_index, refl, ap, sym, subst, ◌∙◌, arith}
 use Rattle.std.specs.Prelude.{option_map}
 use Rattle.bs_words.specs.Fits.{data_start, fits, type_of_comp}

@@ -78,7 +78,7 @@ pub fn runs_are_ready()
         IsReadyFor i u.around }
 {}
 
-/// Law: the stub of an image ends its runs: behind the return of the entry, or a raise that none has caught, two
+/// Law: the stub of an image ends its runs: after the return of the entry, or a raise that none has caught, two
 /// instructions tell what the text tells.
 pub fn stubs_end_runs()
     ensures { (file : FileTree) (image : Tables) (ps : List Pieces) (has : HasFunctions image)

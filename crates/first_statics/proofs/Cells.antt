@@ -162,7 +162,7 @@ cells_enough (a ∷ b ∷ c ∷ d ∷ e ∷ f ∷ g ∷ h ∷ rest) =
     let more = cells_enough rest in
     record { all = omega (arith, more.all); no_more = omega (arith, more.no_more) }
 
--- The cell behind so many whole ones.
+-- The cell after so many whole ones.
 pub cell_at : (j : ℕ) (before eight after : List DataByte) → length before ≡ 8 * j → length eight ≡ 8 →
     slice_index_or (cells_of (before ++ (eight ++ after))) j (Word 0) ≡ cell_of eight
 cell_at zero [] ([]) after few long = absurd (omega (arith, long))

@@ -267,7 +267,7 @@ root_item file address (i ∷ items) r small within none given among =
           value = m.value;
         }
 
--- a root cell of items stands behind their begin
+-- a root cell of items stands after their begin
 item_low : (address : ℕ) (items : List DataItemTree) (r : ℕ) → Among r (roots_among (items_from address items)) → address ≤ r
 item_low address [] r among = absurd among
 item_low address (i ∷ items) r among =

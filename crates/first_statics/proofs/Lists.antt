@@ -151,13 +151,13 @@ items_length symbols address (i ∷ items) =
 
 -- ---- lists
 
--- Lists behind an address have no fault, and their items are given.
+-- Lists after an address have no fault, and their items are given.
 pub record AreSound (file : FileTree) (end : ℕ) (lists : List DataListTree) : Type 0 where
   pub within : end ≤ data_start + data_limit
   pub none : first_fault (items_of_lists (lists_behind end lists)) ≡ None
   pub given : AreGiven file lists
 
--- So is the first of them, and those behind it.
+-- So is the first of them, and those after it.
 pub record IsFirstSound (file : FileTree) (end : ℕ) (d : DataListTree) (lists : List DataListTree) : Type 0 where
   pub within : start_behind end ≤ data_start + data_limit
   pub none : first_fault (items_from (start_behind end) d.items) ≡ None

@@ -1,4 +1,4 @@
--- No walk comes to the end of the code: each part with a line behind it to which one comes begins before the end.
+-- No walk comes to the end of the code: each part with a line after it to which one comes begins before the end.
 use Rattle.std.proofs.Common.{◌≡◌, ℕ, ◌+◌, ◌<◌, ◌≤◌, Bool, true, false, cond, nat_lt, List, [], ◌∷◌, ◌++◌, ◌⊎◌, inl, inr, ⊎_elim, length, drop, refl, ap, arith}
 use Rattle.std.proofs.lemmas.Bool.{lt-ltb}
 use Rattle.emit_rules.specs.Emitted.{descriptor, parts}

@@ -14,7 +14,7 @@ use Rattle.rv_pieces.specs.declared.piece.Pieces.{Pieces}
 use Rattle.function_stands.specs.Compiled.{IsImageOf}
 use Rattle.function_stands.specs.Functions.{entry_place}
 
--- ---- rows that are laid one behind the other
+-- ---- rows that are laid one after the other
 
 function_at_entry : (fs : List FunctionTree) (ps : List Pieces) (forms : List (List Form)) (at k : ℕ) → length ps ≡ length fs → AreAllForms ps forms →
     function_at (rows_from at fs ps forms) k ≡ address_of_place (slice_index (entries_from at ps forms) k)

@@ -42,9 +42,9 @@ pushed m at_entry l z = elim z [ ]
 pushed m (by_step {i} {next} r (goes t o)) l z = kept m i i.op (tail_in (reached_tail m r)) refl _ (pushed m r) l z
 pushed m (by_raise r (raises e)) l z = pushed m r l (is_later z)
 
--- ---- a handler's entry is the first line behind its label
+-- ---- a handler's entry is the first line after its label
 
--- the line behind the label, which enters a handler
+-- the line after the label, which enters a handler
 pub record Enters (code : List Line) (l : ℕ) : Type 0 where
   pub line : Line
   pub next : List Line

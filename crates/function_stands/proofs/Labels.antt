@@ -1,4 +1,4 @@
--- Labels lie where the parts behind their marks begin.
+-- Labels lie where the parts after their marks begin.
 use Rattle.std.proofs.Common.{◌≡◌, ℕ, ◌+◌, ◌≤◌, Bool, true, false, cond, nat_eq, ⊎_elim, List, [], ◌∷◌, ◌++◌, length, drop, Some, refl, sym, ap, ◌∙◌, arith}
 use Rattle.std.specs.List.{Contains}
 use Rattle.std.proofs.lemmas.Bool.{true≢false}
@@ -101,7 +101,7 @@ module _ (words : List ℕ) (n : Named) (traps : ℕ → ℕ) (f : Frame) where
   label_here l at at' ds (lin.Flow flow.EnterTrap) args results next fs e has = absurd (true≢false (sym e))
   label_here l at at' ds (lin.Op g) args results next fs e has = absurd (true≢false (sym e))
 
-  -- The place of a label is that of the part behind its mark.
+  -- The place of a label is that of the part after its mark.
   pub label_place_is : (l at at' : ℕ) (ds : List Descr) (code : List Line) (fs : List Form) → Contains (labels_in code) l →
       HasPieces words n at' (parts traps f ds code) fs →
       label_from l at (parts traps f ds code) fs ≡ Some (Place traps f ds code fs at (length (after_label l code)))

@@ -1,4 +1,4 @@
--- Where a handler is entered and behind a call every register is lost.
+-- Where a handler is entered and after a call every register is lost.
 use Rattle.std.proofs.Common.{◌≡◌, ℕ, true, inr, List, [], ◌∷◌, refl, sym, ap, ◌∙◌, subst}
 use Rattle.std.specs.List.{Contains}
 use Rattle.std.proofs.lemmas.Bool.{true≢false}

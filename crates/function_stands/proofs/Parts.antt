@@ -1,4 +1,4 @@
--- Where the parts of a function's lines lie, one behind the other.
+-- Where the parts of a function's lines lie, one after the other.
 use Rattle.std.proofs.Common.{◌≡◌, ℕ, suc, ◌+◌, ◌<◌, ◌≤◌, Bool, true, false, cond, nat_lt, nat_eq, List, [], ◌∷◌, ◌++◌, length, take, drop, Option, Some, None, refl, sym, ap, ◌∙◌, subst, arith}
 use Rattle.std.proofs.lemmas.Bool.{le-ltb, lt-ltb, ltb-false}
 use Rattle.emit_rules.specs.Emitted.{descriptor, left_after, part_before, parts}
@@ -37,7 +37,7 @@ place_of_part traps f ds (i ∷ next) fs at k =
     cond (nat_lt (length next) k) at
     (place_of_part traps f (left_in ds i) next (drop (length (part_in traps f ds i next)) fs) (at + total_words (part_in traps f ds i next) fs) k)
 
--- the descriptor of the line with so many lines behind it
+-- the descriptor of the line with so many lines after it
 abbrev pub descriptor_of : List Descr → List Line → (k : ℕ) → Option Descr
 descriptor_of ds [] k = None
 descriptor_of ds (i ∷ next) k = cond (nat_eq (length next) k) (descriptor (passes_frame i.op) ds) (descriptor_of (left_in ds i) next k)
@@ -128,7 +128,7 @@ module _ (traps : ℕ → ℕ) (f : Frame) where
       (Place (left_in ds i) next (drop (length part) fs) (at + total_words part fs) k)
       (omega arith, omega arith) (omega (arith, low), omega (arith, high, both))
 
-  -- behind a part without words is no other place
+  -- after a part without words is no other place
   pub place_stays : {i : Line} {next : List Line} (ds : List Descr) (code : List Line) (fs : List Form) (at : ℕ) → Stands i next code →
       ((d : Option Descr) (gs : List Form) → total_words (part_before (traps (length next)) f d i next) gs ≡ 0) →
       Place ds code fs at (length next) ≡ Place ds code fs at (suc (length next))

@@ -187,7 +187,7 @@ module _ (image : Tables) (file : FileTree) (ps : List Pieces) (c : Setting) (k 
       let within = placed.stands.within in
       omega (arith, high, both, within)
 
-  -- what has a line behind it to which a walk comes is no end of the code
+  -- what has a line after it to which a walk comes is no end of the code
   part_before : (q : ℕ) {suffix : List Line} {tries : List ℕ} → Reached m suffix tries → Tail suffix m.code → length suffix ≤ q →
       part_place q < length image.code
   part_before q reached tail h =
@@ -319,7 +319,7 @@ module _ (image : Tables) (file : FileTree) (ps : List Pieces) (c : Setting) (k 
         spare = spare_passes m it.regular.homes i line_in next tries;
       }
 
-      -- a walk comes to what stands behind a frame point
+      -- a walk comes to what stands after a frame point
       point_before : passes_frame i.op ≡ true → part_place (length next) < length s.image.code
       point_before point =
           subst (λ (t : Tables). part_place (length next) < length t.code) (sym same)

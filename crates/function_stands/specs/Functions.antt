@@ -40,7 +40,7 @@ pub record FunctionStands (image : Tables) (m : Lin) (c : Setting) (named : Name
   -- its frame is that of its row
   pub frame : laid.frame ≡ slice_index (layout_of image).frames k
   pub small : laid.frame ≤ 1048576
-  -- the parts of the lines lie one behind the other behind the entry, inside the function's words;
+  -- the parts of the lines lie one after the other after the entry, inside the function's words;
   -- these and the 4 words of the stub are at most all of the code
   pub rises : (fewer more : ℕ) → fewer ≤ more → laid.part more ≤ laid.part fewer
   pub begins : entry_place image k ≤ laid.part (length m.code)

@@ -21,7 +21,7 @@ ghost use Rattle.rv_pieces.specs.declared.piece.Pieces.{Pieces};
 
 /// Law: a function of which all is known that the compiler keeps stands in the image.
 ///
-/// Its entry's pieces stand at its entry and the part of each line at its place, one behind the other;
+/// Its entry's pieces stand at its entry and the part of each line at its place, one after the other;
 /// what lines name stands for what it is to; and the descriptor of each frame point is found at its
 /// return address and says what is live there.
 pub fn functions_stand()

@@ -131,7 +131,7 @@ symbols_in_data file = lists_lie data_start (lists_of file)
 
 -- ---- root cells
 
--- cells of eight bytes lie between two addresses, one behind the other
+-- cells of eight bytes lie between two addresses, one after the other
 abbrev pub CellsLie : ℕ → ℕ → List ℕ → Type 0
 CellsLie low high [] = low ≤ high
 CellsLie low high (r ∷ rs) = (low ≤ r) × CellsLie (r + 8) high rs
@@ -176,6 +176,6 @@ list_roots_lie end (d ∷ lists) =
     let from = cells_less end start high (roots_among own ++ roots_among rest) (omega arith) both in
     subst (CellsLie end high) (sym (flat_map-append (λ (i : PlacedItem). root_at i.address i.datum) own rest)) from
 
--- The root cells of a file lie in its data, one behind the other.
+-- The root cells of a file lie in its data, one after the other.
 pub roots_in_data : (file : FileTree) → CellsLie data_start (data_end file) (root_cells file)
 roots_in_data file = list_roots_lie data_start (lists_of file)

@@ -1,4 +1,4 @@
--- Behind the entry of a function and between two of its descriptors there is a word.
+-- After the entry of a function and between two of its descriptors there is a word.
 use Rattle.std.proofs.Common.{◌≡◌, ℕ, ◌+◌, ◌≤◌, Bool, true, false, List, [], ◌∷◌, ◌++◌, length, Some, None, refl, sym, ◌∙◌, arith}
 use Rattle.std.proofs.lemmas.Bool.{true≢false}
 use Rattle.std.specs.List.{AllByRecursion}
@@ -53,7 +53,7 @@ unmarked f = record {
   mark = λ e is. cc;
 }
 
--- whether a word stands behind the last descriptor, or behind the begin
+-- whether a word stands after the last descriptor, or after the begin
 abbrev behind : Bool → List Piece → Bool
 behind b [] = b
 behind b (piece.Descriptor d ∷ ps) = behind false ps
@@ -94,7 +94,7 @@ none_are b (piece.TailCall name ∷ ps) (each_more h hs) = none_are true ps hs
 none_are b (piece.SymbolAddress r name ∷ ps) (each_more h hs) = none_are true ps hs
 none_are b (piece.ExternalNumber r row ∷ ps) (each_more h hs) = none_are true ps hs
 
--- behind pieces without a mark that stand behind a word there is a word
+-- after pieces without a mark that stand after a word there is a word
 behind_true : (ps : List Piece) → Each NoMark ps → behind true ps ≡ true
 behind_true [] each_none = refl
 behind_true (piece.Descriptor d ∷ ps) (each_more h hs) = absurd (let z : d ∷ [] ≡ [] = h in cc)
@@ -109,7 +109,7 @@ behind_true (piece.TailCall name ∷ ps) (each_more h hs) = behind_true ps hs
 behind_true (piece.SymbolAddress r name ∷ ps) (each_more h hs) = behind_true ps hs
 behind_true (piece.ExternalNumber r row ∷ ps) (each_more h hs) = behind_true ps hs
 
--- and behind a word among them
+-- and after a word among them
 behind_word : (b : Bool) (ps : List Piece) → Each NoMark ps → 1 ≤ words_at_least ps → behind b ps ≡ true
 behind_word b [] each_none some = absurd (omega (arith, some))
 behind_word b (piece.Descriptor d ∷ ps) (each_more h hs) some = absurd (let z : d ∷ [] ≡ [] = h in cc)
@@ -136,7 +136,7 @@ pub words_both : (xs ys : List Piece) → words_at_least (xs ++ ys) ≡ words_at
 words_both [] ys = omega arith
 words_both (x ∷ xs) ys = let later = words_both xs ys in omega (arith, later)
 
--- a mark behind pieces with a word, and before others
+-- a mark after pieces with a word, and before others
 marked : (d : Descr) (pre post : List Piece) → Each NoMark pre → 1 ≤ words_at_least pre → Each NoMark post → IsDescriptor d → AreDescriptors false ((pre ++ piece.Descriptor d ∷ []) ++ post)
 marked d pre post none some others is =
     joined false (pre ++ piece.Descriptor d ∷ []) post

@@ -52,7 +52,7 @@ near_writes : (z : Bool) → z ≡ false → ((z || false) || false) ≡ false
 near_writes true e = absurd (cc)
 near_writes false e = refl
 
--- nothing is read behind a branch
+-- nothing is read after a branch
 then_nothing : (x y : Bool) → y ≡ false → (x || y) ≡ x
 then_nothing true y e = refl
 then_nothing false y e = e

@@ -373,7 +373,7 @@ pub call_more : (result : _) (xs ys : List Comp) → HasForm (op.Calling (callin
     (t : Comp) × (ts : List Comp) × (xs ≡ t ∷ ts)
 call_more result xs ys (calls {first} more is) = callee_more first more is
 
--- what stands behind a branch is no matter
+-- what stands after a branch is no matter
 targets_up_to : (n : ℕ) (xs : List Piece) (p : Piece) (ys : List Piece) → is_target n xs ≡ false → is_among n (piece_targets p) ≡ false →
     branches p ≡ true → is_target n (up_to_branch (xs ++ p ∷ ys)) ≡ false
 targets_up_to n [] p ys e g k =

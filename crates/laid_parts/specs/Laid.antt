@@ -54,7 +54,7 @@ is_handed_on _ n = false
 abbrev pub is_left : LinOp → ℕ → Bool
 is_left f n = is_destroyed (destroyed_by f) (loc.Machine n)
 
--- A bound test that fails raises behind its branch, where the raised value is put into a0.
+-- A bound test that fails raises after its branch, where the raised value is put into a0.
 abbrev pub branches : Piece → Bool
 branches (piece.Known (instr.Branch c a b offset)) = true
 branches (piece.Branch c a b l) = true
@@ -91,7 +91,7 @@ leave_at_end [] = false
 leave_at_end (p ∷ []) = leaves p
 leave_at_end (p ∷ q ∷ ps) = not (jumps p) && leave_at_end (q ∷ ps)
 
--- Behind the branch of a bound test stands its raising path, to the end of the part. So nothing that is
+-- After the branch of a bound test stands its raising path, to the end of the part. So nothing that is
 -- written there comes to the next line.
 abbrev pub RaisesBehind : LinOp → List Piece → Type 0
 RaisesBehind (lin.Op (op.Leaving (leaving.Checkbound r))) part =
@@ -202,7 +202,7 @@ pub record IsPartOf (m : Lin) (ds left : List Descr) (i : Line) (next : List Lin
   pub slots : (tries : List ℕ) → Traps m (i ∷ next) tries →
       CarriesSlots (frame_of m) (length tries) i part
   pub mark : IsMarked i.op (passes_frame i.op) ds left part
-  -- what stands behind the branch of a bound test leaves the part for good
+  -- what stands after the branch of a bound test leaves the part for good
   pub raises : RaisesBehind i.op part
 
 -- ---- whole

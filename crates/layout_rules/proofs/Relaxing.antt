@@ -185,7 +185,7 @@ ahead l at at' (p ∷ ps) (f ∷ fs) (g ∷ gs) h =
     ahead_by (is_label l p) at at' (label_from l (at + w) ps fs) (label_from l (at' + w') ps gs)
     (ahead_later at at' w w' (label_from l (at + w) ps fs) (label_from l (at' + w') ps gs) (words_less p f g h.0) later)
 
--- A label is behind, or still to come, in both.
+-- A label is after, or still to come, in both.
 pub record Passed (b b' at at' : ℕ) : Type 0 where
   pub first : b ≤ at
   pub second : b' ≤ at'

@@ -120,7 +120,7 @@ code_stands (i ∷ is) pre post at e fits =
     let first : slice_get (pre ++ w ∷ rest) at ≡ Some w = ap (slice_get (pre ++ w ∷ rest)) e ∙ here pre w rest in
     (first, fits.0, later')
 
--- Pieces stand where their words are laid, behind `pre`.
+-- Pieces stand where their words are laid, after `pre`.
 pub pieces_stand : (n : Named) (ps : List Piece) (fs : List Form) (pre post : List ℕ) (at : ℕ) → at ≡ length pre → length fs ≡ length ps →
     address_of_place (at + total_words ps fs) + 4 < 2 ^ 32 → AllByRecursion PieceFits ps → ((p : Piece) → LeadsTo (target_of n p) p) →
     HasPieces (pre ++ (words_from n (address_of_place at) ps fs ++ post)) n at ps fs

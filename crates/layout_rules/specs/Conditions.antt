@@ -49,7 +49,7 @@ pub record IsDescriptor (d : Descr) : Type 0 where
   pub entries : AllByRecursion (IsEntry d.size) d.entries
   pub in_order : EachNext IsNextEntry d.entries
 
--- each descriptor keeps the rules, and behind the entry and between two of them there is a word
+-- each descriptor keeps the rules, and after the entry and between two of them there is a word
 abbrev pub AreDescriptors : (behind_word : Bool) → List Piece → Type 0
 AreDescriptors behind [] = ⊤
 AreDescriptors behind (piece.Descriptor d ∷ ps) =

@@ -84,7 +84,7 @@ abbrev pub is_among : List External → External → Bool
 is_among [] e = false
 is_among (x ∷ xs) e = same_row x e || is_among xs e
 
--- the first of each row, behind rows that are there
+-- the first of each row, after rows that are there
 abbrev pub firsts_behind : List External → List External → List External
 firsts_behind before [] = before
 firsts_behind before (e ∷ es) =

@@ -60,7 +60,7 @@ AreNew (b ∷ bs) = IsNew b × AreNew bs
 pub record StandsAnywhere (s : Fixed) (young : List Placed) (count w : ℕ) (x : Value) : Type 0 where
   pub by : (table : List Placed) → count ≡ length (table ++ reverse young) → StandsFor s (table ++ reverse young) w x
 
--- the blocks lie one below the other: the address of each is that of the cell behind its header
+-- the blocks lie one below the other: the address of each is that of the cell after its header
 abbrev pub AllStand : Fixed → (young : List Placed) → (count at : ℕ) → List NewBlock → List Value → Type 0
 AllStand s young count at [] [] = Unit {0}
 AllStand s young count at [] (x ∷ xs) = ⊥

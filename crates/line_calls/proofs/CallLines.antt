@@ -73,7 +73,7 @@ module _ (s : Fixed) (n : Named) (laid : Laid) (live : List Line → Type 0) (en
   abbrev lost : Locations
   lost = poisoned (named (length next)) file
 
-  -- ---- behind the callee, whatever it did
+  -- ---- after the callee, whatever it did
 
   resumes_by : (whom : Callee) (args : List Spot) (fit : are_vals (data_start + length s.image.bytes) (named (length next)) held ≡ true)
       (whole : is_complete a ≡ true) (w : View) (there_w : Within s laid w young 0 held a c) (r : Ret) (rs : List Spot) → comps rs ≡ results_of r →

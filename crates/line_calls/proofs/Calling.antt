@@ -1,4 +1,4 @@
--- A call: the callee begins above a function that waits, and the function goes on behind it.
+-- A call: the callee begins above a function that waits, and the function goes on after it.
 use Rattle.std.proofs.Common.{◌≡◌, ℕ, ◌+◌, ◌<◌, ◌≤◌, Bool, true, false, cond, ◌&&◌, ◌||◌, nat_eq, List, [], ◌∷◌, length, Option, Some, None, slice_get, slice_index, slice_set, refl, ap, ap₂, arith, ◌∙◌, sym, subst}
 use Rattle.std.proofs.lemmas.Bool.{eqb-true}
 use Rattle.bs_words.specs.Fits.{data_start, fits, type_of_comp}
@@ -107,9 +107,9 @@ module _ (s : Fixed) (laid : Laid) (live : List Line → Type 0) (entry : ℕ �
       let short = s.functions.tables.code.short in
       record { low = omega arith; high = omega (arith, inside, short); even = omega arith }
 
-  -- ---- behind the call
+  -- ---- after the call
 
-  -- what stands behind a call: no register but a result
+  -- what stands after a call: no register but a result
   clear_same : (l : Loc) → clear Everything (poisoned (named (length next)) held) l ≡ clear Everything (poisoned (named (length next)) file) l
   clear_same (loc.Machine r) = refl
   clear_same (loc.Slot j) = poisoned_same (named (length next)) held file (loc.Slot j) (agrees.others (loc.Slot j) (λ e. absurd (cc)))

@@ -39,7 +39,7 @@ use Rattle.line_calls.proofs.Handlers.{a0_location}
 use Rattle.line_calls.proofs.Seats.{first_seated}
 use Rattle.line_calls.proofs.Traps.{own_trap_of}
 
--- ---- behind the call: what a file has left
+-- ---- after the call: what a file has left
 
 clear_same : (held file : Locations) (l : Loc) → held l ≡ file l → clear Temporaries held l ≡ clear Temporaries file l
 clear_same held file (loc.Machine r) e = ap (cond (is_temporary r) None) e

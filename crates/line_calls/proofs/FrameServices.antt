@@ -108,7 +108,7 @@ module _ (s : Fixed) (w : View) (code : IsCode s w.place Ecall) (service : slice
           limit = done.restored.limit;
         }
 
-    -- ---- behind it
+    -- ---- after it
 
     -- the call gives a value
     gives_at :

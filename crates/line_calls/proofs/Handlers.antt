@@ -63,7 +63,7 @@ a0_location = record {
   no_scratch = (λ t. omega (arith, t), λ t. omega (arith, t));
 }
 
--- what is held behind a result in a0, where every register was cleared before
+-- what is held after a result in a0, where every register was cleared before
 pub record IsAlone (x : Value) (held after : Locations) : Type 0 where
   pub register : (r : ℕ) (y : Value) → after (loc.Machine r) ≡ Some y → (r ≡ 10) × (x ≡ y)
   pub slot : (k : ℕ) (y : Value) → after (loc.Slot k) ≡ Some y → held (loc.Slot k) ≡ Some y

@@ -38,7 +38,7 @@ use Rattle.line_calls.proofs.Numbers.{sum_reaches}
 use Rattle.line_calls.proofs.Reaching.{arrived, reaches_as, reaches_more, reaches_none, single}
 use Rattle.line_calls.proofs.Stack.{load_reaches}
 
--- ---- a jump to the address in a register, behind what goes straight on
+-- ---- a jump to the address in a register, after what goes straight on
 
 pub jump_behind :
     (s : Fixed) (v : View) (middle : ℕ) (rs : List ℕ) (m : List Region) (P : View → Type 0) (first : Reaches s v middle rs m P) (r imm to : ℕ) →

@@ -1,4 +1,4 @@
--- The service of an external call, and where the machine stands behind it.
+-- The service of an external call, and where the machine stands after it.
 use Rattle.std.proofs.Common.{◌≡◌, ◌≢◌, ℕ, ◌+◌, ◌^◌, ◌<◌, ◌≤◌, inl, inr, Bool, true, false, cond, List, [], ◌∷◌, ◌++◌, Some, None, slice_get, slice_index, refl, ap, arith, ◌∙◌, sym, subst, get_or-set_same}
 use Rattle.std.specs.List.{AllByRecursion}
 use Rattle.bs_words.specs.Memory.{Memory}
@@ -130,7 +130,7 @@ cleared_lost held q x i h = let e = (lost q i).temporary in absurd (none (is_tem
     none true e h = absurd (cc)
     none false e h = absurd (cc)
 
--- ---- the registers behind it
+-- ---- the registers after it
 
 -- the answer stands in a0, where one is wanted
 abbrev pub behind : Ret → ℕ → List ℕ → List ℕ
@@ -150,7 +150,7 @@ behind_others (ret.Comp t) x registers q none =
 pub behind_result : (t : _) (x : ℕ) (registers : List ℕ) → AreRegisters registers → slice_index (behind (ret.Comp t) x registers) 10 ≡ x
 behind_result t x registers are = let n = (filled_are destroyed registers are).count in get_or-set_same (filled destroyed registers) 10 x 0 (omega (arith, n))
 
--- the function stands behind it with what is not destroyed
+-- the function stands after it with what is not destroyed
 pub within_behind :
     (s : Fixed) (laid : Laid) (v : View) (young : List Placed) (held : Locations) (a : Around) (c : Below) → Within s laid v young 0 held a c →
     a.raised ≡ None →
@@ -202,7 +202,7 @@ module _ (s : Fixed) (w : View) (code : IsCode s w.place Ecall) (service : slice
       ∙ ap (λ y. guarded_after s.schedule k (answered e.result y b.answers b)) (shows b ok)
       ∙ ap (λ y. guarded_after s.schedule k (answered e.result call y b)) ok.answers
 
-  -- the view behind it
+  -- the view after it
   abbrev pub view_behind : (registers answers : List ℕ) → View
   view_behind registers answers = record {
     place = w.place + 1;

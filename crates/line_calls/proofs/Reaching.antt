@@ -1,4 +1,4 @@
--- Words that lead to a place, one part behind another.
+-- Words that lead to a place, one part after another.
 use Rattle.std.proofs.Common.{◌≡◌, ℕ, suc, ◌+◌, ◌^◌, ◌<◌, List, [], ◌∷◌, ◌≢◌, slice_index, arith, subst, sym, inl, inr, ⊎_elim}
 use Rattle.std.specs.List.{AllByRecursion}
 use Rattle.bs_words.specs.Word.{add_word}

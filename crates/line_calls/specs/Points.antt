@@ -35,7 +35,7 @@ use Rattle.linear_machine.specs.View.{Fixed}
 
 -- ---- descriptors
 
--- a descriptor is found at the address of the word behind it, and there is such a word
+-- a descriptor is found at the address of the word after it, and there is such a word
 abbrev pub IsMarked : Fixed → (at : ℕ) → Piece → Type 0
 IsMarked s at (Descriptor d) =
     (descriptor_at s.image.descs (address_of_place at) ≡ Some (desc_at at d))

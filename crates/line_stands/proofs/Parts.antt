@@ -19,7 +19,7 @@ module _ (s : Fixed) (n : Named) where
   code_stands at [] h = tt
   code_stands at (i ∷ is) h = (record { there = h.0; fits = h.1 }, code_stands (at + 1) is h.2)
 
-  -- ---- one part behind another
+  -- ---- one part after another
 
   -- the first pieces stand up to a place, and the others from it on
   pub record Splits (at to : ℕ) (xs ys : List Piece) : Type 0 where
@@ -54,7 +54,7 @@ module _ (s : Fixed) (n : Named) where
 
   -- ---- one piece
 
-  -- the first piece stands in a form that reaches, and the others behind it
+  -- the first piece stands in a form that reaches, and the others after it
   pub record Begins (at to : ℕ) (x : Piece) (ys : List Piece) : Type 0 where
     pub form : Form
     pub code : HasCode s at (code_of n (address_of_place at) x form)
@@ -101,7 +101,7 @@ module _ (s : Fixed) (n : Named) where
 
   -- ---- by numbers of words
 
-  -- the first pieces have so many words, and the others so many behind them
+  -- the first pieces have so many words, and the others so many after them
   pub record Counts (at k : ℕ) (xs ys : List Piece) : Type 0 where
     pub own : ℕ
     pub others : ℕ
@@ -125,7 +125,7 @@ module _ (s : Fixed) (n : Named) where
         second = subst (λ z. PartStands s n z (at + own + others) ys) e (subst (λ z. PartStands s n q.middle z ys) (sym to) q.second);
       }
 
-  -- one instruction, and so many words behind it
+  -- one instruction, and so many words after it
   pub record Leads (at k : ℕ) (i : Instr) (ys : List Piece) : Type 0 where
     pub others : ℕ
     pub sum : k ≡ 1 + others
@@ -156,7 +156,7 @@ module _ (s : Fixed) (n : Named) where
       let f = none_left (at + 1) q.others q.rest in
       (q.code, omega (arith, e, f))
 
-  -- one piece, and so many words behind it
+  -- one piece, and so many words after it
   pub record Starts (at k : ℕ) (x : Piece) (ys : List Piece) : Type 0 where
     pub form : Form
     pub code : HasCode s at (code_of n (address_of_place at) x form)

@@ -29,7 +29,7 @@ use Rattle.line_stands.specs.Parts.{PartStands}
 abbrev pub Nowhere : List Line → Type 0
 Nowhere code = ⊥
 
--- Where t0 is live before and behind a line at which these traps are pushed.
+-- Where t0 is live before and after a line at which these traps are pushed.
 pub record SparePasses (m : Lin) (live : List Line → Type 0) (tries : List ℕ) (i : Line)
     (next : List Line) : Type 0 where
   pub reads : (t : Comp) → Contains i.args (record { loc = spare; comp = t }) → live (i ∷ next)
@@ -45,7 +45,7 @@ OffsetFits (lin.Op (op.Access (access.Store k offset))) = offset < 2 ^ 64
 OffsetFits (lin.Op _) = ⊤
 OffsetFits (lin.Flow _) = ⊤
 
--- A line of the function, the code behind it, and the words of its part in the image, where these
+-- A line of the function, the code after it, and the words of its part in the image, where these
 -- traps are pushed.
 pub record LineStands (s : Fixed) (laid : Laid) (n : Named) (m : Lin) (c : Setting)
     (live : List Line → Type 0) (tries : List ℕ) (f : Frame) (d : Option Descr) (i : Line)

@@ -127,7 +127,7 @@ function_low [] f = omega arith
 function_low (g ∷ gs) zero = omega arith
 function_low (g ∷ gs) (suc f) = function_low gs f
 
--- each behind the ones before it
+-- each after the ones before it
 function_behind : (g : Func) (gs : List Func) (f : ℕ) → EachNext IsBehind (g ∷ gs) → f < length gs → 0x10000 + g.offset < function_at gs f
 function_behind g [] f next l = absurd (omega (arith, l))
 function_behind g (h ∷ hs) zero next l = let r = next.0.rises in omega (arith, r)

@@ -1,4 +1,4 @@
--- Static data of eight bytes, and behind it a list of one: the laws ask for nothing that such data lacks, and the byte is loaded.
+-- Static data of eight bytes, and after it a list of one: the laws ask for nothing that such data lacks, and the byte is loaded.
 use Rattle.std.proofs.Common.{◌≡◌, ℕ, zero, suc, ◌+◌, ◌-◌, ◌/◌, ◌%◌, ◌<◌, ◌≤◌, ◌⊎◌, inl, inr, false, List, [], ◌∷◌, length, map, Some, None, Ok, slice_get, refl, ap, arith, ◌∙◌, sym, subst, ⊎_elim}
 use Rattle.std.specs.List.{AllByRecursion, Contains}
 use Rattle.std.proofs.lemmas.List.Elements.{All-nil, All-cons}

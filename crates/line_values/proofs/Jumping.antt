@@ -45,7 +45,7 @@ goes_at s u are k to leads = record {
   differs = record { are = are; others = λ q n. refl; memory = refl; blocks = refl };
 }
 
--- one behind an instruction that only goes to a place
+-- one after an instruction that only goes to a place
 goes_then : (s : Fixed) (u : View) (p k to : ℕ) → Leads s 1 u (at_place p u) → Goes s (at_place p u) k to → Goes s u (1 + k) to
 goes_then s u p k to first g = record {
   view = g.view;
@@ -214,7 +214,7 @@ module _ (s : Fixed) (u : View) (are : AreRegisters u.registers) (to : ℕ) (nea
     -- t1 is lost on the way to a label alone
     pub same : t ≡ false → goes.view.registers ≡ u.registers
 
-  -- To the label where the condition holds, else behind the branch.
+  -- To the label where the condition holds, else after the branch.
   pub branch_goes : (t : Bool) → is_taken c (reg u.registers (number a)) (reg u.registers (number b)) ≡ t → (f : Form) →
       rank (branch_form u.place to) ≤ rank f → HasCode s u.place (branch_code f c a b (address_of_place u.place) (address_of_place to)) →
       Branched t (branch_words f) (cond t to (u.place + branch_words f))

@@ -62,7 +62,7 @@ within_gone s laid v w young held a c d within =
 
 -- ---- where labels lie
 
--- a label's address is that of the part behind it
+-- a label's address is that of the part after it
 pub record Lies (s : Fixed) (laid : Laid) (n : Named) (m : Lin) (l : ℕ) : Type 0 where
   pub address : n.label l ≡ address_of_place (laid.part (length (after_label l m.code)))
   pub inside : laid.part (length (after_label l m.code)) ≤ length s.image.code

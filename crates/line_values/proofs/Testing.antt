@@ -73,7 +73,7 @@ branch_near s p from to Near c a b code = code_near s p _ code.0
 branch_near s p from to Middle c a b code = code_near s p _ code.0
 branch_near s p from to Far c a b code = code_near s p _ code.0
 
--- It leads to its label where the condition holds, else behind it.
+-- It leads to its label where the condition holds, else after it.
 pub record BranchLands (s : Fixed) (n : Named) (u : View) (k to : ℕ) (t : Bool) (ys : List Piece) : Type 0 where
   pub words : ℕ
   pub others : ℕ

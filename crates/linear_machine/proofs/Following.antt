@@ -51,7 +51,7 @@ put_is r x f is = record { each = λ k y h. by_test k y (same_loc r.loc k) refl 
 
 -- ---- what the machine holds of a file
 
--- t0 is read behind a line only where the line writes it, or where it is read from the line on
+-- t0 is read after a line only where the line writes it, or where it is read from the line on
 abbrev pub PassesSpare : Type 0 → Type 0 → Loc → Type 0
 PassesSpare before behind l = behind → (l ≡ spare) ⊎ before
 

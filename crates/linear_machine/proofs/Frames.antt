@@ -34,7 +34,7 @@ kept_by false (Some (Word w)) x e = (e, inl (let h : Word w ≡ x = cc in subst 
 kept_by false (Some (Block k o)) x e = absurd (cc)
 kept_by false (Some (Function f)) x e = (e, inl (let h : Function f ≡ x = cc in subst IsStill h tt))
 
--- what is held behind poison was held before, and is no pointer or is named
+-- what is held after poison was held before, and is no pointer or is named
 pub poisoned_some : (named : List Loc) (f : Locations) (l : Loc) (x : Value) → poisoned named f l ≡ Some x → (f l ≡ Some x)
     × (IsStill x ⊎ (is_named l named ≡ true))
 poisoned_some named f l x e = kept_by (is_named l named) (f l) x e

@@ -115,7 +115,7 @@ module _ (s : Fixed) (v : View) (are : AreRegisters v.registers) (frame top back
       (omega (arith, high))) (sets_imm s u Addi 2 2 (frame % 4096)))
       code.1.0 (inr (omega (arith, e, low))) (omega arith) (omega (arith, high))
 
-  -- the view behind it
+  -- the view after it
   abbrev pub returned : View
   returned = at_place ((back - 0x10000) / 4) sp_raised.view
 

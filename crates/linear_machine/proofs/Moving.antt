@@ -236,7 +236,7 @@ module _ (s : Fixed) (laid : Laid) (v : View) (young : List Placed) (taken : ℕ
       none_at None e = refl
       none_at (Some x) e = absurd ((registers_hold 26 x (poisoned_some named held (loc.Machine 26) x e).0).0.no_young refl)
 
-  -- ---- behind it
+  -- ---- after it
 
   module _ (h new : Hart) (place : ℕ) (restored : IsRestored taken (hart_of s v h) own_frame_of c.frames contents new) where
     -- the hart that the service leaves, with what stays

@@ -142,7 +142,7 @@ set_more s v n rs m P i r value first among sets code passes fits small =
     (λ w p x. (x, λ q ne. p.others q (λ j. ⊎_elim ne (λ f. f) j)))
     (set_changes s u i r value (code_past s n rs m v u i first.past code) passes sets first.past.are fits small))))
 
--- a load behind them
+-- a load after them
 pub load_there :
     (s : Fixed) (v : View) (n : ℕ) (rs : List ℕ) (m : List Region) (P : View → Type 0) (first : Changes s v n rs m P) (rd ra imm x : ℕ) →
     add_word (reg first.view.registers ra) (imm_i imm) ≡ x → x ≢ 0x20000000 → 0x10000000 ≤ x → IsReadable m x →
@@ -151,7 +151,7 @@ load_there s v n rs m P first rd ra imm x e off low readable =
     subst (λ k. SetsRegister s first.view (Load Ld rd ra imm) rd (word k x)) first.past.memory
     (sets_load s first.view rd ra imm x e off low (subst (λ k. IsReadable k x) (sym first.past.memory) readable))
 
--- a store behind them
+-- a store after them
 pub store_more :
     (s : Fixed) (v : View) (n : ℕ) (rs : List ℕ) (m : List Region) (P : View → Type 0) (first : Changes s v n rs m P) (ra rb imm x value : ℕ) →
     IsCode s (v.place + n) (Store Sd ra rb imm) → add_word (reg first.view.registers ra) (imm_i imm) ≡ x → reg first.view.registers rb ≡ value →

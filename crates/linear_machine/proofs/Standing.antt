@@ -51,7 +51,7 @@ return_past : (saves : Bool) (v w : View) (c : Below) → (word w.memory (c.top 
 return_past true v w c m r h = m ∙ h
 return_past false v w c m r h = r ∙ h
 
--- ---- a view behind some instructions that change registers which hold nothing that is kept
+-- ---- a view after some instructions that change registers which hold nothing that is kept
 
 -- a register that is none of the machine's own
 pub record IsFree (q : ℕ) : Type 0 where

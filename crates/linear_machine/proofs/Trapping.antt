@@ -261,7 +261,7 @@ module _ (s : Fixed) (laid : Laid) (v w : View) (young : List Placed) (held : Lo
                 (heap_around s (all_of v young) v.memory a rest raised within.heap));
           }
 
-    -- what registers hold behind a pop
+    -- what registers hold after a pop
     pub popped_registers : RegistersHold s (all_of v young) v.registers held → RegistersHold s (all_of v young) w.registers held
     popped_registers hold = subst (λ b. RegistersHold s b w.registers held) same_placed (registers_differ v.memory differs hold)
 

@@ -16,7 +16,7 @@ use Rattle.linear_machine.specs.Relation.{Below, Laid, During}
 use Rattle.linear_machine.specs.View.{Fixed, View}
 
 -- What the machine holds is what the file holds, but for t0 where that is not read any more: some
--- lines destroy it, and no walk reads it behind them.
+-- lines destroy it, and no walk reads it after them.
 pub record Agrees (live : Type 0) (held file : Locations) : Type 0 where
   pub others : (l : Loc) → (l ≡ spare → ⊥) → held l ≡ file l
   pub spare_too : live → held spare ≡ file spare
@@ -61,7 +61,7 @@ needs_of laid c u =
 -- ---- one step, in at most so many instructions, and at least one for a unit
 
 -- A call of a function begins the callee above an activation that waits, and whatever the callee
--- does, the function goes on behind it.
+-- does, the function goes on after it.
 pub record FollowsCall (n : ℕ) (s : Fixed) (laid : Laid) (live : List Line → Type 0)
     (entry : ℕ → ℕ) (c : Below) (v : View) (f : ℕ) (arguments : List Value) (memory : Memory)
     (go : Doing → Step State) : Type 0 where

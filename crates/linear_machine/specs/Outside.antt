@@ -76,7 +76,7 @@ pub record GoesOn (s : Fixed) (a : Machine) (calls : List Made) (answers : List 
       guarded_after s.schedule j (Going a) ≡ guarded_after s.schedule k (Going machine)
   pub holds : P view
 
--- The call's row and service are asked for, its arguments show what they are to, and behind it the
+-- The call's row and service are asked for, its arguments show what they are to, and after it the
 -- machine stands for what the function makes of the answers; or the blocks have no room.
 pub record IsAsking (s : Fixed) (needs : Needs) (row : External) (frame : Bool)
     (arguments : List Value) (memory : Memory) (Goes : Doing → View → Type 0) (w : View) : Type 0

@@ -11,7 +11,7 @@ abbrev pub IsCellList : StaticList → Type 0
 IsCellList l =
     (l.start % 8 ≡ 0) × (8 * length l.cells < l.size + 8) × (l.size ≤ 8 * length l.cells)
 
--- the lists lie one behind the other, from an address on
+-- the lists lie one after the other, from an address on
 abbrev pub AreBehind : ℕ → List StaticList → Type 0
 AreBehind at [] = Unit {0}
 AreBehind at (l ∷ lists) = (at ≤ l.start) × IsCellList l × AreBehind (l.start + l.size) lists

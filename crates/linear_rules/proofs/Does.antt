@@ -253,7 +253,7 @@ module _ (c : Place) (number : ℕ → ℕ) (slots : ℕ) (p : Mach) (well : Wel
   line_live_here (walks.across_step free l v) = walks.on free l v
   line_live_here (walks.across_raise r v) = walks.aside r v
 
-  -- why a register that is written, and another that is live behind the write, have one place
+  -- why a register that is written, and another that is live after the write, have one place
   data Shares (i : Instr) (k : Reg) : Reg → Type 0 where
     moved : {r : Reg} → Copies i k.number → Shares i k r
     one_slot : {r : Reg} → r.origin ≡ k.origin → k.loc ≡ loc.Slot r.origin → Shares i k r
@@ -293,12 +293,12 @@ module _ (c : Place) (number : ℕ → ℕ) (slots : ℕ) (p : Mach) (well : Wel
           by false e = e
           by true e = (past_some (a r.number) x e).0
 
-      -- what is live behind, in both, holds its value
+      -- what is live after, in both, holds its value
       across_value : (r : Reg) → IsRegister p r → (x : Held) → LiveAcross p r.number i next → walks.LiveAcross Q (home number r.loc) r.comp j ys around.tries → a' r.number ≡ Some x →
           b (home number r.loc) ≡ Some x.value
       across_value r ri x v w e = rel r ri x (live_here v) (line_live_here w) (before r x e)
 
-      -- what is live behind a frame point as val holds a val
+      -- what is live after a frame point as val holds a val
       vals_held : ValsWritten p (at_file (i ∷ next) a around) → ValsHeld c Q (at_lines (j ∷ ys) b around)
       vals_held vals = record { held = λ k ks same frame l w. first_line k ks same frame l w }
         where
@@ -328,7 +328,7 @@ module _ (c : Place) (number : ℕ → ℕ) (slots : ℕ) (p : Mach) (well : Wel
           let ri : IsRegister p r = is_in_code (args_in_code ending inside) in
           (rel r ri x (read (in_among inside)) (walks.read (contains_of (in_spots number inside))) u, (typed r ri x u).1))
 
-      -- what is live behind a write, and not written, stands in no destroyed register
+      -- what is live after a write, and not written, stands in no destroyed register
       colour_free : (t : Target) → OneOf t (targets i.op) → (k : Reg) → IsRegister p k → Live p k.number (code_at p.code next t) → (Among k.number (killed p i) → ⊥) →
           ((r : Reg) → IsIn r i.results → home number r.loc ≡ home number k.loc → ⊥) → is_destroyed (destroyed_by i.op) k.loc ≡ true → ⊥
       colour_free t o k ki v unkilled nowhere e = by (placed k ki)

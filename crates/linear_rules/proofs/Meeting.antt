@@ -107,7 +107,7 @@ module _ (number : ℕ → ℕ) (slots : ℕ) (p : Mach) (well : WellFormed p) (
   idle_regs : {f : MachOp} {args results : List Reg} → IsIdle f args results → IdleRegs args results
   idle_regs (idles {x = x} {d = d} e u) = record { from = x; to = d; args_are = refl; results_are = refl; place = e; type = u }
 
-  -- what is live behind a copy from a place to itself is live before it there
+  -- what is live after a copy from a place to itself is live before it there
   idle_met : {l : Loc} {t : Comp} {i : Instr} {next : List Instr} → Ending (i ∷ next) p.code → IsIdle i.op i.args i.results → IsMet l t next → IsMet l t (i ∷ next)
   idle_met {l} {t} {i} {next} e w m = by (idle_regs w)
     where
@@ -154,7 +154,7 @@ module _ (number : ℕ → ℕ) (slots : ℕ) (p : Mach) (well : WellFormed p) (
 
   -- ---- traps
 
-  -- the traps behind a line of its own
+  -- the traps after a line of its own
   pub traps_on : {i : Instr} {next : List Instr} (f : LinOp) → Ending (i ∷ next) p.code → AsLine i.op f → walks.tries_after f (tries_at (i ∷ next)) ≡ tries_at next
   traps_on {i} {next} f e z = by i.op f refl z
     where
@@ -319,7 +319,7 @@ module _ (number : ℕ → ℕ) (slots : ℕ) (p : Mach) (well : WellFormed p) (
     pub type : reg.comp ≡ t
     pub live : LiveAcross p reg.number i next
 
-  -- what is live behind a line of its own is the place of what is live behind its instruction
+  -- what is live after a line of its own is the place of what is live after its instruction
   pub met_across : {i : Instr} {next : List Instr} {l : Loc} {t : Comp} {tries : List ℕ} (f : LinOp) → Ending (i ∷ next) p.code → AsLine i.op f → tries ≡ tries_at (i ∷ next) →
       walks.LiveAcross Q l t (line_of number f i) (L next) tries → IsMetAcross l t i next
   met_across {i} {next} f e z same (walks.across_step free (walks.goes to o) v) =

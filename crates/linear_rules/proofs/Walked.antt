@@ -105,7 +105,7 @@ module _ (m : Lin) where
   live_read (walks.on free (walks.goes t o) v) w = live_read v (tail_target w t)
   live_read (walks.aside (walks.raises {h = h} e) v) w = live_read v (tail_label h m.code)
 
-  -- a label behind a line is one of the code
+  -- a label after a line is one of the code
   later_label : {l : ℕ} {ys zs : List Line} → Tail ys zs → IsIn l (labels_in ys) → IsIn l (labels_in zs)
   later_label tail_all z = z
   later_label (tail_more {j = j} t) z = past (formed.label_of j.op) (later_label t z)

@@ -12,12 +12,14 @@ use Rattle.linear_rules.proofs.Lines.{all_of}
 use Rattle.linear_rules.proofs.Marks.{all_in}
 use Rattle.tidy_rules.specs.Leaving.{IsUseless, without, with_code, LeavesOut, LeavesOften, not_once, once_more}
 use Rattle.tidy_rules.specs.Redirecting.{redirect, last_label, last_exit, redirected_all}
+use Rattle.tidy_rules.specs.Turning.{turned_all}
 use Rattle.tidy_rules.specs.Regular.{IsReadBehind, IsTidy}
 use Rattle.tidy_rules.specs.Tidied.{IsTidied, IsUseful}
 use Rattle.tidy_rules.proofs.Leaving.{in_code, first_same}
 use Rattle.linear_tidy.proofs.Between.{drop_line}
 use Rattle.linear_tidy.specs.Forms.{IsNoSelfMove}
 use Rattle.linear_tidy.specs.Flags.{TellsUse, AreFlags, AllReached, AreRead, NoMoveGoes, goes_by, kept, unless_gone}
+use Rattle.linear_tidy.proofs.Loops.{turned_numbered}
 use Rattle.linear_tidy.proofs.Left.{line_left, read_left, was}
 use Rattle.linear_tidy.proofs.Useful.{all_map}
 
@@ -246,7 +248,7 @@ fewer_left m r flags len some is =
 
 -- what was done to a function so far
 pub record Round (m now : Lin) (flags : List Bool) : Type 0 where
-  pub leaves : LeavesOften (redirected_all m) now
+  pub leaves : LeavesOften (turned_all (redirected_all m)) now
   pub numbered : AreNumbered now
   pub told : AreFlags now flags
 
@@ -260,9 +262,18 @@ redirected_numbered m r is numbered =
       results = all_map (redirect (last_label m) (last_exit m)) Results m.code (λ i z. all_in Results numbered.results z);
     })
 
-pub first_round : (m now : Lin) (flags : List Bool) → now ≡ redirected_all m → AreNumbered m → AreFlags now flags → Round m now flags
-first_round m now flags is numbered f =
-    record { leaves = subst (LeavesOften (redirected_all m)) (sym is) not_once; numbered = redirected_numbered m now is numbered; told = f }
+pub first_numbered : (m turned now : Lin) → turned ≡ redirected_all m → now ≡ turned_all turned → AreNumbered m → AreNumbered now
+first_numbered m turned now redirects turns numbered =
+    subst AreNumbered (sym turns) (turned_numbered turned (redirected_numbered m turned redirects numbered))
+
+pub first_round : (m turned now : Lin) (flags : List Bool) → turned ≡ redirected_all m → now ≡ turned_all turned → AreNumbered m →
+    AreFlags now flags → Round m now flags
+first_round m turned now flags redirects turns numbered f =
+    record {
+      leaves = subst (LeavesOften (turned_all (redirected_all m))) (sym (turns ∙ ap turned_all redirects)) not_once;
+      numbered = first_numbered m turned now redirects turns numbered;
+      told = f;
+    }
 
 pub next_numbered : (m now r : Lin) (flags : List Bool) → Round m now flags → r ≡ with_code now (without (goes_by flags) now.code) → AreNumbered r
 next_numbered m now r flags h is = subst AreNumbered (sym is) (left_numbered now flags h.told h.numbered)

@@ -2,5 +2,6 @@ pub mod SelfMoves
 pub mod Between
 pub mod Useful
 pub mod Left
+pub mod Loops
 pub mod Flagged
 pub mod Leading

@@ -40,7 +40,7 @@ pub record AllReached (m : Lin) : Type 0 where
   pub each : (i : Line) (next : List Line) → Stands i next m.code → is_landing i.op ≡ false →
       (tries : List ℕ) × Reached m (i ∷ next) tries
 
--- each move of a location to itself is read behind
+-- each move of a location to itself is read after
 pub record AreRead (m : Lin) : Type 0 where
   pub each : (i : Line) (next : List Line) → Stands i next m.code → (from to : Spot) →
       IsSelfMove i from to → IsReadBehind m i next to

@@ -1,3 +1,4 @@
 pub mod Flags
 pub mod Forms
 pub mod Targets
+pub mod Loops

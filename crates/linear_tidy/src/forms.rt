@@ -1,9 +1,13 @@
 //! What kind of line a line is.
 ghost use Rattle.std.specs.Prelude.{◌≡◌, ◌↔◌, ℕ, All, Some, IfSome, IsTrue, []};
 ghost use Rattle.bs_words.specs.declared.types.Loc.{Loc};
-ghost use Rattle.lin_ir.specs.Formed.{IsSelfMove};
+ghost use Rattle.std.specs.Option.{option_to_list};
+ghost use Rattle.lin_flow.specs.Labels.{is_that_label};
+ghost use Rattle.lin_ir.specs.Formed.{IsSelfMove, label_of};
+ghost use Rattle.lin_ir.specs.Meaning.{has_label};
 ghost use Rattle.lin_ir.specs.declared.lin.Spot.{Spot};
 ghost use Rattle.tidy_rules.specs.Leaving.{bare, is_landing};
+ghost use Rattle.tidy_rules.specs.Turning.{is_jump};
 ghost use Rattle.linear_tidy.specs.Forms.{copies, IsOnePlace, MovesItself, IsNoSelfMove};
 
 use bs_words::Loc;
@@ -166,5 +170,40 @@ pub fn is_label(line: &Line) -> bool
         LinOp::Flow(Flow::PopTrap) => false,
         LinOp::Flow(Flow::EnterTrap) => false,
         LinOp::Op(_) => false,
+    }
+}
+
+/// The label that the line has, if it has one.
+pub fn own_label(op: &LinOp) -> Option<Label>
+    ensures first { (l : ℕ) → has_label l op.now ≡ is_that_label result l }
+    ensures all { option_to_list result ≡ label_of op.now }
+{
+    match op {
+        LinOp::Flow(Flow::Label(label)) => Some(*label),
+        LinOp::Flow(Flow::Jump(_)) => None,
+        LinOp::Flow(Flow::Exit(_)) => None,
+        LinOp::Flow(Flow::Branch { test: _, label: _ }) => None,
+        LinOp::Flow(Flow::Switch(_)) => None,
+        LinOp::Flow(Flow::PushTrap(_)) => None,
+        LinOp::Flow(Flow::PopTrap) => None,
+        LinOp::Flow(Flow::EnterTrap) => None,
+        LinOp::Op(_) => None,
+    }
+}
+
+/// Whether it is a jump.
+pub fn is_jump(op: &LinOp) -> bool
+    ensures { result ≡ is_jump op.now }
+{
+    match op {
+        LinOp::Op(_) => false,
+        LinOp::Flow(Flow::Label(_)) => false,
+        LinOp::Flow(Flow::Jump(_)) => true,
+        LinOp::Flow(Flow::Exit(_)) => false,
+        LinOp::Flow(Flow::Branch { test: _, label: _ }) => false,
+        LinOp::Flow(Flow::Switch(_)) => false,
+        LinOp::Flow(Flow::PushTrap(_)) => false,
+        LinOp::Flow(Flow::PopTrap) => false,
+        LinOp::Flow(Flow::EnterTrap) => false,
     }
 }

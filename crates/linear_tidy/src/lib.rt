@@ -1,7 +1,7 @@
 //! Linear functions made tidy: lines that no walk reaches are left out, and jumps to where control
 //! comes anyway, and moves of a location to itself that nothing reads; jumps go at once where others
-//! lead. OCaml does some of this as it linearises (`asmcomp/linearize.ml`: `get_label`,
-//! `local_exit`, and code after a jump is dropped).
+//! lead, and the test of a loop stands again at its end. OCaml does some of this as it linearises
+//! (`asmcomp/linearize.ml`: `get_label`, `local_exit`, and code after a jump is dropped).
 //!
 //! What is reached and what is read is searched over the walks of the function. A line that goes may
 //! leave others without use, so the search is repeated until no line goes.
@@ -11,6 +11,7 @@ mod forms;
 mod leaving;
 mod redirecting;
 mod tidying;
+mod turning;
 mod use_of_lines;
 mod vals;
 

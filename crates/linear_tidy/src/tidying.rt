@@ -5,13 +5,15 @@ ghost use Rattle.tidy_rules.specs.Tidied.{IsTidied};
 
 use crate::leaving::{leave_out, no_move_goes, none_set};
 use crate::redirecting::redirect_jumps;
+use crate::turning::turn_loops;
 use crate::use_of_lines::{useless_lines, useless_lines_left};
 use lin_ir::Lin;
 use std::alloc::{AllocError, Global};
 
-/// The function made tidy: its jumps go at once where others lead, each line that is left is reached
-/// by some walk, each move of a location to itself is read later, and no jump leads to where control
-/// comes without it. Labels and the entries of handlers stay.
+/// The function made tidy: its jumps go at once where others lead, a branch stands again right after
+/// each exit that leads to it, each line that is left is reached by some walk, each move of a location
+/// to itself is read later, and no jump leads to where control comes without it. Labels and the
+/// entries of handlers stay.
 ///
 /// Each location has to be a register of the machine or one of the function's slots. Walks are
 /// searched once. When lines went, walks still come to the others, so they are searched again only
@@ -21,7 +23,8 @@ pub fn tidy(alloc: Global, lin: Lin) -> Result<Lin, AllocError>
     requires { AreNumbered lin }
     ensures { IfOk result (IsTidied lin) }
 {
-    let mut now = redirect_jumps(alloc, lin)?;
+    let redirected = redirect_jumps(alloc, lin)?;
+    let mut now = turn_loops(alloc, redirected)?;
     let mut flags = useless_lines(alloc, &now)?;
     while !none_set(flags.as_slice()) {
         let moves_stay = no_move_goes(now.code.as_slice(), flags.as_slice());

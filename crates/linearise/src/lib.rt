@@ -14,3 +14,5 @@ mod spots;
 mod tests;
 
 pub use lowering::lower;
+pub use spots::bare;
+pub use tests::opposite_test;

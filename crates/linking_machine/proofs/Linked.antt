@@ -177,8 +177,7 @@ module _ (file : FileTree) (image : Tables) (lins : ℕ → Lin) (named : ℕ �
     is_beyond : IsAt (fixed file image lins named w laid entry live has bases emitted run) (laid f) (live f) c beyond sh.view
     is_beyond =
         let at = sh.holds in
-        let d = at.3 in
-        (
+        let d = at.3 in (
           at.0,
           at.1,
           agrees_on (live f u.rest) (live f beyond.rest) at.1 u.file b.passes at.2,

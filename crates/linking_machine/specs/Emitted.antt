@@ -43,7 +43,7 @@ use Rattle.linking_machine.specs.Standing.{fixed_of, Back}
 
 -- ---- one line
 
--- an external call's own instruction, which comes behind those of its line
+-- an external call's own instruction, which comes after those of its line
 abbrev pub service_in : Callee → ℕ
 service_in (Inside f) = 0
 service_in (Outside row frame) = 1

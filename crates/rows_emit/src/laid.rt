@@ -32,7 +32,7 @@ fn bytes(words: u64) -> u32 {
     ((words % 0x1000_0000) * 4) as u32
 }
 
-/// The address of a label, behind an entry.
+/// The address of a label, after an entry.
 fn address(places: &[(u32, u64)], entry: u32, label: Label) -> u32 {
     for (other, at) in places {
         if *other == label.0 {

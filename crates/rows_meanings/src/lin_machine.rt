@@ -77,7 +77,7 @@ fn destroys_at(op: &LinOp, loc: Loc) -> bool {
     }
 }
 
-/// The place behind a label; the end of the code where there is none.
+/// The place after a label; the end of the code where there is none.
 fn behind_label(code: &[Line], wanted: u32) -> usize {
     for (place, line) in code.iter().enumerate() {
         if let LinOp::Flow(Flow::Label(label)) = &line.op {

@@ -84,7 +84,7 @@ fn is_handler(op: &MachOp, wanted: u32) -> bool {
     }
 }
 
-/// The place behind the mark that has a label; the end of the code where there is none.
+/// The place after the mark that has a label; the end of the code where there is none.
 fn behind_label(code: &[Instr], label: u32) -> usize {
     for (place, instr) in code.iter().enumerate() {
         if has_label(&instr.op, label) {

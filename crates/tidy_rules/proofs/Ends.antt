@@ -40,7 +40,7 @@ pub past_labels : {l : ℕ} {ls : List ℕ} (ks : List ℕ) → IsIn l ls → Is
 past_labels [] z = z
 past_labels (k ∷ ks) z = is_later (past_labels ks z)
 
--- a label behind a place is one of the code
+-- a label after a place is one of the code
 pub later_label : {l : ℕ} {ys zs : List Line} → Tail ys zs → IsIn l (labels_in ys) → IsIn l (labels_in zs)
 later_label tail_all z = z
 later_label (tail_more {j = j} t) z = past_labels (label_of j.op) (later_label t z)

@@ -13,7 +13,7 @@ use Rattle.lin_ir.specs.declared.lin.Line.{Line}
 use Rattle.lin_ir.specs.declared.lin.Lin.{Lin}
 
 -- A label, or the entry of a handler. These stay: a label has no instruction, and other lines may
--- name it; a pushed trap is one whose label has its entry right behind.
+-- name it; a pushed trap is one whose label has its entry right after.
 abbrev pub is_landing : LinOp → Bool
 is_landing (lin.Flow (flow.Label l)) = true
 is_landing (lin.Flow flow.EnterTrap) = true

@@ -1,6 +1,6 @@
 -- Loops that are turned round. Where an exit leads to a branch, the branch stands again right after
 -- the exit, so that a turn of a loop has no jump back to its test.
-use Rattle.std.specs.Prelude.{◌≡◌, ◌≢◌, ℕ, zero, suc, ◌+◌, ◌*◌, Bool, true, false, cond, ◌||◌, nat_eq, nat_le, max, Option, Some, None, List, [], ◌∷◌, ◌++◌, length, AllPairs}
+use Rattle.std.specs.Prelude.{◌≡◌, ◌≢◌, ℕ, zero, suc, ◌+◌, ◌*◌, Bool, true, false, cond, ◌||◌, ◌&&◌, nat_eq, nat_le, max, Option, Some, None, List, [], ◌∷◌, ◌++◌, length, AllPairs}
 use Rattle.lin_ir.specs.Formed.{labels_in}
 use Rattle.lin_ir.specs.Meaning.{after_label, has_label}
 use Rattle.lin_ir.specs.Walks.{Stands}
@@ -100,9 +100,18 @@ head_at free [] = None
 head_at free (i ∷ next) = head_by free i.op i.args i.results next
 
 -- the label comes first
+abbrev pub comes_first : ℕ → List Line → Bool
+comes_first l [] = false
+comes_first l (i ∷ next) = has_label l i.op
+
+abbrev pub is_jump : LinOp → Bool
+is_jump (lin.Flow (flow.Jump l)) = true
+is_jump _ = false
+
+-- The label comes first, or after a jump: from an exit control does not come to that.
 abbrev pub stands_first : ℕ → List Line → Bool
 stands_first l [] = false
-stands_first l (i ∷ next) = has_label l i.op
+stands_first l (i ∷ next) = has_label l i.op || (is_jump i.op && comes_first l next)
 
 -- The branch to which an exit before this code leads, but not where it stands there already: right
 -- after the label that comes next.

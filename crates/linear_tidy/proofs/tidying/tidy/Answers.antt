@@ -1,15 +1,16 @@
 use Rattle.std.proofs.Common.{◌≡◌, false, length, sym, ap, ◌∙◌, subst}
 use Rattle.std.proofs.lemmas.Bool.{true≢false}
 use Rattle.std.specs.List.{All}
-use Rattle.linear_tidy.proofs.Flagged.{redirected_numbered, first_round, next_numbered, next_reached, next_read, no_move_by, next_round, last_round, fewer_left, left_by}
+use Rattle.linear_tidy.proofs.Flagged.{first_numbered, first_round, next_numbered, next_reached, next_read, no_move_by, next_round, last_round, fewer_left, left_by}
 use Rattle.linear_tidy.proofs.tidying.tidy.Goals as goal
 
 pub useless_lines-requires : goal.useless_lines-requires
-useless_lines-requires c = redirected_numbered c.args.lin c.in_ok-now.now c.in_ok-now.ensures c.requires
+useless_lines-requires c = first_numbered c.args.lin c.in_ok-redirected.redirected c.in_ok-now.now c.in_ok-redirected.ensures c.in_ok-now.ensures c.requires
 
 pub loop-alloc-init : goal.loop-alloc-init
 loop-alloc-init c =
-    first_round c.args.lin c.in_ok-now.now c.in_ok-flags.flags.items c.in_ok-now.ensures c.requires c.in_ok-flags.ensures
+    first_round c.args.lin c.in_ok-redirected.redirected c.in_ok-now.now c.in_ok-flags.flags.items c.in_ok-redirected.ensures c.in_ok-now.ensures c.requires
+    c.in_ok-flags.ensures
 
 pub useless_lines_left-requires-clause-numbered : goal.useless_lines_left-requires-clause-numbered
 useless_lines_left-requires-clause-numbered c =

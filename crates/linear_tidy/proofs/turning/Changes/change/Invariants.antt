@@ -1,0 +1,12 @@
+use Rattle.std.proofs.Common.{◌≡◌, ◌++◌, List}
+use Rattle.lin_ir.specs.declared.lin.Line.{Line}
+use Rattle.linear_tidy.specs.Loops.{turns_in, opened_in, turned_by}
+use Rattle.linear_tidy.proofs.turning.Changes.change.Given as goal
+
+abbrev pub invariant-loop-line : goal.invariant-loop-line
+invariant-loop-line l = record {
+  opened : l.self.opened ≡ l.fn.self.opened;
+  made : (rest : List Line) → l.turned.items ++ turned_by (opened_in l.fn.self l.fn.free) (turns_in l.self) rest
+      ≡ turned_by (opened_in l.fn.self l.fn.free) (turns_in l.fn.self) (l.yielded ++ rest);
+  so_far : l.turned.items ≡ turned_by (opened_in l.fn.self l.fn.free) (turns_in l.fn.self) l.yielded;
+}
