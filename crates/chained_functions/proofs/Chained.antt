@@ -42,6 +42,7 @@ use Rattle.selection_rules.specs.Select.{selected}
 use Rattle.selection_promise.specs.Selects.{IsAccepted}
 use Rattle.selection_promise.proofs.Promised.{few_tokens}
 use Rattle.placed_functions.specs.Placed.{IsPlacedFor}
+use Rattle.placed_functions.proofs.Exits.{selected_exits}
 use Rattle.placed_functions.proofs.Placed.{placed_for}
 use Rattle.placed_functions.proofs.Tries.{few_nest}
 use Rattle.made_functions.specs.Chained.{IsChained}

@@ -105,7 +105,8 @@ module _ (number : ℕ → ℕ) where
   one_words : (i : Instr) (next : List Line) → turned_words (lowered_one number i next) ≤ instr_words i + 17 * one_if (is_exit i.op) + turned_words next
   one_words i next = by (is_idle i.op i.args i.results) refl
     where
-      by : (b : Bool) → is_idle i.op i.args i.results ≡ b → turned_words (cond b next (lines_of number i.op i next)) ≤ instr_words i + 17 * one_if (is_exit i.op) + turned_words next
+      by : (b : Bool) → is_idle i.op i.args i.results ≡ b →
+          turned_words (cond b next (lines_of number i.op i next)) ≤ instr_words i + 17 * one_if (is_exit i.op) + turned_words next
       by true idle = omega arith
       by false moves = op_words_lower i.op i next moves
 

@@ -33,13 +33,14 @@ lines_words (i ∷ is) = line_words i + lines_words is
 
 -- ---- loops turned round
 
--- What a line may have besides once loops are turned round: an exit, and a jump that may become one,
--- the words of a branch and of a jump after it.
+-- What a line may have besides once loops are turned round: an exit, and a jump, which may become
+-- one, have room for a branch and a jump after them.
 abbrev pub turning_words : LinOp → ℕ
 turning_words (lin.Flow (flow.Jump l)) = 17
 turning_words (lin.Flow (flow.Exit l)) = 17
 turning_words _ = 0
 
+-- lines with that room
 abbrev pub turned_words : List Line → ℕ
 turned_words [] = 0
 turned_words (i ∷ is) = line_words i + turning_words i.op + turned_words is
