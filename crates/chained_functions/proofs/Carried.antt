@@ -38,7 +38,7 @@ use Rattle.linear_rules.proofs.Marks.{instr}
 use Rattle.linear_rules.proofs.Meeting.{comes}
 use Rattle.linear_rules.proofs.Places.{place_tries}
 use Rattle.linear_rules.proofs.Standing.{is_at}
-use Rattle.linear_rules.proofs.Walked.{Tail, tail_all, tail_more, tail_next, tail_in, tail_stands, reached_tail}
+use Rattle.linear_rules.proofs.Walked.{Tail, tail_all, tail_next, tail_in, tail_stands, reached_tail}
 use Rattle.tidy_rules.specs.Leaving.{LabelsBetween, none_between, label_between, IsUseless, unreached, unread, skipped, without, with_code, is_landing}
 use Rattle.tidy_rules.specs.Leaving as leaving_out
 use Rattle.tidy_rules.specs.Redirecting.{redirect, Tidies, as_it_is, then_leaves, then_redirects, then_turns}

@@ -1,5 +1,5 @@
 -- What was made of a function of an accepted text is known whole.
-use Rattle.std.proofs.Common.{◌≡◌, ℕ, suc, ◌+◌, ◌*◌, ◌<◌, ◌≤◌, List, [], ◌∷◌, length, All, Option, refl, subst, arith}
+use Rattle.std.proofs.Common.{◌≡◌, ℕ, ◌+◌, ◌*◌, ◌<◌, ◌≤◌, List, [], ◌∷◌, length, All, Option, refl, subst, arith}
 use Rattle.std.proofs.Math.Nat.{mul-le-mul_right, suc-mul}
 use Rattle.cmm_tree.specs.Symbols.{DefinedSymbol}
 use Rattle.cmm_tree.specs.Tree.{FunctionTree}
@@ -42,11 +42,11 @@ use Rattle.selection_rules.specs.Select.{selected}
 use Rattle.selection_promise.specs.Selects.{IsAccepted}
 use Rattle.selection_promise.proofs.Promised.{few_tokens}
 use Rattle.placed_functions.specs.Placed.{IsPlacedFor}
+use Rattle.placed_functions.proofs.Exits.{selected_exits}
 use Rattle.placed_functions.proofs.Placed.{placed_for}
 use Rattle.placed_functions.proofs.Tries.{few_nest}
 use Rattle.made_functions.specs.Chained.{IsChained}
 use Rattle.made_functions.specs.Made.{IsMadeOf}
-use Rattle.chained_functions.proofs.Exits.{selected_exits}
 use Rattle.chained_functions.proofs.Carried.{lowered_shallow, tidied_shallow, tidied_named, lowered_unended, tidied_unended}
 
 -- ---- how many lines

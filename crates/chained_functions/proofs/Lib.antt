@@ -1,3 +1,2 @@
-mod Exits
 pub mod Carried
 pub mod Chained

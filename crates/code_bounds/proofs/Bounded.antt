@@ -20,13 +20,14 @@ use Rattle.selection_accepted.proofs.Promised.{function_accepted}
 use Rattle.selection_accepted.proofs.Selecting.{definitions}
 use Rattle.selection_sizes.proofs.Selected.{selected_words, selected_points}
 use Rattle.text_sizes.proofs.Nesting.{text_nests}
-use Rattle.tidy_rules.proofs.Following.{tidied_tidies}
+use Rattle.tidy_rules.proofs.Lowered.{lowered_regular}
 use Rattle.made_functions.specs.Made.{IsMadeOf}
 use Rattle.made_functions.specs.Bounded.{IsBoundedBy}
 use Rattle.code_bounds.proofs.Lines.{function_short}
 use Rattle.code_bounds.proofs.Slots.{few_slots, frame_few}
 use Rattle.code_bounds.proofs.Tidying.{linear_words, linear_points}
 use Rattle.placed_functions.specs.Placed.{IsPlacedFor}
+use Rattle.placed_functions.proofs.Exits.{selected_exits}
 use Rattle.placed_functions.proofs.Placed.{placed_for}
 use Rattle.placed_functions.proofs.Tries.{few_nest}
 
@@ -62,18 +63,22 @@ module _ {defined : List ℕ → Option DefinedSymbol} {tree : FunctionTree} (ac
   pub bounded : (ds : List Descr) (pieces : Pieces) → IsMadeOf tree m ds pieces → tries tree ≤ 250 → IsBoundedBy tree ds pieces
   bounded ds pieces made shallow =
       let short = function_short m made.emitted.traps ds in
-      let lines = linear_words q m (tidied_tidies linear.made) in
+      let regular = lowered_regular q is.formed is.placed is.seated in
+      let lines = linear_words q m regular linear.made in
       let words = selected_words tree shallow in
       let made_words = is.words in
       let nodes = accepted.covered.nodes_covered in
-      let calls = linear_points q m (tidied_tidies linear.made) in
+      let rarely = is.exits in
+      let values = selected_exits tree in
+      let cover = accepted.covered.tokens_cover in
+      let calls = linear_points q m regular linear.made in
       let made_points = is.points in
       let points = selected_points tree shallow in
       let count = made.count in
       subst (IsBoundedBy tree ds) (sym made.emitted.is)
       (record {
         frame = frame_small;
-        words = omega (arith, short, lines, words, made_words, nodes);
+        words = omega (arith, short, lines, words, made_words, nodes, rarely, values, cover);
         points = omega (arith, count, calls, made_points, points);
         entries = All-weaker (NamesHomes m) (λ (d : Descr). length d.entries ≤ 21 + 2 * tree.tokens) few_entries ds (linear.named ds made.exact);
       })

@@ -64,7 +64,7 @@ all_modest text file is = go (functions file) (λ f c. c)
     go [] among = tt
     go (f ∷ fs) among = (function_modest text file is f (among f (contains_head f fs)), go fs (λ g c. among g (contains_tail f fs g c)))
 
-function_few : (f : FunctionTree) (p : Pieces) → IsModest f → KeepsTo f p → weight_of p.code ≤ 300000 * f.tokens
+function_few : (f : FunctionTree) (p : Pieces) → IsModest f → KeepsTo f p → weight_of p.code ≤ 320000 * f.tokens
 function_few f p modest keeps =
     let weigh = pieces_weigh p.code in
     let words = keeps.bounded.words in
@@ -84,7 +84,7 @@ tokens_of f = f.tokens
 abbrev weight_in : Pieces → ℕ
 weight_in p = weight_of p.code
 
-all_few : (fs : List FunctionTree) (ps : List Pieces) → AllByRecursion IsModest fs → AllZip KeepsTo fs ps → sum_by weight_in ps ≤ 300000 * sum_by tokens_of fs
+all_few : (fs : List FunctionTree) (ps : List Pieces) → AllByRecursion IsModest fs → AllZip KeepsTo fs ps → sum_by weight_in ps ≤ 320000 * sum_by tokens_of fs
 all_few [] [] modest keeps = omega arith
 all_few [] (p ∷ ps) modest keeps = absurd keeps
 all_few (f ∷ fs) [] modest keeps = absurd keeps
@@ -103,6 +103,6 @@ few text file ps is keeps =
     let held = text_held text file is in
     let short = held.short in
     let tokens = held.tokens in
-    let low : sum_by weight_in ps ≤ 6000000000000 = omega (arith, all, short, tokens) in
-    let high : 6000000000000 < 2 ^ 48 = lit< tt in
+    let low : sum_by weight_in ps ≤ 6400000000000 = omega (arith, all, short, tokens) in
+    let high : 6400000000000 < 2 ^ 48 = lit< tt in
     omega (arith, low, high)

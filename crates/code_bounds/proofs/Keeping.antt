@@ -40,14 +40,16 @@ few_labels p formed =
 
 module _ (defined : List ℕ → Option DefinedSymbol) (tree : FunctionTree) (m : Lin) (ds : List Descr) (pieces : Pieces) (accepted : IsAccepted defined tree)
     (made : IsMadeOf tree m ds pieces) where
-  few_places : length (places_in pieces.code) ≤ 23 * tree.tokens
+  few_places : length (places_in pieces.code) ≤ 12023 * tree.tokens
   few_places =
       let is = placed_for accepted made.is_prepared made.allocated in
       let below = is.labels in
       let emitted = ap (λ (p : Pieces). length (places_in p.code)) made.emitted.is in
-      let labels = ap length (places_are_labels m made.emitted.traps ds ∙ made.linear.labels) in
+      let labels = ap length (places_are_labels m made.emitted.traps ds) in
+      let more = made.linear.labels_few in
+      let instrs = is.instrs in
       let few = few_labels made.mach is.formed in
-      omega (arith, below, emitted, labels, few)
+      omega (arith, below, emitted, labels, more, instrs, few)
 
   -- They keep to it where at most 250 tries nest.
   pub keeps_to : tries tree ≤ 250 → KeepsTo tree pieces

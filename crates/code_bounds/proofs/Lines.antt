@@ -1,5 +1,7 @@
 -- The pieces of a function have as few words as its lines say.
-use Rattle.std.proofs.Common.{◌≡◌, ℕ, ◌+◌, ◌≤◌, Bool, true, false, cond, nat_lt, List, [], ◌∷◌, ◌++◌, length, Option, arith}
+use Rattle.std.proofs.Common.{◌≡◌, ℕ, ◌+◌, ◌≤◌, Bool, true, false, cond, nat_eq, nat_lt, List, [], ◌∷◌, ◌++◌, length, Option, refl, arith}
+use Rattle.bs_words.specs.declared.operators.CmpOp.{CmpOp}
+use Rattle.bs_words.specs.declared.operators.CmpOp.TheVariants as compare
 use Rattle.bs_words.specs.declared.types.Loc.{Loc}
 use Rattle.bs_words.specs.declared.types.Loc.TheVariants as loc
 use Rattle.lin_ir.specs.Meaning.{passes_frame, same_loc}
@@ -10,20 +12,26 @@ use Rattle.lin_ir.specs.declared.lin.LinOp.TheVariants as lin
 use Rattle.lin_ir.specs.declared.lin.Line.{Line}
 use Rattle.lin_ir.specs.declared.lin.Lin.{Lin}
 use Rattle.lin_ir.specs.declared.lin.Spot.{Spot}
+use Rattle.mach_ir.specs.declared.mach.Test.{Test}
+use Rattle.mach_ir.specs.declared.mach.Test.TheVariants as test
 use Rattle.mach_ir.specs.declared.op.Op.TheVariants as op
 use Rattle.mach_ir.specs.declared.op.Pure.TheVariants as pure
+use Rattle.mach_ir.specs.declared.op.Right.{Right}
+use Rattle.mach_ir.specs.declared.op.Right.TheVariants as right
 use Rattle.rv_isa.specs.declared.instr.LoadWidth.TheVariants as loads
 use Rattle.rv_isa.specs.declared.instr.StoreWidth.TheVariants as stores
 use Rattle.rv_isa.specs.declared.register.Register.{Register}
 use Rattle.rv_isa.specs.declared.register.Register.TheVariants.{Sp, T1, T2}
 use Rattle.rv_pieces.specs.declared.piece.Piece.{Piece}
+use Rattle.emit_rules.specs.Constants.{constant}
 use Rattle.emit_rules.specs.Instructions.{register_at, load, store}
-use Rattle.emit_rules.specs.Slots.{far_stack, stack_load, stack_store, slot_offset, first, target, kept, copied, moved}
+use Rattle.emit_rules.specs.Slots.{far_stack, stack_load, stack_store, slot_offset, first, second, register_of, fetched, target, kept, copied, moved}
+use Rattle.emit_rules.specs.Tests.{right_register, right_words, signed_branch, unsigned_branch, test_words, test_branch, branch_part}
 use Rattle.pass_rules.specs.Measures.{copy_words}
 use Rattle.emit_rules.specs.Emitted.{parts, part_of, part_before, descriptor, left_after, emitted}
 use Rattle.emit_rules.specs.Entry.{Frame, frame_of, entry}
-use Rattle.emit_rules.specs.Sizes.{words_at_most}
-use Rattle.emit_rules.proofs.Sizes.{entry-in, part_is_short}
+use Rattle.emit_rules.specs.Sizes.{most_words, words_at_most}
+use Rattle.emit_rules.proofs.Sizes.{constant-in, entry-in, part_is_short}
 use Rattle.emit_rules.proofs.Units.{part_by}
 use Rattle.code_bounds.specs.Lines.{words_with, line_words, lines_words}
 
@@ -70,6 +78,60 @@ move_short t from to = by (same_loc from to)
     by true = omega arith
     by false = copy_short t from to
 
+-- ---- branches
+
+fetched_short : (t : ℕ) (scratch : Register) (l : Loc) → words_at_most (fetched t scratch l) ≤ 3
+fetched_short t scratch (loc.Machine n) = omega arith
+fetched_short t scratch (loc.Slot k) = load_short scratch scratch (slot_offset t k)
+fetched_short t scratch loc.Unset = omega arith
+
+right_short : (t : ℕ) (r : Right) (args : List Spot) → words_at_most (right_words t r args) ≤ 9
+right_short t right.Register args = let h = fetched_short t T2 (second args) in omega (arith, h)
+right_short t (right.Constant w) args = by (nat_eq w 0)
+  where
+    by : (b : Bool) → words_at_most (cond b [] (constant T2 w)) ≤ 9
+    by true = omega arith
+    by false = (constant-in T2 w).fits
+
+test_short : (t : ℕ) (f : Test) (args : List Spot) → words_at_most (test_words t f args) ≤ 9
+test_short t test.Holds args = omega arith
+test_short t test.Fails args = omega arith
+test_short t (test.Signed f r) args = right_short t r args
+test_short t (test.Unsigned f r) args = right_short t r args
+
+signed_short : (f : CmpOp) (a b : Register) (l : ℕ) → most_words (signed_branch f a b l) ≡ 3
+signed_short compare.Eq a b l = refl
+signed_short compare.Ne a b l = refl
+signed_short compare.Lt a b l = refl
+signed_short compare.Le a b l = refl
+signed_short compare.Gt a b l = refl
+signed_short compare.Ge a b l = refl
+
+unsigned_short : (f : CmpOp) (a b : Register) (l : ℕ) → most_words (unsigned_branch f a b l) ≡ 3
+unsigned_short compare.Eq a b l = refl
+unsigned_short compare.Ne a b l = refl
+unsigned_short compare.Lt a b l = refl
+unsigned_short compare.Le a b l = refl
+unsigned_short compare.Gt a b l = refl
+unsigned_short compare.Ge a b l = refl
+
+one_branch : (f : Test) (args : List Spot) (a : Register) (l : ℕ) → most_words (test_branch f args a l) ≡ 3
+one_branch test.Holds args a l = refl
+one_branch test.Fails args a l = refl
+one_branch (test.Signed f r) args a l = signed_short f a (right_register r args) l
+one_branch (test.Unsigned f r) args a l = unsigned_short f a (right_register r args) l
+
+branch_short : (t : ℕ) (f : Test) (l : ℕ) (args : List Spot) → words_at_most (branch_part t f l args) ≤ 15
+branch_short t f l args =
+    let a = register_of T1 (first args) in
+    let last = test_branch f args a l ∷ [] in
+    let whole = words-join (fetched t T1 (first args) ++ test_words t f args) last in
+    let before = words-join (fetched t T1 (first args)) (test_words t f args) in
+    let fetch = fetched_short t T1 (first args) in
+    let tested = test_short t f args in
+    let one = one_branch f args a l in
+    omega (arith, whole, before, fetch, tested, one)
+
 -- ---- lines
 
 part_short : (t : ℕ) (f : Frame) (d : Option Descr) (g : LinOp) (args results : List Spot) →
@@ -91,6 +153,7 @@ part_short t f d (lin.Flow (flow.Label l)) args results = omega arith
 part_short t f d (lin.Flow (flow.Jump l)) args results = omega arith
 part_short t f d (lin.Flow (flow.Exit l)) args results = omega arith
 part_short t f d (lin.Flow flow.PopTrap) args results = omega arith
+part_short t f d (lin.Flow (flow.Branch g l)) args results = let h = branch_short t g l args in omega (arith, h)
 part_short t f d (lin.Flow g) args results = let h = part_is_short t f d (record { op = lin.Flow g; args = args; results = results }) in omega (arith, h)
 
 pub line_short : (t : ℕ) (f : Frame) (d : Option Descr) (i : Line) (next : List Line) → words_at_most (part_before t f d i next) ≤ line_words i

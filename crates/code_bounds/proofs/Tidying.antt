@@ -1,6 +1,7 @@
--- Words and frame points do not grow where registers get places, where code is lowered, and where lines are tidied.
-use Rattle.std.proofs.Common.{◌≡◌, ℕ, zero, suc, ◌+◌, ◌*◌, ◌≤◌, Bool, true, false, cond, List, [], ◌∷◌, length, map, Option, refl, sym, ap, subst, arith}
+-- Words and frame points do not grow where code is lowered and where lines are tidied, but for the tests of loops that are turned round.
+use Rattle.std.proofs.Common.{◌≡◌, ℕ, zero, suc, ◌+◌, ◌*◌, ◌≤◌, Bool, true, false, cond, List, [], ◌∷◌, ◌++◌, length, map, Option, Some, None, refl, sym, ap, subst, arith}
 use Rattle.std.proofs.lemmas.List.{length-map}
+use Rattle.mach_ir.specs.Formed.{is_exit}
 use Rattle.mach_ir.specs.declared.mach.Instr.{Instr}
 use Rattle.mach_ir.specs.declared.mach.Mach.{Mach}
 use Rattle.mach_ir.specs.declared.mach.MachOp.{MachOp}
@@ -10,7 +11,7 @@ use Rattle.mach_ir.specs.declared.mach.Mark.TheVariants as mark
 use Rattle.mach_ir.specs.Meaning as machs
 use Rattle.mach_ir.specs.declared.op.Op.TheVariants as op
 use Rattle.mach_ir.specs.declared.op.Pure.TheVariants as pure
-use Rattle.pass_rules.specs.Measures.{copy_words, mark_words, words_with, instr_words, code_words, one_if, code_points}
+use Rattle.pass_rules.specs.Measures.{copy_words, mark_words, words_with, instr_words, code_words, one_if, code_points, exits}
 use Rattle.lin_ir.specs.Descriptors.{frame_points}
 use Rattle.lin_ir.specs.Meaning.{passes_frame}
 use Rattle.lin_ir.specs.declared.lin.Flow.TheVariants as flow
@@ -18,12 +19,20 @@ use Rattle.lin_ir.specs.declared.lin.LinOp.{LinOp}
 use Rattle.lin_ir.specs.declared.lin.LinOp.TheVariants as lin
 use Rattle.lin_ir.specs.declared.lin.Line.{Line}
 use Rattle.lin_ir.specs.declared.lin.Lin.{Lin}
-use Rattle.linear_rules.specs.Lowered.{is_idle, pops, bare, line_of, spot, lines_of_mark, lines_of, lowered_one, lowered_code, slot_number, lowered}
-use Rattle.tidy_rules.specs.Leaving.{without}
-use Rattle.tidy_rules.specs.Redirecting.{redirected, redirect, Tidies, as_it_is, then_leaves, then_redirects}
+use Rattle.linear_rules.specs.Lowered as lower
+use Rattle.linear_rules.specs.Lowered.{is_idle, pops, line_of, spot, lines_of_mark, lines_of, lowered_one, lowered_code, slot_number, lowered}
+use Rattle.linear_rules.proofs.Walked.{Tail, tail_all, tail_next, tail_stands}
+use Rattle.tidy_rules.specs.Leaving.{bare, without, LeavesOften, not_once, once_more}
+use Rattle.tidy_rules.specs.Redirecting.{redirected, redirect, last_label, last_exit, redirected_all}
+use Rattle.tidy_rules.specs.Regular.{IsRegular}
+use Rattle.tidy_rules.specs.Tidied.{IsTidied}
+use Rattle.tidy_rules.specs.Turning.{Turn, label_put, tested_again, turned_line, turned_lines, Turns, turned_all}
+use Rattle.tidy_rules.proofs.Following.{redirects_all}
 use Rattle.tidy_rules.proofs.Redirecting.{jump_same, same_frame}
+use Rattle.tidy_rules.proofs.Tidied.{redirecting_regular}
+use Rattle.tidy_rules.proofs.TurningAll.{turns_all}
 use Rattle.code_bounds.specs.Lines as lines
-use Rattle.code_bounds.specs.Lines.{lines_words}
+use Rattle.code_bounds.specs.Lines.{line_words, lines_words, turning_words, turned_words}
 
 -- ---- lowering
 
@@ -34,8 +43,15 @@ points_next i next = by (passes_frame i.op)
     by true = omega arith
     by false = omega arith
 
+exits_next : (i : Instr) (is : List Instr) → exits (i ∷ is) ≡ one_if (is_exit i.op) + exits is
+exits_next i is = by (is_exit i.op)
+  where
+    by : (b : Bool) → cond b (suc (exits is)) (exits is) ≡ one_if b + exits is
+    by true = omega arith
+    by false = omega arith
+
 module _ (number : ℕ → ℕ) where
-  pop_words : (n : ℕ) (next : List Line) → lines_words (pops number n next) ≡ 2 * n + lines_words next
+  pop_words : (n : ℕ) (next : List Line) → turned_words (pops number n next) ≡ 2 * n + turned_words next
   pop_words zero next = omega arith
   pop_words (suc n) next = let others = pop_words n next in omega (arith, others)
 
@@ -44,8 +60,8 @@ module _ (number : ℕ → ℕ) where
   pop_points (suc n) next = pop_points n next
 
   mark_words_lower : (f : Mark) (i : Instr) (next : List Line) →
-      lines_words (lines_of_mark number f i next) ≤ mark_words f + 16 * length i.results + lines_words next
-  mark_words_lower (mark.Exit l n) i next = let all = pop_words n (bare number (flow.Exit l) ∷ next) in omega (arith, all)
+      turned_words (lines_of_mark number f i next) ≤ mark_words f + 16 * length i.results + 17 * one_if (is_exit (mach.Mark f)) + turned_words next
+  mark_words_lower (mark.Exit l n) i next = let all = pop_words n (lower.bare number (flow.Exit l) ∷ next) in omega (arith, all)
   mark_words_lower (mark.If t l) i next = let same = length-map i.results (spot number) in omega (arith, same)
   mark_words_lower (mark.Else l end) i next = omega arith
   mark_words_lower (mark.Switch labels) i next = let same = length-map i.results (spot number) in omega (arith, same)
@@ -58,7 +74,7 @@ module _ (number : ℕ → ℕ) where
   mark_words_lower (mark.End l) i next = omega arith
 
   mark_points_lower : (f : Mark) (i : Instr) (next : List Line) → frame_points (lines_of_mark number f i next) ≡ frame_points next
-  mark_points_lower (mark.Exit l n) i next = pop_points n (bare number (flow.Exit l) ∷ next)
+  mark_points_lower (mark.Exit l n) i next = pop_points n (lower.bare number (flow.Exit l) ∷ next)
   mark_points_lower (mark.If t l) i next = refl
   mark_points_lower (mark.Else l end) i next = refl
   mark_points_lower (mark.Switch labels) i next = refl
@@ -71,9 +87,9 @@ module _ (number : ℕ → ℕ) where
   mark_points_lower (mark.End l) i next = refl
 
   op_words_lower : (f : MachOp) (i : Instr) (next : List Line) → is_idle f i.args i.results ≡ false →
-      lines_words (lines_of number f i next) ≤ words_with f i.args i.results + lines_words next
+      turned_words (lines_of number f i next) ≤ words_with f i.args i.results + 17 * one_if (is_exit f) + turned_words next
   op_words_lower (mach.Op (op.Pure (pure.Copy kind))) i next moves =
-      subst (λ (b : Bool). copy_words + lines_words next ≤ cond b 0 copy_words + lines_words next) (sym moves) (omega arith)
+      subst (λ (b : Bool). copy_words + 0 + turned_words next ≤ cond b 0 copy_words + 17 * 0 + turned_words next) (sym moves) (omega arith)
   op_words_lower (mach.Op (op.Pure (pure.Constant w))) i next moves = let same = length-map i.results (spot number) in omega (arith, same)
   op_words_lower (mach.Op (op.Pure (pure.Symbol name))) i next moves = let same = length-map i.results (spot number) in omega (arith, same)
   op_words_lower (mach.Op (op.Pure (pure.Operator f r))) i next moves = let same = length-map i.results (spot number) in omega (arith, same)
@@ -86,10 +102,11 @@ module _ (number : ℕ → ℕ) where
   op_points_lower (mach.Op f) i next = points_next (line_of number (lin.Op f) i) next
   op_points_lower (mach.Mark f) i next = let same = mark_points_lower f i next in omega (arith, same)
 
-  one_words : (i : Instr) (next : List Line) → lines_words (lowered_one number i next) ≤ instr_words i + lines_words next
+  one_words : (i : Instr) (next : List Line) → turned_words (lowered_one number i next) ≤ instr_words i + 17 * one_if (is_exit i.op) + turned_words next
   one_words i next = by (is_idle i.op i.args i.results) refl
     where
-      by : (b : Bool) → is_idle i.op i.args i.results ≡ b → lines_words (cond b next (lines_of number i.op i next)) ≤ instr_words i + lines_words next
+      by : (b : Bool) → is_idle i.op i.args i.results ≡ b →
+          turned_words (cond b next (lines_of number i.op i next)) ≤ instr_words i + 17 * one_if (is_exit i.op) + turned_words next
       by true idle = omega arith
       by false moves = op_words_lower i.op i next moves
 
@@ -100,12 +117,13 @@ module _ (number : ℕ → ℕ) where
       by true = omega arith
       by false = let same = op_points_lower i.op i next in omega (arith, same)
 
-  pub lowered_words : (code : List Instr) → lines_words (lowered_code number code) ≤ code_words code
+  pub lowered_words : (code : List Instr) → turned_words (lowered_code number code) ≤ code_words code + 17 * exits code
   lowered_words [] = omega arith
   lowered_words (i ∷ is) =
       let here = one_words i (lowered_code number is) in
       let others = lowered_words is in
-      omega (arith, here, others)
+      let split = exits_next i is in
+      omega (arith, here, others, split)
 
   pub lowered_points : (code : List Instr) → frame_points (lowered_code number code) ≤ code_points code
   lowered_points [] = omega arith
@@ -146,45 +164,121 @@ without_no_larger goes (i ∷ next) = by (goes (length next)) (without_no_larger
         let there = points_next i (without goes next) in
         record { words = omega (arith, words); points = omega (arith, points, here, there) }
 
--- a jump and an exit are as many words
-redirected_words : (to : ℕ → ℕ) (exits : ℕ → Option ℕ) (f : LinOp) (n : ℕ) → lines.words_with (redirected to exits f) n ≡ lines.words_with f n
+often_no_larger : {q r : Lin} → LeavesOften q r → NoLarger r.code q.code
+often_no_larger not_once = record { words = omega arith; points = omega arith }
+often_no_larger {q} (once_more {q = p} way l) =
+    subst (λ (r : Lin). NoLarger r.code q.code) (sym l.is) (no_larger_then (without_no_larger l.goes p.code) (often_no_larger way))
+
+-- a jump and an exit are as many words, and either may be turned
+redirected_words : (to : ℕ → ℕ) (exits : ℕ → Option ℕ) (f : LinOp) (n : ℕ) →
+    lines.words_with (redirected to exits f) n + turning_words (redirected to exits f) ≡ lines.words_with f n + turning_words f
 redirected_words to exits (lin.Op f) n = refl
-redirected_words to exits (lin.Flow (flow.Jump l)) n = jump_same (λ f. lines.words_with f n) _ (λ l. refl) (λ l. refl) (exits l) (to l)
+redirected_words to exits (lin.Flow (flow.Jump l)) n =
+    jump_same (λ f. lines.words_with f n + turning_words f) _ (λ l. refl) (λ l. refl) (exits l) (to l)
 redirected_words to exits (lin.Flow (flow.Exit l)) n = refl
 redirected_words to exits (lin.Flow (flow.Branch test l)) n = refl
 redirected_words to exits (lin.Flow f) n = refl
 
-redirect_no_larger : (to : ℕ → ℕ) (exits : ℕ → Option ℕ) (code : List Line) → NoLarger (map (redirect to exits) code) code
-redirect_no_larger to exits [] = record { words = omega arith; points = omega arith }
-redirect_no_larger to exits (i ∷ next) =
-    let others = redirect_no_larger to exits next in
-    let words = others.words in
-    let points = others.points in
-    let own = redirected_words to exits i.op (length i.results) in
-    let here = points_next i next in
-    let there = points_next (redirect to exits i) (map (redirect to exits) next) in
-    let same = ap one_if (same_frame to exits i.op) in
-    record { words = omega (arith, words, own); points = omega (arith, points, here, there, same) }
+-- the code has no more words than the other may have once loops are turned, and no more frame points
+pub record Fits (q p : List Line) : Type 0 where
+  pub words : lines_words q ≤ turned_words p
+  pub points : frame_points q ≤ frame_points p
 
-pub tidied_no_larger : {m r : Lin} → Tidies m r → NoLarger r.code m.code
-tidied_no_larger as_it_is = record { words = omega arith; points = omega arith }
-tidied_no_larger {m} (then_leaves {q = q} t l) =
-    subst (λ (r : Lin). NoLarger r.code m.code) (sym l.is) (no_larger_then (without_no_larger l.goes q.code) (tidied_no_larger t))
-tidied_no_larger {m} (then_redirects {q = q} t l) =
-    subst (λ (r : Lin). NoLarger r.code m.code) (sym l.is) (no_larger_then (redirect_no_larger l.to l.exits q.code) (tidied_no_larger t))
+fits_then : {r q p : List Line} → NoLarger r q → Fits q p → Fits r p
+fits_then {r} {q} {p} a b =
+    let words = a.words in
+    let more_words = b.words in
+    let points = a.points in
+    let more_points = b.points in
+    record { words = omega (arith, words, more_words); points = omega (arith, points, more_points) }
 
--- ---- all three
+fits_redirected : (to : ℕ → ℕ) (exits : ℕ → Option ℕ) {r code : List Line} → Fits r (map (redirect to exits) code) → Fits r code
+fits_redirected to exits {r} {code} fits =
+    let words = fits.words in
+    let points = fits.points in
+    let same_words = all_words code in
+    let same_points = all_points code in
+    record { words = omega (arith, words, same_words); points = omega (arith, points, same_points) }
+  where
+    all_words : (code : List Line) → turned_words (map (redirect to exits) code) ≡ turned_words code
+    all_words [] = refl
+    all_words (i ∷ next) =
+        let others = all_words next in
+        let own = redirected_words to exits i.op (length i.results) in
+        omega (arith, others, own)
+
+    all_points : (code : List Line) → frame_points (map (redirect to exits) code) ≡ frame_points code
+    all_points [] = refl
+    all_points (i ∷ next) =
+        let others = all_points next in
+        let here = points_next i next in
+        let there = points_next (redirect to exits i) (map (redirect to exits) next) in
+        let same = ap one_if (same_frame to exits i.op) in
+        omega (arith, others, here, there, same)
+
+module _ (m r : Lin) (h : Turns m r) where
+  -- an exit that is turned has its own words and those of a branch and a jump, and labels have none
+  lines_fit : (is : List Line) → Tail is m.code → Fits (turned_lines h.turns h.opens is) is
+  lines_fit [] w = record { words = omega arith; points = omega arith }
+  lines_fit (i ∷ next) w = by (h.turns (length next)) refl (h.opens (length next)) (lines_fit next (tail_next w))
+    where
+      rest : List Line
+      rest = turned_lines h.turns h.opens next
+
+      two_words : (b : Bool) (t : Turn) → lines_words (tested_again b t.head ++ rest) ≡ 17 + lines_words rest
+      two_words true t = omega arith
+      two_words false t = omega arith
+
+      two_points : (b : Bool) (t : Turn) → frame_points (tested_again b t.head ++ rest) ≡ frame_points rest
+      two_points true t = refl
+      two_points false t = refl
+
+      stays : (o : Option ℕ) → Fits rest next → Fits (i ∷ (label_put o ++ rest)) (i ∷ next)
+      stays None fits =
+          let words = fits.words in
+          let points = fits.points in
+          let here = points_next i next in
+          let there = points_next i rest in
+          record { words = omega (arith, words); points = omega (arith, points, here, there) }
+      stays (Some l) fits =
+          let words = fits.words in
+          let points = fits.points in
+          let here = points_next i next in
+          let there = points_next i (bare (flow.Label l) ∷ rest) in
+          record { words = omega (arith, words); points = omega (arith, points, here, there) }
+
+      by : (x : Option Turn) → h.turns (length next) ≡ x → (o : Option ℕ) → Fits rest next → Fits (turned_line x o i ++ rest) (i ∷ next)
+      by None u o fits = stays o fits
+      by (Some t) u o fits =
+          let words = fits.words in
+          let points = fits.points in
+          let own = ap (λ (i : Line). line_words i + turning_words i.op) (h.each i next t (tail_stands w) u).is in
+          let here = points_next i next in
+          let both = two_words t.keeps t in
+          let none = two_points t.keeps t in
+          record { words = omega (arith, words, own, both); points = omega (arith, points, here, none) }
+
+turning_fits : {m r : Lin} → Turns m r → Fits r.code m.code
+turning_fits {m} {r} h = subst (λ (r : Lin). Fits r.code m.code) (sym h.is) (lines_fit m r h m.code tail_all)
+
+-- Once it is made tidy it has no more words than its lines with room for loops turned round.
+pub tidied_fits : {m r : Lin} → IsRegular m → IsTidied m r → Fits r.code m.code
+tidied_fits {m} regular h =
+    let turns : Turns (redirected_all m) (turned_all (redirected_all m)) = turns_all (redirecting_regular (redirects_all m) regular).well in
+    fits_then (often_no_larger h.leaves) (fits_redirected (last_label m) (last_exit m) (turning_fits turns))
+
+-- ---- whole
 
 -- of a Mach function that was lowered and tidied
-module _ (q : Mach) (r : Lin) (t : Tidies (lowered q) r) where
-  pub linear_words : lines_words r.code ≤ code_words q.code
+module _ (q : Mach) (r : Lin) (regular : IsRegular (lowered q)) (t : IsTidied (lowered q) r) where
+  pub linear_words : lines_words r.code ≤ code_words q.code + 17 * exits q.code
   linear_words =
-      let tidied = (tidied_no_larger t).words in
+      let tidied = (tidied_fits regular t).words in
       let lower = lowered_words (slot_number q) q.code in
       omega (arith, tidied, lower)
 
   pub linear_points : frame_points r.code ≤ code_points q.code
   linear_points =
-      let tidied = (tidied_no_larger t).points in
+      let tidied = (tidied_fits regular t).points in
       let lower = lowered_points (slot_number q) q.code in
       omega (arith, tidied, lower)

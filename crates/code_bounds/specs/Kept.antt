@@ -12,5 +12,6 @@ pub record KeepsTo (tree : FunctionTree) (pieces : Pieces) : Type 0 where
   pub descrs : List Descr
   pub carried : marks_in pieces.code ≡ descrs
   pub bounded : IsBoundedBy tree descrs pieces
-  -- and the labels, which have no words
-  pub labels : length (places_in pieces.code) ≤ 184 * tree.tokens
+  -- and the labels, which have no words: those of the Mach function, and at most one more for each
+  -- of its instructions
+  pub labels : length (places_in pieces.code) ≤ 12023 * tree.tokens

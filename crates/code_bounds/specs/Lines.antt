@@ -13,6 +13,7 @@ abbrev pub flow_words : Flow → ℕ
 flow_words (flow.Label l) = 0
 flow_words (flow.Jump l) = 2
 flow_words (flow.Exit l) = 2
+flow_words (flow.Branch t l) = 15
 flow_words flow.PopTrap = 2
 flow_words (flow.Switch labels) = 32 + 4 * length labels
 flow_words _ = 32
@@ -29,3 +30,17 @@ line_words i = words_with i.op (length i.results)
 abbrev pub lines_words : List Line → ℕ
 lines_words [] = 0
 lines_words (i ∷ is) = line_words i + lines_words is
+
+-- ---- loops turned round
+
+-- What a line may have besides once loops are turned round: an exit, and a jump, which may become
+-- one, have room for a branch and a jump after them.
+abbrev pub turning_words : LinOp → ℕ
+turning_words (lin.Flow (flow.Jump l)) = 17
+turning_words (lin.Flow (flow.Exit l)) = 17
+turning_words _ = 0
+
+-- lines with that room
+abbrev pub turned_words : List Line → ℕ
+turned_words [] = 0
+turned_words (i ∷ is) = line_words i + turning_words i.op + turned_words is

@@ -1,4 +1,5 @@
 pub mod Slots
 pub mod Ends
 pub mod Tries
+pub mod Exits
 pub mod Placed
