@@ -66,7 +66,7 @@ some_words (Branch c a b l) f e = branch_some f
 some_words (Jump l) f e = jump_some f
 some_words p f e = omega arith
 
--- behind one word, and not behind another
+-- after one word, and not after another
 abbrev Above : ℕ → List Desc → Type 0
 Above from ds = AllByRecursion (λ (d : Desc). 4 * from < d.after) ds
 

@@ -18,6 +18,7 @@ abbrev pub target_by : Option Way → ℕ → ℕ
 target_by None l = l
 target_by (Some way) l = way.label
 
+-- and leads to no exit
 abbrev pub exit_by : Option Way → Option ℕ
 exit_by None = None
 exit_by (Some way) = way.exit
