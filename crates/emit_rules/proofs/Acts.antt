@@ -46,7 +46,7 @@ use Rattle.emit_rules.specs.Entry.{Frame, given_back}
 use Rattle.emit_rules.specs.Calls.{mark_of}
 use Rattle.emit_rules.specs.Emitted.{operator_part, op_part, flow_part, lin_part, part_of, descriptor, left_after, parts}
 use Rattle.emit_rules.specs.Units.{is_branch}
-use Rattle.emit_rules.proofs.Units.{FallsTo, if_branch, branch_is_not_free, part_unless_free}
+use Rattle.emit_rules.proofs.Units.{FallsTo, falls_here, falls_past, if_branch, branch_is_not_free, part_unless_free}
 use Rattle.mach_ir.specs.declared.op.CopyKind.{CopyKind}
 use Rattle.lin_ir.specs.Formed.{IsSelfMove, is_self_move, IsLocation, is_home, is_spare, IsHome, is_colour, is_slot}
 use Rattle.lin_ir.specs.declared.lin.Lin.{Lin}
@@ -288,7 +288,9 @@ module _ (traps : ℕ → ℕ) (f : Frame) where
       before _ (subst Acts (sym (part_unless_free t f d i next (branch_is_not_free i.op next e))) own)
 
   -- it has an instruction: its branch has
+  falls_acts : {l : ℕ} {code : List Line} (ds : List Descr) → FallsTo l code → Acts (parts traps f ds code)
+  falls_acts ds (falls_here {i = i} {j = j} {rest = rest} has tests) = after _ (branch_acts (left_after (passes_frame i.op) ds) j rest tests)
+  falls_acts ds (falls_past {i = i} other mark falls) = after _ (falls_acts (left_after (passes_frame i.op) ds) falls)
+
   pub falls_act : (ds : List Descr) (l : ℕ) (code : List Line) → FallsTo l code → 1 ≤ words_at_least (parts traps f ds code)
-  falls_act ds l code falls =
-      let own = branch_acts (left_after (passes_frame falls.label.op) ds) falls.branch falls.rest falls.tests in
-      acts-some (subst (λ code. Acts (parts traps f ds code)) (sym falls.is) (after _ own))
+  falls_act ds l code falls = acts-some (falls_acts ds falls)

@@ -1,9 +1,9 @@
 -- Exits that have no words: which lines they are, and what holds of the part of a line before any code.
-use Rattle.std.proofs.Common.{◌≡◌, ℕ, Bool, true, false, cond, ◌&&◌, List, [], ◌∷◌, Option, refl, sym, ap, subst}
+use Rattle.std.proofs.Common.{◌≡◌, ℕ, Bool, true, false, cond, ◌&&◌, List, [], ◌∷◌, Option, refl, sym, ap, ◌∙◌, subst}
 use Rattle.std.proofs.lemmas.Bool.{eqb-true}
 use Rattle.mach_ir.specs.declared.mach.Test.{Test}
-use Rattle.lin_ir.specs.Formed.{label_of}
-use Rattle.lin_ir.specs.Meaning.{has_label, passes_frame}
+use Rattle.lin_ir.specs.Formed.{is_label, label_of}
+use Rattle.lin_ir.specs.Meaning.{after_label, has_label, passes_frame}
 use Rattle.lin_ir.specs.declared.descr.Descr.{Descr}
 use Rattle.lin_ir.specs.declared.lin.Flow.TheVariants as flow
 use Rattle.lin_ir.specs.declared.lin.Line.{Line}
@@ -12,19 +12,27 @@ use Rattle.lin_ir.specs.declared.lin.LinOp.TheVariants as lin
 use Rattle.rv_pieces.specs.declared.piece.Piece.{Piece}
 use Rattle.emit_rules.specs.Emitted.{part_of, part_before}
 use Rattle.emit_rules.specs.Entry.{Frame}
-use Rattle.emit_rules.specs.Units.{is_branch, falls_to, is_free}
+use Rattle.emit_rules.specs.Units.{is_branch, tests_first, falls_to, is_free}
 
 -- ---- which lines they are
 
--- the label comes first, and then a branch
-pub record FallsTo (l : ℕ) (next : List Line) : Type 0 where
-  pub label : Line
-  pub branch : Line
-  pub rest : List Line
-  pub is : next ≡ label ∷ branch ∷ rest
-  pub has : has_label l label.op ≡ true
-  pub label_is : label.op ≡ lin.Flow (flow.Label l)
-  pub tests : is_branch branch.op ≡ true
+-- the label comes, after other labels alone, and then a branch
+pub data FallsTo (l : ℕ) : List Line → Type 0 where
+  falls_here : {i j : Line} {rest : List Line} → has_label l i.op ≡ true → is_branch j.op ≡ true → FallsTo l (i ∷ j ∷ rest)
+  falls_past : {i : Line} {next : List Line} → has_label l i.op ≡ false → is_label i.op ≡ true → FallsTo l next → FallsTo l (i ∷ next)
+
+-- the code that begins with that branch
+abbrev pub branch_code : {l : ℕ} {next : List Line} → FallsTo l next → List Line
+branch_code (falls_here {j = j} {rest = rest} has tests) = j ∷ rest
+branch_code (falls_past other mark falls) = branch_code falls
+
+pub falls_tests : {l : ℕ} {next : List Line} (falls : FallsTo l next) → tests_first (branch_code falls) ≡ true
+falls_tests (falls_here has tests) = tests
+falls_tests (falls_past other mark falls) = falls_tests falls
+
+pub falls_after : {l : ℕ} {next : List Line} (falls : FallsTo l next) → after_label l next ≡ branch_code falls
+falls_after {l} (falls_here {j = j} {rest = rest} has tests) = ap (λ b. cond b (j ∷ rest) (after_label l (j ∷ rest))) has
+falls_after {l} (falls_past {next = next} other mark falls) = ap (λ b. cond b next (after_label l next)) other ∙ falls_after falls
 
 pub record FreeExit (g : LinOp) (next : List Line) : Type 0 where
   pub to : ℕ
@@ -35,23 +43,45 @@ both : (a b : Bool) → (a && b) ≡ true → (a ≡ true) × (b ≡ true)
 both true b e = (refl, e)
 both false b e = cc
 
-labelled : (l : ℕ) (g : LinOp) → has_label l g ≡ true → g ≡ lin.Flow (flow.Label l)
-labelled l (lin.Op g) e = cc
-labelled l (lin.Flow (flow.Label k)) e = ap (λ k. lin.Flow (flow.Label k)) (eqb-true k l e)
-labelled l (lin.Flow (flow.Jump k)) e = cc
-labelled l (lin.Flow (flow.Exit k)) e = cc
-labelled l (lin.Flow (flow.Branch t k)) e = cc
-labelled l (lin.Flow (flow.Switch ls)) e = cc
-labelled l (lin.Flow (flow.PushTrap k)) e = cc
-labelled l (lin.Flow flow.PopTrap) e = cc
-labelled l (lin.Flow flow.EnterTrap) e = cc
-
 pub falls_is : (l : ℕ) (next : List Line) → falls_to l next ≡ true → FallsTo l next
 falls_is l [] e = cc
-falls_is l (i ∷ []) e = let h : false ≡ true = (both (has_label l i.op) false e).1 in cc
-falls_is l (i ∷ j ∷ rest) e =
-    let h = both (has_label l i.op) (is_branch j.op) e in
-    record { label = i; branch = j; rest = rest; is = refl; has = h.0; label_is = labelled l i.op h.0; tests = h.1 }
+falls_is l (i ∷ next) e = by (has_label l i.op) refl e (λ h. falls_is l next h)
+  where
+    here : (next : List Line) → has_label l i.op ≡ true → tests_first next ≡ true → FallsTo l (i ∷ next)
+    here [] has e = cc
+    here (j ∷ rest) has e = falls_here has e
+
+    by : (b : Bool) → has_label l i.op ≡ b → cond b (tests_first next) (is_label i.op && falls_to l next) ≡ true → (falls_to l next ≡ true → FallsTo l next) →
+        FallsTo l (i ∷ next)
+    by true has e ih = here next has e
+    by false other e ih = let h = both (is_label i.op) (falls_to l next) e in falls_past other h.0 (ih h.1)
+
+-- a label, as a line
+pub record IsLabelLine (g : LinOp) : Type 0 where
+  pub number : ℕ
+  pub is : g ≡ lin.Flow (flow.Label number)
+
+pub label_line : (g : LinOp) → is_label g ≡ true → IsLabelLine g
+label_line (lin.Op g) e = cc
+label_line (lin.Flow (flow.Label k)) e = record { number = k; is = refl }
+label_line (lin.Flow (flow.Jump k)) e = cc
+label_line (lin.Flow (flow.Exit k)) e = cc
+label_line (lin.Flow (flow.Branch t k)) e = cc
+label_line (lin.Flow (flow.Switch ls)) e = cc
+label_line (lin.Flow (flow.PushTrap k)) e = cc
+label_line (lin.Flow flow.PopTrap) e = cc
+label_line (lin.Flow flow.EnterTrap) e = cc
+
+pub own_label_line : (l : ℕ) (g : LinOp) → has_label l g ≡ true → g ≡ lin.Flow (flow.Label l)
+own_label_line l (lin.Op g) e = cc
+own_label_line l (lin.Flow (flow.Label k)) e = ap (λ k. lin.Flow (flow.Label k)) (eqb-true k l e)
+own_label_line l (lin.Flow (flow.Jump k)) e = cc
+own_label_line l (lin.Flow (flow.Exit k)) e = cc
+own_label_line l (lin.Flow (flow.Branch t k)) e = cc
+own_label_line l (lin.Flow (flow.Switch ls)) e = cc
+own_label_line l (lin.Flow (flow.PushTrap k)) e = cc
+own_label_line l (lin.Flow flow.PopTrap) e = cc
+own_label_line l (lin.Flow flow.EnterTrap) e = cc
 
 -- only an exit has no words
 pub free_is_exit : (g : LinOp) (next : List Line) → is_free g next ≡ true → FreeExit g next

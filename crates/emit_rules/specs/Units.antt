@@ -1,9 +1,10 @@
 -- Exits that have no words.
 --
--- An exit counts a unit. Where it goes to the label right after it, and a branch stands there,
+-- An exit counts a unit. Where it goes to a label right after it, and a branch stands there,
 -- control comes there without an instruction. The branch takes one whichever way it goes, and that
 -- one stands for the unit.
 use Rattle.std.specs.Prelude.{ℕ, Bool, true, false, cond, ◌&&◌, List, [], ◌∷◌}
+use Rattle.lin_ir.specs.Formed.{is_label}
 use Rattle.lin_ir.specs.Meaning.{has_label}
 use Rattle.lin_ir.specs.declared.lin.Flow.TheVariants as flow
 use Rattle.lin_ir.specs.declared.lin.LinOp.{LinOp}
@@ -19,10 +20,11 @@ abbrev pub tests_first : List Line → Bool
 tests_first [] = false
 tests_first (i ∷ next) = is_branch i.op
 
--- the label comes first, and right after it a branch
+-- the label comes next, but for other labels, and right after it a branch
 abbrev pub falls_to : ℕ → List Line → Bool
 falls_to l [] = false
-falls_to l (i ∷ next) = has_label l i.op && tests_first next
+falls_to l (i ∷ next) =
+    cond (has_label l i.op) (tests_first next) (is_label i.op && falls_to l next)
 
 -- before this code the operation is such an exit
 abbrev pub is_free : LinOp → List Line → Bool

@@ -1,9 +1,9 @@
--- An exit that has no words, and the label to which it goes, lie where the branch does.
-use Rattle.std.proofs.Common.{◌≡◌, ℕ, suc, true, cond, List, [], ◌∷◌, ◌++◌, length, Option, refl, sym, ap, ◌∙◌, subst}
+-- An exit that has no words, and the labels up to that to which it goes, lie where the branch does.
+use Rattle.std.proofs.Common.{◌≡◌, ℕ, suc, true, List, [], ◌∷◌, ◌++◌, length, Option, refl, sym, ap, ◌∙◌, subst}
 use Rattle.emit_rules.specs.Emitted.{part_before}
 use Rattle.emit_rules.specs.Entry.{Frame}
 use Rattle.emit_rules.specs.Units.{is_free}
-use Rattle.emit_rules.proofs.Units.{FallsTo, free_is_exit, part_if_free}
+use Rattle.emit_rules.proofs.Units.{FallsTo, falls_here, falls_past, branch_code, falls_after, label_line, own_label_line, part_if_free}
 use Rattle.layout_rules.specs.declared.form.Form.{Form}
 use Rattle.layout_rules.specs.Forms.{total_words}
 use Rattle.lin_ir.specs.Formed.{WellFormed, label_of, labels_in}
@@ -15,27 +15,23 @@ use Rattle.lin_ir.specs.declared.lin.Lin.{Lin}
 use Rattle.lin_ir.specs.declared.lin.Line.{Line}
 use Rattle.lin_ir.specs.declared.lin.LinOp.{LinOp}
 use Rattle.lin_ir.specs.declared.lin.LinOp.TheVariants as lin
-use Rattle.linear_rules.proofs.Homes.{IsIn, is_first}
-use Rattle.linear_rules.proofs.Walked.{stands_tail, tail_next, tail_stands}
+use Rattle.linear_rules.proofs.Homes.{IsIn, is_first, is_later}
+use Rattle.linear_rules.proofs.Walked.{Tail, stands_tail, tail_next, tail_stands}
 use Rattle.tidy_rules.proofs.Ends.{later_after}
 use Rattle.function_stands.proofs.Parts.{Place, place_stays}
 
 -- ---- the label
 
-module _ (l : ℕ) (next : List Line) (falls : FallsTo l next) where
-  after_it : after_label l next ≡ falls.branch ∷ falls.rest
-  after_it =
-      ap (after_label l) falls.is
-      ∙ ap (λ b. cond b (falls.branch ∷ falls.rest) (after_label l (falls.branch ∷ falls.rest))) falls.has
+named_in : {l : ℕ} {next : List Line} → FallsTo l next → IsIn l (labels_in next)
+named_in {l} (falls_here {i = i} {j = j} {rest = rest} has tests) =
+    subst (λ g. IsIn l (label_of g ++ labels_in (j ∷ rest))) (sym (own_label_line l i.op has)) is_first
+named_in {l} (falls_past {i = i} {next = next} other mark falls) =
+    let line = label_line i.op mark in subst (λ g. IsIn l (label_of g ++ labels_in next)) (sym line.is) (is_later (named_in falls))
 
-  named_in : IsIn l (labels_in next)
-  named_in =
-      let first = subst (λ g. IsIn l (label_of g ++ labels_in (falls.branch ∷ falls.rest))) (sym falls.label_is) is_first in
-      subst (λ code. IsIn l (labels_in code)) (sym falls.is) first
-
-  -- labels stand once
-  pub falls_after : {i : Line} (m : Lin) → WellFormed m → Stands i next m.code → after_label l m.code ≡ falls.branch ∷ falls.rest
-  falls_after m well stands = later_after l (tail_next (stands_tail stands)) well.labels named_in ∙ after_it
+-- labels stand once
+pub falls_in : {i : Line} {next : List Line} {l : ℕ} (m : Lin) → WellFormed m → Stands i next m.code → (falls : FallsTo l next) →
+    after_label l m.code ≡ branch_code falls
+falls_in {l = l} m well stands falls = later_after l (tail_next (stands_tail stands)) well.labels (named_in falls) ∙ falls_after falls
 
 -- ---- no words
 
@@ -55,12 +51,17 @@ module _ (traps : ℕ → ℕ) (f : Frame) where
       by [] = refl
       by (g ∷ gs) = refl
 
+  labels_place : (l : ℕ) {next : List Line} (ds : List Descr) (code : List Line) (fs : List Form) (at : ℕ) → Tail next code → (falls : FallsTo l next) →
+      Place traps f ds code fs at (length (branch_code falls)) ≡ Place traps f ds code fs at (length next)
+  labels_place l ds code fs at t (falls_here {i = i} {j = j} {rest = rest} has tests) =
+      place_stays traps f ds code fs at (tail_stands t) (label_none l i (j ∷ rest) (own_label_line l i.op has))
+  labels_place l ds code fs at t (falls_past {i = i} {next = next} other mark falls) =
+      let line = label_line i.op mark in
+      labels_place l ds code fs at (tail_next t) falls ∙ place_stays traps f ds code fs at (tail_stands t) (label_none line.number i next line.is)
+
   -- The exit begins where the branch does.
   pub free_place : {i : Line} {next : List Line} (ds : List Descr) (code : List Line) (fs : List Form) (at l : ℕ) → Stands i next code →
       is_free i.op next ≡ true → (falls : FallsTo l next) →
-      Place traps f ds code fs at (suc (length falls.rest)) ≡ Place traps f ds code fs at (suc (length next))
+      Place traps f ds code fs at (length (branch_code falls)) ≡ Place traps f ds code fs at (suc (length next))
   free_place {i} {next} ds code fs at l stands e falls =
-      let stands' = tail_stands (tail_next (stands_tail (subst (λ next. Stands i next code) falls.is stands))) in
-      let label = place_stays traps f ds code fs at stands' (label_none l falls.label (falls.branch ∷ falls.rest) falls.label_is) in
-      let exit = place_stays traps f ds code fs at stands (free_none i next e) in
-      label ∙ ap (λ next. Place traps f ds code fs at (length next)) (sym falls.is) ∙ exit
+      labels_place l ds code fs at (tail_next (stands_tail stands)) falls ∙ place_stays traps f ds code fs at stands (free_none i next e)

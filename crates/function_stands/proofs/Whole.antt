@@ -39,7 +39,7 @@ use Rattle.linear_machine.specs.View.{Fixed}
 use Rattle.linear_rules.proofs.Homes.{IsIn, in_of}
 use Rattle.linear_rules.proofs.Marks.{all_in}
 use Rattle.emit_rules.proofs.Names.{stands-contains}
-use Rattle.emit_rules.proofs.Units.{free_is_exit, part_unless_free}
+use Rattle.emit_rules.proofs.Units.{free_is_exit, part_unless_free, falls_tests}
 use Rattle.linear_rules.proofs.Walked.{Tail, stands_tail, tail_next}
 use Rattle.mach_ir.specs.Acts.{On, row_of}
 use Rattle.mach_ir.specs.declared.op.External.{External}
@@ -54,7 +54,7 @@ use Rattle.function_stands.proofs.Ending.{place_before, points_go_on}
 use Rattle.function_stands.proofs.Entries.{as_many, entry_address, entry_is, frame_at, rows_are}
 use Rattle.function_stands.proofs.Exact.{Described, described}
 use Rattle.function_stands.proofs.Found.{all_found, shares}
-use Rattle.function_stands.proofs.Free.{falls_after, free_place}
+use Rattle.function_stands.proofs.Free.{falls_in, free_place}
 use Rattle.function_stands.proofs.Handlers.{pushed, pushed_stands}
 use Rattle.function_stands.proofs.Labels.{entry_past, label_past, label_place_is}
 use Rattle.function_stands.proofs.Parts.{AreFound, PartFound, found_second, Place, descriptor_of, line_part, place_first, place_moved, place_rises, place_within}
@@ -377,12 +377,12 @@ module _ (image : Tables) (file : FileTree) (ps : List Pieces) (c : Setting) (k 
   unfolding laid
   free_stands i next stands e =
       let exit = free_is_exit i.op next e in
-      let after = falls_after exit.to next exit.falls m well stands in
+      let after = falls_in m well stands exit.falls in
       record {
         label = exit.to;
         is = exit.is;
         place = ap (λ code. part_place (length code)) after ∙ free_place traps f ds m.code left start exit.to stands e exit.falls;
-        tests = ap tests_first after ∙ exit.falls.tests;
+        tests = ap tests_first after ∙ falls_tests exit.falls;
       }
 
   -- ---- the whole

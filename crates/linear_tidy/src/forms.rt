@@ -7,7 +7,7 @@ ghost use Rattle.lin_ir.specs.Formed.{IsSelfMove, label_of};
 ghost use Rattle.lin_ir.specs.Meaning.{has_label};
 ghost use Rattle.lin_ir.specs.declared.lin.Spot.{Spot};
 ghost use Rattle.tidy_rules.specs.Leaving.{bare, is_landing};
-ghost use Rattle.tidy_rules.specs.Turning.{is_jump};
+ghost use Rattle.tidy_rules.specs.Turning.{goes_away};
 ghost use Rattle.linear_tidy.specs.Forms.{copies, IsOnePlace, MovesItself, IsNoSelfMove};
 
 use bs_words::Loc;
@@ -191,15 +191,15 @@ pub fn own_label(op: &LinOp) -> Option<Label>
     }
 }
 
-/// Whether it is a jump.
-pub fn is_jump(op: &LinOp) -> bool
-    ensures { result ≡ is_jump op.now }
+/// Whether it is a jump or an exit: control does not come to what stands right after it.
+pub fn goes_away(op: &LinOp) -> bool
+    ensures { result ≡ goes_away op.now }
 {
     match op {
         LinOp::Op(_) => false,
         LinOp::Flow(Flow::Label(_)) => false,
         LinOp::Flow(Flow::Jump(_)) => true,
-        LinOp::Flow(Flow::Exit(_)) => false,
+        LinOp::Flow(Flow::Exit(_)) => true,
         LinOp::Flow(Flow::Branch { test: _, label: _ }) => false,
         LinOp::Flow(Flow::Switch(_)) => false,
         LinOp::Flow(Flow::PushTrap(_)) => false,

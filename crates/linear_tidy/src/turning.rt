@@ -7,7 +7,7 @@ ghost use Rattle.lin_flow.specs.Labels.{AreLabelsOf};
 ghost use Rattle.tidy_rules.specs.Turning.{next_free, label_here, label_on, head_by, head_at, comes_first, stands_first, exit_head, is_on, line_turn, branch_line, tested_again, label_put, turned_line, turned_all};
 ghost use Rattle.linear_tidy.specs.Loops.{head_view, turn_view, turns_in, is_opened, opened_in, first_of, others_of, turned_by, AreChanges};
 
-use crate::forms::{exit_of, is_jump, own_label};
+use crate::forms::{exit_of, goes_away, own_label};
 use lin_flow::{Labels, number_after};
 use lin_ir::{Flow, Lin, LinOp, Line, Spot};
 use linearise::{bare, opposite_test};
@@ -144,7 +144,7 @@ fn comes_first(label: Label, code: &[Line], place: u32) -> bool
     }
 }
 
-/// Whether the label comes first at the place, or after a jump that stands there.
+/// Whether the label comes first at the place, or after a jump or an exit that stands there.
 fn stands_first(label: Label, code: &[Line], place: u32) -> bool
     requires { length code.now < 2 ^ 32 }
     ensures { result ≡ stands_first label (drop place code.now) }
@@ -152,7 +152,7 @@ fn stands_first(label: Label, code: &[Line], place: u32) -> bool
     if place as usize >= code.len() {
         return false;
     }
-    if is_jump(&code[place as usize].op) {
+    if goes_away(&code[place as usize].op) {
         return comes_first(label, code, place + 1);
     }
     comes_first(label, code, place)

@@ -1,5 +1,6 @@
 //! Exits that have no words.
 ghost use Rattle.std.specs.Prelude.{◌≡◌};
+ghost use Rattle.lin_ir.specs.Formed.{is_label};
 ghost use Rattle.lin_ir.specs.Meaning.{has_label};
 ghost use Rattle.emit_rules.specs.Units.{is_branch, tests_first, falls_to, is_free};
 
@@ -12,12 +13,19 @@ fn is_branch(op: &LinOp) -> bool
     matches!(op, LinOp::Flow(Flow::Branch { .. }))
 }
 
+fn is_label(op: &LinOp) -> bool
+    ensures { result ≡ is_label op.now }
+{
+    matches!(op, LinOp::Flow(Flow::Label(_)))
+}
+
 fn has_label(op: &LinOp, wanted: Label) -> bool
     ensures { result ≡ has_label wanted op.now }
 {
-    match op {
-        LinOp::Flow(Flow::Label(label)) => *label == wanted,
-        _ => false,
+    if let LinOp::Flow(Flow::Label(label)) = op {
+        *label == wanted
+    } else {
+        false
     }
 }
 
@@ -31,13 +39,18 @@ fn tests_first(code: &[Line]) -> bool
     }
 }
 
-/// Whether the label comes first, and right after it a branch.
+/// Whether the label comes next, but for other labels, and right after it a branch.
 fn falls_to(label: Label, code: &[Line]) -> bool
     ensures { result ≡ falls_to label code.now }
 {
-    match code.split_first() {
-        Some((line, next)) => has_label(&line.op, label) && tests_first(next),
-        None => false,
+    match code {
+        [] => false,
+        [line, next @ ..] => {
+            if has_label(&line.op, label) {
+                return tests_first(next);
+            }
+            is_label(&line.op) && falls_to(label, next)
+        }
     }
 }
 
@@ -46,8 +59,9 @@ fn falls_to(label: Label, code: &[Line]) -> bool
 pub fn is_free(op: &LinOp, next: &[Line]) -> bool
     ensures { result ≡ is_free op.now next.now }
 {
-    match op {
-        LinOp::Flow(Flow::Exit(label)) => falls_to(*label, next),
-        _ => false,
+    if let LinOp::Flow(Flow::Exit(label)) = op {
+        falls_to(*label, next)
+    } else {
+        false
     }
 }

@@ -104,14 +104,17 @@ abbrev pub comes_first : ℕ → List Line → Bool
 comes_first l [] = false
 comes_first l (i ∷ next) = has_label l i.op
 
-abbrev pub is_jump : LinOp → Bool
-is_jump (lin.Flow (flow.Jump l)) = true
-is_jump _ = false
+-- control does not come to what stands right after it
+abbrev pub goes_away : LinOp → Bool
+goes_away (lin.Flow (flow.Jump l)) = true
+goes_away (lin.Flow (flow.Exit l)) = true
+goes_away _ = false
 
--- The label comes first, or after a jump: from an exit control does not come to that.
+-- The label comes first, or after a jump or an exit: from an exit control does not come to that, and
+-- so it goes.
 abbrev pub stands_first : ℕ → List Line → Bool
 stands_first l [] = false
-stands_first l (i ∷ next) = has_label l i.op || (is_jump i.op && comes_first l next)
+stands_first l (i ∷ next) = has_label l i.op || (goes_away i.op && comes_first l next)
 
 -- The branch to which an exit before this code leads, but not where it stands there already: right
 -- after the label that comes next.
