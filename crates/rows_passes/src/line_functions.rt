@@ -122,6 +122,43 @@ pub(crate) fn counting(alloc: Global) -> Result<Mach> {
     code.function("counting", &[], Ret::Unit)
 }
 
+/// A loop whose body stands where its test leads: the test keeps its label.
+pub(crate) fn waiting(alloc: Global) -> Result<Mach> {
+    let mut code = Code::new(alloc);
+    code.op(constant(0), &[], &[S2_INT])?;
+    code.mark(Mark::Catch)?;
+    code.mark(Mark::Exit {
+        label: Label(1),
+        tries: 0,
+    })?;
+    code.mark(Mark::With {
+        label: Label(1),
+        end: Label(2),
+    })?;
+    let less = Test::Signed(CmpOp::Lt, Right::Constant(10));
+    code.test(
+        Mark::If {
+            test: less,
+            otherwise: Label(3),
+        },
+        &[S2_INT],
+    )?;
+    code.op(RETURN, &[A0_INT], &[])?;
+    code.mark(Mark::Else {
+        label: Label(3),
+        end: Label(4),
+    })?;
+    code.op(add(1), &[S2_INT], &[S2_INT])?;
+    code.mark(Mark::Exit {
+        label: Label(1),
+        tries: 0,
+    })?;
+    code.mark(Mark::End { label: Label(4) })?;
+    code.mark(Mark::End { label: Label(2) })?;
+    code.op(RETURN, &[A0_INT], &[])?;
+    code.function("waiting", &[], Ret::Unit)
+}
+
 /// A try whose handler reads a slot, and an exit that ends the try.
 pub(crate) fn caught(alloc: Global) -> Result<Mach> {
     let mut code = Code::new(alloc);

@@ -31,6 +31,7 @@ fn put<W: Write>(alloc: Global, out: &mut W, mach: &Mach) -> Result<()> {
 /// Puts what is made of each function.
 pub(crate) fn put_all<W: Write>(alloc: Global, out: &mut W) -> Result<()> {
     put(alloc, out, &line_functions::counting(alloc)?)?;
+    put(alloc, out, &line_functions::waiting(alloc)?)?;
     put(alloc, out, &line_functions::caught(alloc)?)?;
     put(alloc, out, &line_functions::allocating(alloc)?)?;
     put(alloc, out, &line_functions::framed(alloc)?)?;
