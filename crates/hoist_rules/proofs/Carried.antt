@@ -1,0 +1,141 @@
+-- Constants that are made at the entry are as many words as before, and no frame point or exit is new; and what a function
+-- keeps then, whole.
+use Rattle.std.proofs.Common.{◌≡◌, ℕ, suc, ◌+◌, ◌≤◌, Bool, true, false, cond, ◌&&◌, inl, inr, ◌⊎◌, ⊎_elim, List, [], ◌∷◌, ◌++◌, length, refl, sym, ap, ◌∙◌, subst, arith}
+use Rattle.std.specs.Prelude.{slice_index_or}
+use Rattle.std.proofs.lemmas.List.Elements.{Contains-get_or}
+use Rattle.mach_ir.specs.Formed.{is_exit, WellFormed}
+use Rattle.mach_ir.specs.Meaning.{passes_frame, tries_at, tries_past}
+use Rattle.mach_ir.specs.Walks.{Stands, here, below}
+use Rattle.mach_ir.specs.declared.mach.Instr.{Instr}
+use Rattle.mach_ir.specs.declared.mach.Mach.{Mach}
+use Rattle.mach_laws.specs.Expand.{expand}
+use Rattle.mach_laws.proofs.Places.{tries_expand}
+use Rattle.places_rules.proofs.Lists.{tail_same}
+use Rattle.split_rules.proofs.Formed.{of_each}
+use Rattle.pass_rules.specs.Carried.{OffsetFits, EndsInReturn, at_return, further, IsCarried}
+use Rattle.pass_rules.specs.Measures.{instr_words, code_words, one_if, code_points, exits, operands_with, other_operands}
+use Rattle.dead_rules.specs.Dropped.{may_go, without}
+use Rattle.dead_rules.proofs.Text.{Fate, falls, remains, fate, keeps_marks}
+use Rattle.hoist_rules.specs.Hoisted.{moved, hoisted, MayAllMove, MoveTheSame, IsHoisted, IsKept}
+use Rattle.hoist_rules.proofs.Moved as at_entry_of
+use Rattle.hoist_rules.proofs.Live as live
+use Rattle.hoist_rules.proofs.Whole as whole
+
+exit_one : (b : Bool) (n : ℕ) → cond b (suc n) n ≡ cond b 1 0 + n
+exit_one true n = omega arith
+exit_one false n = omega arith
+
+ends_second : (xs ys : List Instr) → EndsInReturn ys → EndsInReturn (xs ++ ys)
+ends_second [] ys e = e
+ends_second (x ∷ xs) ys e = further (ends_second xs ys e)
+
+at_most_same : (a b : ℕ) → a ≡ b → a ≤ b
+at_most_same a b e = omega (arith, e)
+
+module _ (m : Mach) (moves : ℕ → Bool) (may : MayAllMove m moves) (formed : WellFormed m) where
+  abbrev q : Mach
+  q = hoisted moves m
+
+  abbrev rest_of : Mach
+  rest_of = at_entry_of.rest_of m moves may
+
+  abbrev f : ℕ → Instr → List Instr
+  f = without moves
+
+  abbrev front : List Instr
+  front = expand (moved moves) m.code
+
+  still_ends : {code : List Instr} → EndsInReturn code → EndsInReturn (expand f code)
+  still_ends at_return = at_return
+  still_ends (further {i = i} {is = is} e) = by (fate moves i is) (still_ends e)
+    where
+      by : Fate moves i is → EndsInReturn (expand f is) → EndsInReturn (expand f (i ∷ is))
+      by (falls g d s h) t = subst EndsInReturn (sym h) t
+      by (remains k s h) t = subst EndsInReturn (sym h) (further t)
+
+  -- no try stands round the entry
+  front_tries : {j : Instr} {zs xs : List Instr} → at_entry_of.Front m moves may xs → {code : List Instr} →
+      code ≡ xs ++ rest_of.code → Stands j zs code →
+      (tries_at (j ∷ zs) ≡ tries_at rest_of.code) ⊎ live.IsMain m moves may j zs m.code
+  front_tries {j} {zs} at_entry_of.front_end e s =
+      inr (live.was_main m moves may m.code j zs (subst (Stands j zs) e s))
+  front_tries (at_entry_of.front_one s h k) e here =
+      inl
+      (ap tries_at e ∙ at_entry_of.tries_past_front m moves may rest_of.code (at_entry_of.front_one s h k))
+  front_tries (at_entry_of.front_one s h k) e (below t) = front_tries k (tail_same e) t
+
+  few_tries : (most : ℕ) → ((i : Instr) (next : List Instr) → Stands i next m.code → length (tries_at (i ∷ next)) ≤ most) →
+      (i : Instr) (zs : List Instr) → Stands i zs q.code → length (tries_at (i ∷ zs)) ≤ most
+  few_tries most known i zs s =
+      ⊎_elim
+      (λ e.
+      let n = ap length (e ∙ tries_expand f (keeps_marks moves) m.code ∙ (formed.nested).at_entry) in
+      subst (λ k. k ≤ most) (sym n) (least most))
+      (λ w.
+      subst (λ ts. length ts ≤ most)
+      (sym (ap (tries_past i.op) (ap tries_at w.same ∙ tries_expand f (keeps_marks moves) w.next)))
+      (known i w.next w.stands))
+      (front_tries (at_entry_of.whole_front m moves may) refl s)
+    where
+      least : (n : ℕ) → 0 ≤ n
+      least n = omega arith
+
+  carried : IsCarried 0 m q
+  carried =
+      record {
+        words = let e = whole.sum_same m moves may code_words instr_words refl (λ i is. refl) in omega (arith, e);
+        points = at_most_same (code_points q.code) (code_points m.code)
+            (whole.sum_same m moves may code_points (λ (i : Instr). one_if (passes_frame i.op)) refl (λ i is. refl));
+        operands = at_most_same (other_operands q.code) (other_operands m.code)
+            (whole.sum_same m moves may other_operands (λ (i : Instr). operands_with i.op i.args i.results) refl (λ i is. refl));
+        exits = at_most_same (exits q.code) (exits m.code)
+            (whole.sum_same m moves may exits (λ (i : Instr). cond (is_exit i.op) 1 0) refl
+            (λ (i : Instr) is. exit_one (is_exit i.op) (exits is)));
+        tries = λ most known i zs s. few_tries most known i zs s;
+        offsets = λ fit k d lt.
+            of_each (λ (i : Instr). OffsetFits i.op) m.code (slice_index_or q.code k d) fit
+            (whole.contains_back m moves may (slice_index_or q.code k d) (Contains-get_or q.code k d lt));
+        ends = λ e. ends_second front rest_of.code (still_ends e);
+        colours_low = λ low r k c i e. low r k c (whole.was m moves may k i) e;
+      }
+
+  pub kept_by : IsKept m (hoisted moves m)
+  kept_by =
+      record {
+        keeps = whole.still_keeps m moves may formed;
+        formed = whole.still_formed m moves may formed;
+        placed = whole.still_placed m moves may formed;
+        seated = whole.still_seated m moves may;
+        fresh = whole.still_fresh m moves may;
+        params = refl;
+        registers = whole.was m moves may;
+        size = whole.same_size m moves may;
+        carried = carried;
+      }
+
+-- A function whose constants are made at the entry is kept.
+pub hoisted_kept : (m q : Mach) → WellFormed m → IsHoisted m q → IsKept m q
+hoisted_kept m q formed h = subst (IsKept m) (sym h.is) (kept_by m h.moves h.may formed)
+
+-- ---- one result
+
+same_code : (m : Mach) (x y : ℕ → Bool) → MoveTheSame m x y → (code : List Instr) →
+    ((i : Instr) (next : List Instr) → Stands i next code → Stands i next m.code) →
+    (expand (moved x) code ≡ expand (moved y) code) × (expand (without x) code ≡ expand (without y) code)
+same_code m x y same [] known = (refl, refl)
+same_code m x y same (i ∷ is) known =
+    let e = same i is (known i is here) in
+    let ih = same_code m x y same is (λ j next s. known j next (below s)) in (
+      ap (λ b. cond b (i ∷ []) [] ++ expand (moved x) is) e ∙ ap (λ xs. moved y (length is) i ++ xs) ih.0,
+      ap (λ b. cond (may_go i.op && b) [] (i ∷ []) ++ expand (without x) is) e
+          ∙ ap (λ xs. without y (length is) i ++ xs) ih.1,
+    )
+
+-- Moving the same makes one function of each.
+pub one_hoisted : (m q k : Mach) (a : IsHoisted m q) (b : IsHoisted m k) → MoveTheSame m a.moves b.moves → q ≡ k
+one_hoisted m q k a b same =
+    let e = same_code m a.moves b.moves same m.code (λ i next s. s) in
+    a.is
+    ∙ ap (λ code. record m { code = code ++ expand (without a.moves) m.code }) e.0
+    ∙ ap (λ code. record m { code = expand (moved b.moves) m.code ++ code }) e.1
+    ∙ sym b.is

@@ -1,0 +1,405 @@
+-- What is live, joined and reached in a function whose constants are made at the entry was so before, the registers of
+-- those constants excepted.
+use Rattle.std.proofs.Common.{◌≡◌, ℕ, Bool, true, false, inl, inr, ◌⊎◌, ⊎_elim, List, [], ◌∷◌, ◌++◌, length, refl, sym, ap, ◌∙◌, subst}
+use Rattle.std.specs.List.{Contains}
+use Rattle.mach_ir.specs.Acts.{Target, On, At}
+use Rattle.bs_words.specs.declared.types.Comp.TheVariants as comp
+use Rattle.mach_ir.specs.Meaning.{after_label, from_handler, code_at, killed, passes_frame, tries_at, tries_past}
+use Rattle.mach_ir.specs.Walks.{Among, OneOf, targets, may_raise, goes, raises, Reached, at_entry, by_step, by_raise, Live, read, on, aside, LiveAfter, after_step, LiveAcross, across_step, across_raise, InCode, in_args, in_results, further, IsRegister, is_param, is_colour, is_in_code, Stands, here, below, NoAddrLive, Meets, at_write, at_params, Joined, one_way, other_way}
+use Rattle.mach_ir.specs.declared.reg.Reg.{Reg}
+use Rattle.mach_ir.specs.declared.mach.Instr.{Instr}
+use Rattle.mach_ir.specs.declared.mach.Mach.{Mach}
+use Rattle.mach_laws.specs.Expand.{expand, Ending, all}
+use Rattle.mach_laws.proofs.Places.{tries_expand, ending_next, ending_label, ending_from_handler}
+use Rattle.places_rules.proofs.Lists.{head_same, tail_same, none_there}
+use Rattle.mach_laws.proofs.Walking.{none_in}
+use Rattle.places_rules.proofs.Walked.{split_among, stands_of, ending_of}
+use Rattle.dead_rules.specs.Dropped.{may_go, without}
+use Rattle.dead_rules.proofs.Text.{differ, pure_of, pure_on, pure_only, pure_quiet, pure_no_frame, Fate, falls, remains, fate, keeps_marks}
+use Rattle.hoist_rules.specs.Hoisted.{MayMove, hoisted, MayAllMove}
+use Rattle.hoist_rules.proofs.Moved as at_entry_of
+use Rattle.hoist_rules.proofs.Moved.{first_part, second_part, in_part}
+
+module _ (m : Mach) (moves : ℕ → Bool) (may : MayAllMove m moves) where
+  abbrev q : Mach
+  q = hoisted moves m
+
+  abbrev rest_of : Mach
+  rest_of = at_entry_of.rest_of m moves may
+
+  abbrev f : ℕ → Instr → List Instr
+  f = without moves
+
+  abbrev IsMade : ℕ → Type 0
+  IsMade = at_entry_of.IsMade m moves may
+
+  -- ---- the first instruction that is left
+
+  pub record IsFirst (rest : List Instr) (j : Instr) (zs : List Instr) : Type 0 where
+    pub next : List Instr
+    pub same : zs ≡ expand f next
+    pub ending : Ending (j ∷ next) m.code
+    pub kept : may_go j.op ≡ true → moves (length next) ≡ false
+    pub back : (n : ℕ) → (IsMade n → ⊥) → Live m n (j ∷ next) → Live m n rest
+    pub reached : Reached m rest → Reached m (j ∷ next)
+
+  lift : {n : ℕ} {i : Instr} {next : List Instr} → Stands i next m.code → may_go i.op ≡ true → moves (length next) ≡ true →
+      (IsMade n → ⊥) → Live m n next → Live m n (i ∷ next)
+  lift {n} {i} {next} s g d free v =
+      on
+      (λ w.
+      ⊎_elim (λ a. free (record { instr = i; next = next; stands = s; moves_so = d; among = a }))
+      (at_entry_of.none_killed m moves may n (may i next s d)) (split_among n i.results (killed m i) w))
+      (goes On (pure_on (pure_of i.op g))) v
+
+  pub first_kept : (rest : List Instr) → Ending rest m.code → (j : Instr) (zs : List Instr) → j ∷ zs ≡ expand f rest → IsFirst rest j zs
+  first_kept [] ending j zs e = absurd (none_there (sym e))
+  first_kept (i ∷ is) ending j zs e = by (fate moves i is) (λ h. first_kept is (ending_next ending) j zs h)
+    where
+      by : Fate moves i is → (j ∷ zs ≡ expand f is → IsFirst is j zs) → IsFirst (i ∷ is) j zs
+      by (falls g d s h) again =
+          let w = again (e ∙ h) in
+          record {
+            next = w.next;
+            same = w.same;
+            ending = w.ending;
+            kept = w.kept;
+            back = λ n free u. lift (stands_of ending) g d free (w.back n free u);
+            reached = λ r. w.reached (by_step r (goes On (pure_on (pure_of i.op g))));
+          }
+      by (remains k s h) again =
+          subst (λ (x : Instr). IsFirst (i ∷ is) x zs) (sym (head_same (e ∙ h)))
+          (record {
+            next = is;
+            same = tail_same (e ∙ h);
+            ending = ending;
+            kept = k;
+            back = λ n free u. u;
+            reached = λ r. r;
+          })
+
+  pub tries_here : (j : Instr) {zs : List Instr} (next : List Instr) → zs ≡ expand f next → tries_at (j ∷ zs) ≡ tries_at (j ∷ next)
+  tries_here j next e = ap (tries_past j.op) (ap tries_at e ∙ tries_expand f (keeps_marks moves) next)
+
+  label_is : (l : ℕ) → after_label l rest_of.code ≡ expand f (after_label l m.code)
+  label_is = at_entry_of.label_is m moves may
+
+  handler_is : (l : ℕ) → from_handler l rest_of.code ≡ expand f (from_handler l m.code)
+  handler_is = at_entry_of.handler_is m moves may
+
+  -- ---- what is left, without its entry
+
+  pub live_back : {n : ℕ} {ys : List Instr} → Live rest_of n ys → (IsMade n → ⊥) → (rest : List Instr) → Ending rest m.code →
+      ys ≡ expand f rest → Live m n rest
+  live_back {n} (read {i = j} {next = zs} a) free rest ending e =
+      let w = first_kept rest ending j zs e in w.back n free (read a)
+  live_back {n} (on {i = j} {next = zs} writes (goes t o) v) free rest ending e =
+      let w = first_kept rest ending j zs e in
+      w.back n free (by w.next w.same w.ending t o (λ to end h. live_back v free to end h))
+    where
+      by : (next : List Instr) → zs ≡ expand f next → Ending (j ∷ next) m.code → (t : Target) → OneOf t (targets j.op) →
+          ((to : List Instr) → Ending to m.code → code_at rest_of.code zs t ≡ expand f to → Live m n to) → Live m n (j ∷ next)
+      by next same end On o ih = on writes (goes On o) (ih next (ending_next end) same)
+      by next same end (At l) o ih = on writes (goes (At l) o) (ih (after_label l m.code) (ending_label l m.code) (label_is l))
+  live_back {n} (aside {i = j} {next = zs} (raises {l = l} {tries = tries} r h) v) free rest ending e =
+      let w = first_kept rest ending j zs e in
+      w.back n free
+      (aside (raises r (sym (tries_here j w.next w.same) ∙ h))
+      (live_back v free (from_handler l m.code) (ending_from_handler l m.code) (handler_is l)))
+
+  pub across_back : {n : ℕ} {j : Instr} {zs : List Instr} (next : List Instr) → (IsMade n → ⊥) → Ending (j ∷ next) m.code →
+      zs ≡ expand f next → LiveAcross rest_of n j zs → LiveAcross m n j next
+  across_back {n} {j} {zs} next free ending e (across_step writes (goes t o) v) = by t o v
+    where
+      by : (t : Target) → OneOf t (targets j.op) → Live rest_of n (code_at rest_of.code zs t) → LiveAcross m n j next
+      by On o v = across_step writes (goes On o) (live_back v free next (ending_next ending) e)
+      by (At l) o v =
+          across_step writes (goes (At l) o)
+          (live_back v free (after_label l m.code) (ending_label l m.code) (label_is l))
+  across_back {n} {j} {zs} next free ending e (across_raise (raises {l = l} {tries = tries} r h) v) =
+      across_raise (raises r (sym (tries_here j next e) ∙ h))
+      (live_back v free (from_handler l m.code) (ending_from_handler l m.code) (handler_is l))
+
+  pub after_back : {n : ℕ} {j : Instr} {zs : List Instr} (next : List Instr) → (IsMade n → ⊥) → Ending (j ∷ next) m.code →
+      zs ≡ expand f next → LiveAfter rest_of n j zs → LiveAfter m n j next
+  after_back {n} {j} {zs} next free ending e (after_step (goes t o) v) = by t o v
+    where
+      by : (t : Target) → OneOf t (targets j.op) → Live rest_of n (code_at rest_of.code zs t) → LiveAfter m n j next
+      by On o v = after_step (goes On o) (live_back v free next (ending_next ending) e)
+      by (At l) o v =
+          after_step (goes (At l) o) (live_back v free (after_label l m.code) (ending_label l m.code) (label_is l))
+
+  -- ---- with its entry, walks are the same
+
+  abbrev label_same : (l : ℕ) → after_label l q.code ≡ after_label l rest_of.code
+  label_same = at_entry_of.label_same m moves may
+
+  abbrev code_same : (next : List Instr) (t : Target) → code_at q.code next t ≡ code_at rest_of.code next t
+  code_same = at_entry_of.code_same m moves may
+
+  abbrev handler_same : (l : ℕ) → from_handler l q.code ≡ from_handler l rest_of.code
+  handler_same = at_entry_of.handler_same m moves may
+
+  pub live_same : {n : ℕ} {ys : List Instr} → Live q n ys → Live rest_of n ys
+  live_same {n} (read a) = read a
+  live_same {n} (on {i = j} {next = zs} writes (goes t o) v) =
+      on writes (goes t o) (subst (Live rest_of n) (code_same zs t) (live_same v))
+  live_same {n} (aside {i = j} {next = zs} (raises {l = l} {tries = tries} r h) v) =
+      aside (raises r h) (subst (Live rest_of n) (handler_same l) (live_same v))
+
+  pub across_same : {n : ℕ} {j : Instr} {zs : List Instr} → LiveAcross q n j zs → LiveAcross rest_of n j zs
+  across_same {n} {j} {zs} (across_step writes (goes t o) v) =
+      across_step writes (goes t o) (subst (Live rest_of n) (code_same zs t) (live_same v))
+  across_same {n} {j} {zs} (across_raise (raises {l = l} r h) v) =
+      across_raise (raises r h) (subst (Live rest_of n) (handler_same l) (live_same v))
+
+  pub after_same : {n : ℕ} {j : Instr} {zs : List Instr} → LiveAfter q n j zs → LiveAfter rest_of n j zs
+  after_same {n} {j} {zs} (after_step (goes t o) v) =
+      after_step (goes t o) (subst (Live rest_of n) (code_same zs t) (live_same v))
+
+  -- ---- registers
+
+  code_back : {r : Reg} (code : List Instr) → InCode r (expand f code) → InCode r code
+  code_back [] c = c
+  code_back {r} (i ∷ is) c = by (fate moves i is) (λ d. code_back is d)
+    where
+      of_head : InCode r (i ∷ expand f is) → (InCode r (expand f is) → InCode r is) → InCode r (i ∷ is)
+      of_head (in_args a) again = in_args a
+      of_head (in_results a) again = in_results a
+      of_head (further d) again = further (again d)
+
+      by : Fate moves i is → (InCode r (expand f is) → InCode r is) → InCode r (i ∷ is)
+      by (falls g d e h) again = further (again (subst (InCode r) h c))
+      by (remains k e h) again = of_head (subst (InCode r) h c) again
+
+  pub stands_in_code : {r : Reg} {i : Instr} {next code : List Instr} → Stands i next code → InCode r (i ∷ []) → InCode r code
+  stands_in_code here (in_args a) = in_args a
+  stands_in_code here (in_results a) = in_results a
+  stands_in_code here (further c) = elim c [ ]
+  stands_in_code (below s) c = further (stands_in_code s c)
+
+  front_back : {r : Reg} {xs : List Instr} → at_entry_of.Front m moves may xs → InCode r xs → InCode r m.code
+  front_back at_entry_of.front_end c = elim c [ ]
+  front_back (at_entry_of.front_one s h k) (in_args a) = stands_in_code s (in_args a)
+  front_back (at_entry_of.front_one s h k) (in_results a) = stands_in_code s (in_results a)
+  front_back (at_entry_of.front_one s h k) (further c) = front_back k c
+
+  either : {r : Reg} (xs ys : List Instr) → InCode r (xs ++ ys) → InCode r xs ⊎ InCode r ys
+  either [] ys c = inr c
+  either (x ∷ xs) ys (in_args a) = inl (in_args a)
+  either (x ∷ xs) ys (in_results a) = inl (in_results a)
+  either (x ∷ xs) ys (further c) = ⊎_elim (λ d. inl (further d)) inr (either xs ys c)
+
+  pub was_register : (r : Reg) → IsRegister q r → IsRegister m r
+  was_register r (is_param c) = is_param c
+  was_register r (is_colour c) = is_colour c
+  was_register r (is_in_code c) =
+      is_in_code
+      (⊎_elim (λ d. front_back (at_entry_of.whole_front m moves may) d) (λ d. code_back m.code d)
+      (either (at_entry_of.front m moves may) rest_of.code c))
+
+  results_code : {r : Reg} (xs : List Instr) → Contains (at_entry_of.results_in xs) r → InCode r xs
+  results_code {r} [] c = absurd (none_in r c)
+  results_code (i ∷ is) c =
+      ⊎_elim (λ d. in_results d) (λ d. further (results_code is d)) (in_part i.results (at_entry_of.results_in is) c)
+
+  code_results : {r : Reg} {xs : List Instr} → at_entry_of.Front m moves may xs → InCode r xs → Contains (at_entry_of.results_in xs) r
+  code_results at_entry_of.front_end c = elim c [ ]
+  code_results {r} (at_entry_of.front_one {i = i} {next = next} s h k) (in_args a) =
+      absurd (none_in r (subst (λ (i : Instr). Contains i.args r) (may i next s h).is a))
+  code_results (at_entry_of.front_one {i = i} {xs = xs} s h k) (in_results a) = first_part i.results (at_entry_of.results_in xs) a
+  code_results (at_entry_of.front_one {i = i} {xs = xs} s h k) (further c) =
+      second_part i.results (at_entry_of.results_in xs) (code_results k c)
+
+  abbrev made_there : List Reg
+  made_there = at_entry_of.results_in (at_entry_of.front m moves may)
+
+  pub rest_register : (r : Reg) → IsRegister rest_of r → IsRegister m r
+  rest_register r (is_param c) =
+      ⊎_elim is_param
+      (λ d.
+      is_in_code
+      (front_back (at_entry_of.whole_front m moves may) (results_code (at_entry_of.front m moves may) d)))
+      (in_part m.params made_there c)
+  rest_register r (is_colour c) = is_colour c
+  rest_register r (is_in_code c) = is_in_code (code_back m.code c)
+
+  pub to_rest : (r : Reg) → IsRegister q r → IsRegister rest_of r
+  to_rest r (is_param c) = is_param (first_part m.params made_there c)
+  to_rest r (is_colour c) = is_colour c
+  to_rest r (is_in_code c) =
+      ⊎_elim (λ d. is_param (second_part m.params made_there (code_results (at_entry_of.whole_front m moves may) d)))
+      (λ d. is_in_code d)
+      (either (at_entry_of.front m moves may) rest_of.code c)
+
+  -- ---- what stands in the second
+
+  pub record IsMain (j : Instr) (zs code : List Instr) : Type 0 where
+    pub next : List Instr
+    pub stands : Stands j next code
+    pub same : zs ≡ expand f next
+    pub kept : may_go j.op ≡ true → moves (length next) ≡ false
+
+  pub was_main : (code : List Instr) (j : Instr) (zs : List Instr) → Stands j zs (expand f code) → IsMain j zs code
+  was_main [] j zs s = elim s [ ]
+  was_main (i ∷ is) j zs s = by (fate moves i is) (λ t. was_main is j zs t)
+    where
+      more_of : IsMain j zs is → IsMain j zs (i ∷ is)
+      more_of w = record { next = w.next; stands = below w.stands; same = w.same; kept = w.kept }
+
+      at_head : {x : Instr} {ys : List Instr} → (may_go i.op ≡ true → moves (length is) ≡ false) → i ≡ x → ys ≡ expand f is →
+          Stands j zs (x ∷ ys) → (Stands j zs (expand f is) → IsMain j zs is) → IsMain j zs (i ∷ is)
+      at_head k e h here again =
+          subst (λ (x : Instr). IsMain x zs (i ∷ is)) e (record { next = is; stands = here; same = h; kept = k })
+      at_head k e h (below t) again = more_of (again (subst (Stands j zs) h t))
+
+      by : Fate moves i is → (Stands j zs (expand f is) → IsMain j zs is) → IsMain j zs (i ∷ is)
+      by (falls g d e h) again = more_of (again (subst (Stands j zs) h s))
+      by (remains k e h) again = at_head k refl refl (subst (Stands j zs) h s) again
+
+  -- it is made at the entry, or left
+  pub data Whence (j : Instr) (zs : List Instr) : Type 0 where
+    at_the_entry : {next : List Instr} → Stands j next m.code → moves (length next) ≡ true → Whence j zs
+    left : IsMain j zs m.code → Whence j zs
+
+  from_front : {j : Instr} {zs xs : List Instr} → at_entry_of.Front m moves may xs → {code : List Instr} →
+      code ≡ xs ++ rest_of.code → Stands j zs code → Whence j zs
+  from_front {j} {zs} at_entry_of.front_end e s = left (was_main m.code j zs (subst (Stands j zs) e s))
+  from_front {j} {zs} (at_entry_of.front_one {next = next} s h k) e here =
+      at_the_entry (subst (λ (i : Instr). Stands i next m.code) (sym (head_same e)) s) h
+  from_front (at_entry_of.front_one s h k) e (below t) = from_front k (tail_same e) t
+
+  pub whence : {j : Instr} {zs : List Instr} → Stands j zs q.code → Whence j zs
+  whence s = from_front (at_entry_of.whole_front m moves may) refl s
+
+  -- ---- what moves goes on alone
+
+  pub only_on : {i : Instr} {next : List Instr} {t : Target} → MayMove m i next → OneOf t (targets i.op) → t ≡ On
+  only_on v o = pure_only (pure_of _ (at_entry_of.may_go_so m moves may v)) o
+
+  pub no_raise : {i : Instr} {next : List Instr} → MayMove m i next → may_raise i.op ≡ true → ⊥
+  no_raise v r = differ _ r (pure_quiet (pure_of _ (at_entry_of.may_go_so m moves may v)))
+
+  pub no_read : {n : ℕ} {i : Instr} {next : List Instr} → MayMove m i next → Among n i.args → ⊥
+  no_read {n} v a = none_among (subst (λ (i : Instr). Among n i.args) v.is a)
+    where
+      none_among : Among n [] → ⊥
+      none_among a = elim a [ ]
+
+  -- what is live at the entry, and not made there, is live behind it
+  front_live : {n : ℕ} {xs zs : List Instr} → at_entry_of.Front m moves may xs → zs ≡ xs ++ rest_of.code → Live q n zs →
+      Live q n rest_of.code
+  front_live {n} at_entry_of.front_end e v = subst (Live q n) e v
+  front_live {n} (at_entry_of.front_one {i = i} {next = next} s h k) e (read a) =
+      absurd (no_read (may i next s h) (subst (λ (i : Instr). Among n i.args) (head_same e) a))
+  front_live {n} (at_entry_of.front_one {i = i} {next = next} s h k) e (on {next = zs} w (goes t o) v) =
+      front_live k (tail_same e)
+      (subst (λ t. Live q n (code_at q.code zs t))
+      (only_on (may i next s h) (subst (λ (i : Instr). OneOf t (targets i.op)) (head_same e) o)) v)
+  front_live {n} (at_entry_of.front_one {i = i} {next = next} s h k) e (aside (raises r t) v) =
+      absurd (no_raise (may i next s h) (subst (λ (i : Instr). may_raise i.op ≡ true) (head_same e) r))
+
+  -- ---- the graph
+
+  meets_back : {n k : ℕ} → (IsMade n → ⊥) → (IsMade k → ⊥) → Meets q n k → Meets m n k
+  meets_back {n} {k} one two (at_write j zs s w v apart) = by (whence s)
+    where
+      by : Whence j zs → Meets m n k
+      by (at_the_entry {next = next} t h) =
+          absurd
+          (⊎_elim (λ a. one (record { instr = j; next = next; stands = t; moves_so = h; among = a }))
+          (at_entry_of.none_killed m moves may n (may j next t h)) (split_among n j.results (killed m j) w))
+      by (left o) =
+          at_write j o.next o.stands w (after_back o.next two (ending_of o.stands) o.same (after_same v)) apart
+  meets_back one two (at_params a v) =
+      at_params a
+      (live_back (live_same (front_live (at_entry_of.whole_front m moves may) refl v)) two m.code all refl)
+
+  pub joined_back : {n k : ℕ} → (IsMade n → ⊥) → (IsMade k → ⊥) → Joined q n k → Joined m n k
+  joined_back one two (one_way e h) = one_way e (meets_back one two h)
+  joined_back one two (other_way e h) = other_way e (meets_back two one h)
+
+  -- ---- what is reached
+
+  record WasReached (ys : List Instr) : Type 0 where
+    rest : List Instr
+    ending : Ending rest m.code
+    same : ys ≡ expand f rest
+    reached : Reached m rest
+
+  data Reaches (ys : List Instr) : Type 0 where
+    in_front : {xs : List Instr} → at_entry_of.Front m moves may xs → ys ≡ xs ++ rest_of.code → Reaches ys
+    behind_it : WasReached ys → Reaches ys
+
+  rest_on : {j : Instr} {zs : List Instr} → WasReached (j ∷ zs) → (t : Target) → OneOf t (targets j.op) →
+      WasReached (code_at q.code zs t)
+  rest_on {j} {zs} b t o =
+      let w = first_kept b.rest b.ending j zs b.same in by w.next w.same w.ending (w.reached b.reached) t o
+    where
+      by : (next : List Instr) → zs ≡ expand f next → Ending (j ∷ next) m.code → Reached m (j ∷ next) → (t : Target) →
+          OneOf t (targets j.op) → WasReached (code_at q.code zs t)
+      by next same end r On o = record { rest = next; ending = ending_next end; same = same; reached = by_step r (goes On o) }
+      by next same end r (At l) o =
+          record {
+            rest = after_label l m.code;
+            ending = ending_label l m.code;
+            same = label_same l ∙ label_is l;
+            reached = by_step r (goes (At l) o);
+          }
+
+  rest_aside : {j : Instr} {zs : List Instr} (l : ℕ) (tries : List ℕ) → WasReached (j ∷ zs) → may_raise j.op ≡ true →
+      tries_at (j ∷ zs) ≡ l ∷ tries → WasReached (from_handler l q.code)
+  rest_aside {j} {zs} l tries b e h =
+      let w = first_kept b.rest b.ending j zs b.same in
+      record {
+        rest = from_handler l m.code;
+        ending = ending_from_handler l m.code;
+        same = handler_same l ∙ handler_is l;
+        reached = by_raise (w.reached b.reached) (raises e (sym (tries_here j w.next w.same) ∙ h));
+      }
+
+  at_first : {ys : List Instr} → ys ≡ rest_of.code → WasReached ys
+  at_first e = record { rest = m.code; ending = all; same = e; reached = at_entry }
+
+  step_on : {j : Instr} {zs : List Instr} → Reaches (j ∷ zs) → (t : Target) → OneOf t (targets j.op) → Reaches (code_at q.code zs t)
+  step_on (behind_it b) t o = behind_it (rest_on b t o)
+  step_on (in_front at_entry_of.front_end e) t o = behind_it (rest_on (at_first e) t o)
+  step_on {j} {zs} (in_front (at_entry_of.front_one {i = i} {next = next} s h k) e) t o =
+      subst (λ t. Reaches (code_at q.code zs t))
+      (sym (only_on (may i next s h) (subst (λ (i : Instr). OneOf t (targets i.op)) (head_same e) o)))
+      (in_front k (tail_same e))
+
+  aside_on : {j : Instr} {zs : List Instr} (l : ℕ) (tries : List ℕ) → Reaches (j ∷ zs) → may_raise j.op ≡ true →
+      tries_at (j ∷ zs) ≡ l ∷ tries → Reaches (from_handler l q.code)
+  aside_on l tries (behind_it b) r h = behind_it (rest_aside l tries b r h)
+  aside_on l tries (in_front at_entry_of.front_end e) r h = behind_it (rest_aside l tries (at_first e) r h)
+  aside_on l tries (in_front (at_entry_of.front_one {i = i} {next = next} s t k) e) r h =
+      absurd (no_raise (may i next s t) (subst (λ (i : Instr). may_raise i.op ≡ true) (head_same e) r))
+
+  reached_back : {ys : List Instr} → Reached q ys → Reaches ys
+  reached_back at_entry = in_front (at_entry_of.whole_front m moves may) refl
+  reached_back (by_step r (goes t o)) = step_on (reached_back r) t o
+  reached_back (by_raise r (raises {l = l} {tries = tries} e h)) = aside_on l tries (reached_back r) e h
+
+  pub no_addr_back : ((r : Reg) → IsRegister m r → IsMade r.number → r.comp ≡ comp.Addr → ⊥) → NoAddrLive m →
+      NoAddrLive (hoisted moves m)
+  no_addr_back apart none =
+      record {
+        none = λ j zs r frame x one addr v.
+            by j zs (reached_back r) frame x (was_register x one) addr v (at_entry_of.made_or_not m moves may x.number);
+      }
+    where
+      main : (j : Instr) (zs : List Instr) → WasReached (j ∷ zs) → passes_frame j.op ≡ true → (x : Reg) → IsRegister m x →
+          x.comp ≡ comp.Addr → LiveAcross q x.number j zs → (IsMade x.number → ⊥) → ⊥
+      main j zs b frame x one addr v free =
+          let w = first_kept b.rest b.ending j zs b.same in
+          none.none j w.next (w.reached b.reached) frame x one addr (across_back w.next free w.ending w.same (across_same v))
+
+      by : (j : Instr) (zs : List Instr) → Reaches (j ∷ zs) → passes_frame j.op ≡ true → (x : Reg) → IsRegister m x →
+          x.comp ≡ comp.Addr → LiveAcross q x.number j zs → IsMade x.number ⊎ (IsMade x.number → ⊥) → ⊥
+      by j zs b frame x one addr v (inl h) = apart x one h addr
+      by j zs (behind_it b) frame x one addr v (inr free) = main j zs b frame x one addr v free
+      by j zs (in_front at_entry_of.front_end e) frame x one addr v (inr free) = main j zs (at_first e) frame x one addr v free
+      by j zs (in_front (at_entry_of.front_one {i = i} {next = next} s h k) e) frame x one addr v (inr free) =
+          differ _ (subst (λ (i : Instr). passes_frame i.op ≡ true) (head_same e) frame)
+          (pure_no_frame (pure_of _ (at_entry_of.may_go_so m moves may (may i next s h))))

@@ -1,0 +1,248 @@
+-- What moves to the entry: straight code that makes constants, each in a register of its own.
+use Rattle.std.proofs.Common.{◌≡◌, ℕ, ◌<◌, Bool, true, false, cond, inl, inr, ◌⊎◌, ⊎_elim, List, [], ◌∷◌, ◌++◌, length, refl, sym, ap, ◌∙◌, subst, arith}
+use Rattle.std.specs.List.{Contains}
+use Rattle.mach_ir.specs.Acts.{Target, On, At, Landing, AtLabel, AtHandler}
+use Rattle.mach_ir.specs.Meaning.{after_label, from_handler, at_handler, code_at, landing_code, has_label, is_handler_of, killed, tries_at, tries_past}
+use Rattle.mach_ir.specs.Walks.{Among, first, later, Writes, Stands, here, below}
+use Rattle.mach_ir.specs.declared.reg.Reg.{Reg}
+use Rattle.mach_ir.specs.declared.mach.Instr.{Instr}
+use Rattle.mach_ir.specs.declared.mach.Mach.{Mach}
+use Rattle.mach_laws.specs.Expand.{expand, Ending, all}
+use Rattle.mach_laws.proofs.Places.{label_expand, handler_expand, ending_next}
+use Rattle.mach_laws.proofs.Walking.{none_in, first_in, later_in, in_cons}
+use Rattle.places_rules.proofs.Files.{among_or_not}
+use Rattle.places_rules.proofs.Walked.{stands_of}
+use Rattle.dead_rules.specs.Dropped.{may_go, without}
+use Rattle.dead_rules.proofs.Text.{differ, keeps_marks, pure_of, pure_kills}
+use Rattle.hoist_rules.specs.Hoisted.{MayMove, moved, hoisted, MayAllMove}
+
+among_none : (n : ℕ) → Among n [] → ⊥
+among_none n a = elim a [ ]
+
+pub left_among : {n : ℕ} (rs qs : List Reg) → Among n rs → Among n (rs ++ qs)
+left_among (r ∷ rs) qs (first e) = first e
+left_among (r ∷ rs) qs (later a) = later (left_among rs qs a)
+left_among [] qs a = elim a [ ]
+
+pub right_among : {n : ℕ} (rs qs : List Reg) → Among n qs → Among n (rs ++ qs)
+right_among [] qs a = a
+right_among (r ∷ rs) qs a = later (right_among rs qs a)
+
+pub among_of : (r : Reg) (rs : List Reg) → Contains rs r → Among r.number rs
+among_of r [] c = absurd (none_in r c)
+among_of r (k ∷ rs) c =
+    ⊎_elim (λ e. first (ap (λ (x : Reg). x.number) e)) (λ d. later (among_of r rs d)) (in_cons k r rs c)
+
+-- the register by which a number is among these
+pub record Member (n : ℕ) (rs : List Reg) : Type 0 where
+  pub reg : Reg
+  pub among : Contains rs reg
+  pub number : reg.number ≡ n
+
+pub member : {n : ℕ} (rs : List Reg) → Among n rs → Member n rs
+member (r ∷ rs) (first e) = record { reg = r; among = first_in r rs; number = e }
+member (r ∷ rs) (later a) =
+    let k = member rs a in record { reg = k.reg; among = later_in r k.reg rs k.among; number = k.number }
+member [] a = elim a [ ]
+
+-- ---- results
+
+abbrev pub results_in : List Instr → List Reg
+results_in [] = []
+results_in (i ∷ is) = i.results ++ results_in is
+
+pub first_part : {r : Reg} (xs ys : List Reg) → Contains xs r → Contains (xs ++ ys) r
+first_part {r} [] ys c = absurd (none_in r c)
+first_part {r} (x ∷ xs) ys c =
+    ⊎_elim (λ e. subst (Contains (x ∷ (xs ++ ys))) e (first_in x (xs ++ ys)))
+    (λ d. later_in x r (xs ++ ys) (first_part xs ys d)) (in_cons x r xs c)
+
+pub second_part : {r : Reg} (xs ys : List Reg) → Contains ys r → Contains (xs ++ ys) r
+second_part [] ys c = c
+second_part {r} (x ∷ xs) ys c = later_in x r (xs ++ ys) (second_part xs ys c)
+
+pub in_part : {r : Reg} (xs ys : List Reg) → Contains (xs ++ ys) r → Contains xs r ⊎ Contains ys r
+in_part [] ys c = inr c
+in_part {r} (x ∷ xs) ys c =
+    ⊎_elim (λ e. inl (subst (Contains (x ∷ xs)) e (first_in x xs)))
+    (λ d. ⊎_elim (λ h. inl (later_in x r xs h)) inr (in_part xs ys d)) (in_cons x r (xs ++ ys) c)
+
+-- ---- places
+
+pub shorter : {i : Instr} {next code : List Instr} → Stands i next code → length next < length code
+shorter here = omega arith
+shorter (below s) = let lt = shorter s in omega (arith, lt)
+
+-- what stands before one code is one instruction
+pub same_place : {i j : Instr} {next others code : List Instr} → Stands i next code → Stands j others code →
+    length next ≡ length others → i ≡ j
+same_place here here e = refl
+same_place here (below t) e = let lt = shorter t in absurd (omega (arith, lt, e))
+same_place (below s) here e = let lt = shorter s in absurd (omega (arith, lt, e))
+same_place (below s) (below t) e = same_place s t e
+
+module _ (m : Mach) (moves : ℕ → Bool) (may : MayAllMove m moves) where
+  abbrev pub q : Mach
+  q = hoisted moves m
+
+  -- What is left, where the registers that are made at the entry have been handed in.
+  abbrev pub rest_of : Mach
+  rest_of =
+      record m {
+        params = m.params ++ results_in (expand (moved moves) m.code);
+        code = expand (without moves) m.code;
+      }
+
+  abbrev pub f : ℕ → Instr → List Instr
+  f = without moves
+
+  abbrev pub front : List Instr
+  front = expand (moved moves) m.code
+
+  -- ---- which registers are made at the entry
+
+  pub record IsMade (n : ℕ) : Type 0 where
+    pub instr : Instr
+    pub next : List Instr
+    pub stands : Stands instr next m.code
+    pub moves_so : moves (length next) ≡ true
+    pub among : Among n instr.results
+
+  abbrev pub move_of : {n : ℕ} (a : IsMade n) → MayMove m a.instr a.next
+  move_of a = may a.instr a.next a.stands a.moves_so
+
+  only_one : {n : ℕ} (r : Reg) → Among n (r ∷ []) → r.number ≡ n
+  only_one r (first e) = e
+  only_one r (later a) = elim a [ ]
+
+  pub number_of : {n : ℕ} {i : Instr} {next : List Instr} (v : MayMove m i next) → Among n i.results → (v.register).number ≡ n
+  number_of {n} v a = only_one v.register (subst (λ (i : Instr). Among n i.results) v.is a)
+
+  pub made_number : {n : ℕ} (a : IsMade n) → ((move_of a).register).number ≡ n
+  made_number a = number_of (move_of a) a.among
+
+  pub no_param : {n : ℕ} → IsMade n → Among n m.params → ⊥
+  no_param a z = (move_of a).no_param (subst (λ n. Among n m.params) (sym (made_number a)) z)
+
+  pub made_once : {n : ℕ} (a : IsMade n) (j : Instr) (others : List Instr) → Stands j others m.code → Writes m j n → others ≡ a.next
+  made_once a j others s w = (move_of a).once j others s (subst (λ n. Writes m j n) (sym (made_number a)) w)
+
+  -- one instruction makes it
+  pub one_maker : {n : ℕ} (a b : IsMade n) → a.instr ≡ b.instr
+  one_maker a b =
+      let e = made_once b a.instr a.next a.stands (left_among (a.instr).results (killed m a.instr) a.among) in
+      same_place a.stands b.stands (ap length e)
+
+  pub may_go_so : {i : Instr} {next : List Instr} → MayMove m i next → may_go i.op ≡ true
+  may_go_so v = ap (λ (i : Instr). may_go i.op) v.is
+
+  -- what is left writes none of them
+  pub left_writes_none : {n : ℕ} (j : Instr) (others : List Instr) → Stands j others m.code →
+      (may_go j.op ≡ true → moves (length others) ≡ false) → IsMade n → Writes m j n → ⊥
+  left_writes_none j others s kept a w =
+      let t = ap (λ xs. moves (length xs)) (made_once a j others s w) ∙ a.moves_so in
+      differ (moves (length others)) t (kept (may_go_so (may j others s t)))
+
+  -- what moves destroys nothing
+  pub none_killed : (n : ℕ) {i : Instr} {next : List Instr} → MayMove m i next → Among n (killed m i) → ⊥
+  none_killed n {i} v a =
+      among_none n (subst (Among n) (pure_kills m.colours i.results (pure_of i.op (may_go_so v))) a)
+
+  scan : (n : ℕ) (code : List Instr) → Ending code m.code →
+      IsMade n ⊎ ((i : Instr) (next : List Instr) → Stands i next code → moves (length next) ≡ true → Among n i.results → ⊥)
+  scan n [] ending = inr (λ i next s e a. elim s [ ])
+  scan n (i ∷ is) ending = by (moves (length is)) refl (among_or_not n i.results) (scan n is (ending_next ending))
+    where
+      None : List Instr → Type 0
+      None code = (i : Instr) (next : List Instr) → Stands i next code → moves (length next) ≡ true → Among n i.results → ⊥
+
+      none : (moves (length is) ≡ true → Among n i.results → ⊥) → None is → None (i ∷ is)
+      none h k j next here e a = h e a
+      none h k j next (below s) e a = k j next s e a
+
+      by : (b : Bool) → moves (length is) ≡ b → Among n i.results ⊎ (Among n i.results → ⊥) → IsMade n ⊎ None is → IsMade n ⊎ None (i ∷ is)
+      by b e o (inl made) = inl made
+      by true e (inl a) (inr k) =
+          inl (record { instr = i; next = is; stands = stands_of ending; moves_so = e; among = a })
+      by false e (inl a) (inr k) = inr (none (λ t z. differ (moves (length is)) t e) k)
+      by b e (inr h) (inr k) = inr (none (λ t z. h z) k)
+
+  pub made_or_not : (n : ℕ) → IsMade n ⊎ (IsMade n → ⊥)
+  made_or_not n =
+      ⊎_elim inl (λ k. inr (λ a. k a.instr a.next a.stands a.moves_so a.among)) (scan n m.code all)
+
+  -- ---- the code at the entry
+
+  pub data Front : List Instr → Type 0 where
+    front_end : Front []
+    front_one : {i : Instr} {next xs : List Instr} → Stands i next m.code → moves (length next) ≡ true → Front xs →
+        Front (i ∷ xs)
+
+  pub front_of : (code : List Instr) → Ending code m.code → Front (expand (moved moves) code)
+  front_of [] e = front_end
+  front_of (i ∷ is) e = by (moves (length is)) refl (front_of is (ending_next e))
+    where
+      by : (b : Bool) → moves (length is) ≡ b → Front (expand (moved moves) is) → Front (expand (moved moves) (i ∷ is))
+      by true h k =
+          subst (λ b. Front (cond b (i ∷ []) [] ++ expand (moved moves) is)) (sym h) (front_one (stands_of e) h k)
+      by false h k = subst (λ b. Front (cond b (i ∷ []) [] ++ expand (moved moves) is)) (sym h) k
+
+  pub whole_front : Front front
+  whole_front = front_of m.code all
+
+  label_past : (l : ℕ) (ys : List Instr) {xs : List Instr} → Front xs → after_label l (xs ++ ys) ≡ after_label l ys
+  label_past l ys front_end = refl
+  label_past l ys (front_one {i = i} {next = next} {xs = xs} s h k) =
+      ap (λ (i : Instr). cond (has_label l i.op) (xs ++ ys) (after_label l (xs ++ ys))) (may i next s h).is ∙ label_past l ys k
+
+  handler_past : (l : ℕ) (ys : List Instr) {xs : List Instr} → Front xs → from_handler l (xs ++ ys) ≡ from_handler l ys
+  handler_past l ys front_end = refl
+  handler_past l ys (front_one {i = i} {next = next} {xs = xs} s h k) =
+      ap (λ (j : Instr). cond (is_handler_of l j.op) (i ∷ (xs ++ ys)) (from_handler l (xs ++ ys))) (may i next s h).is
+      ∙ handler_past l ys k
+
+  pub tries_past_front : (ys : List Instr) {xs : List Instr} → Front xs → tries_at (xs ++ ys) ≡ tries_at ys
+  tries_past_front ys front_end = refl
+  tries_past_front ys (front_one {i = i} {next = next} {xs = xs} s h k) =
+      ap (λ (j : Instr). tries_past j.op (tries_at (xs ++ ys))) (may i next s h).is ∙ tries_past_front ys k
+
+  -- ---- places stand as in what is left
+
+  pub label_same : (l : ℕ) → after_label l q.code ≡ after_label l rest_of.code
+  label_same l = label_past l rest_of.code whole_front
+
+  pub handler_same : (l : ℕ) → from_handler l q.code ≡ from_handler l rest_of.code
+  handler_same l = handler_past l rest_of.code whole_front
+
+  pub code_same : (next : List Instr) (t : Target) → code_at q.code next t ≡ code_at rest_of.code next t
+  code_same next On = refl
+  code_same next (At l) = label_same l
+
+  handlers_same : (tries : List ℕ) → at_handler q.code tries ≡ at_handler rest_of.code tries
+  handlers_same [] = refl
+  handlers_same (l ∷ tries) = handler_same l
+
+  pub land_same : (there : List Instr) (to : Landing) → landing_code q.code there to ≡ landing_code rest_of.code there to
+  land_same there (AtLabel l) = label_same l
+  land_same there AtHandler = handlers_same (tries_at there)
+
+  pub label_is : (l : ℕ) → after_label l rest_of.code ≡ expand f (after_label l m.code)
+  label_is l = label_expand f (keeps_marks moves) l m.code
+
+  pub handler_is : (l : ℕ) → from_handler l rest_of.code ≡ expand f (from_handler l m.code)
+  handler_is l = handler_expand f (keeps_marks moves) l m.code
+
+  -- ---- where what moves stands at the entry
+
+  abbrev pub InFront : Instr → List Instr → Type 0
+  InFront i xs = (ys : List Instr) × Stands i ys xs
+
+  behind : {i : Instr} (zs : List Instr) {xs : List Instr} → InFront i xs → InFront i (zs ++ xs)
+  behind [] t = t
+  behind (z ∷ zs) t = let u = behind zs t in (u.0, below u.1)
+
+  pub moved_there : {i : Instr} {next code : List Instr} → Stands i next code → moves (length next) ≡ true →
+      InFront i (expand (moved moves) code)
+  moved_there {i} {next} here h =
+      subst (λ b. InFront i (cond b (i ∷ []) [] ++ expand (moved moves) next)) (sym h) (expand (moved moves) next, here)
+  moved_there {i} {next} (below {j = j} {is = is} s) h = behind (moved moves (length is) j) (moved_there s h)
