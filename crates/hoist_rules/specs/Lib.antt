@@ -1,1 +1,2 @@
 pub mod Hoisted
+pub mod Chosen

@@ -1,0 +1,84 @@
+-- Mach functions in which registers are moved to themselves before calls.
+use Rattle.std.specs.Prelude.{◌≡◌, ◌≢◌, ℕ, ◌+◌, ◌*◌, Bool, true, cond, List, [], ◌∷◌, ◌++◌, length, AllPairs, Contains}
+use Rattle.bs_words.specs.declared.types.Loc.TheVariants as loc
+use Rattle.mach_ir.specs.Formed.{WellFormed, AreDistinct}
+use Rattle.mach_ir.specs.Keeps.{Keeps}
+use Rattle.mach_ir.specs.Placed.{WellPlaced}
+use Rattle.mach_ir.specs.Seats.{Seated}
+use Rattle.mach_ir.specs.Sizes.{Size, HasSize}
+use Rattle.mach_ir.specs.Walks.{Live, Stands, IsRegister}
+use Rattle.mach_ir.specs.declared.op.CopyKind.TheVariants as copy
+use Rattle.mach_ir.specs.declared.op.Op.TheVariants as op
+use Rattle.mach_ir.specs.declared.op.Pure.TheVariants as pure
+use Rattle.mach_ir.specs.declared.reg.Reg.{Reg}
+use Rattle.mach_ir.specs.declared.mach.MachOp.TheVariants as mach
+use Rattle.mach_ir.specs.declared.mach.Instr.{Instr}
+use Rattle.mach_ir.specs.declared.mach.Mach.{Mach}
+use Rattle.mach_laws.specs.Expand.{expand}
+use Rattle.pass_rules.specs.Carried.{IsCarried}
+use Rattle.pass_rules.specs.Measures.{copy_words}
+use Rattle.sink_rules.specs.Walks.{Stale}
+
+-- Which registers are moved to themselves, and before which instructions: by how many instructions
+-- come after, and by the register's number.
+pub record Plan : Type 0 where
+  pub registers : List Reg
+  pub moves : ℕ → ℕ → Bool
+
+-- the instruction that moves a register to itself
+abbrev pub to_itself : Reg → Instr
+to_itself r =
+    record { op = mach.Op (op.Pure (pure.Copy copy.Move)); args = r ∷ []; results = r ∷ [] }
+
+-- those of these registers that are moved before an instruction, in their order
+abbrev pub moves_of : Plan → ℕ → List Reg → List Instr
+moves_of plan k [] = []
+moves_of plan k (r ∷ rs) =
+    cond (plan.moves k r.number) (to_itself r ∷ moves_of plan k rs) (moves_of plan k rs)
+
+-- an instruction, which so many come after, and the moves before it
+abbrev pub sunk_instr : Plan → ℕ → Instr → List Instr
+sunk_instr plan k i = moves_of plan k plan.registers ++ i ∷ []
+
+-- The function with these moves. All else is as it was.
+abbrev pub sunk : Plan → Mach → Mach
+sunk plan m = record m { code = expand (sunk_instr plan) m.code }
+
+-- What a plan owes for a function to do what it did.
+pub record IsPlan (m : Mach) (plan : Plan) : Type 0 where
+  -- open registers of the function, each once
+  pub registers : (r : Reg) → Contains plan.registers r → IsRegister m r
+  pub open_places : (r : Reg) → Contains plan.registers r → r.loc ≡ loc.Unset
+  pub distinct : AreDistinct plan.registers
+  -- a register is live where it is moved, and has been written on each walk from the entry
+  pub live : (i : Instr) (next : List Instr) (r : Reg) → Stands i next m.code →
+      Contains plan.registers r → plan.moves (length next) r.number ≡ true →
+      Live m r.number (i ∷ next)
+  pub written : (i : Instr) (next : List Instr) (r : Reg) → Stands i next m.code →
+      Contains plan.registers r → plan.moves (length next) r.number ≡ true →
+      Stale m r.number (i ∷ next) → ⊥
+  -- each is moved before one instruction at the most
+  pub once : (i j : Instr) (next others : List Instr) (r : Reg) → Stands i next m.code →
+      Stands j others m.code → Contains plan.registers r →
+      plan.moves (length next) r.number ≡ true → plan.moves (length others) r.number ≡ true →
+      others ≡ next
+
+-- What a function keeps with these moves.
+pub record IsKept (m q : Mach) (plan : Plan) : Type 0 where
+  pub keeps : Keeps m q
+  pub formed : WellFormed q
+  pub placed : WellPlaced m → WellPlaced q
+  pub seated : Seated m → Seated q
+  pub params : q.params ≡ m.params
+  -- no register is new
+  pub registers : (r : Reg) → IsRegister q r → IsRegister m r
+  -- a move for each of these registers at the most
+  pub size : (s : Size) → HasSize m s →
+      HasSize q
+      (record s {
+        instrs = s.instrs + length plan.registers;
+        operands = s.operands + 2 * length plan.registers;
+      })
+  pub carried : IsCarried (copy_words * length plan.registers) m q
+  -- their numbers differ, so there are no more of them than numbers
+  pub few : (s : Size) → HasSize m s → length plan.registers ≤ s.registers

@@ -1,0 +1,37 @@
+//! Mach functions in which registers are moved to themselves before calls that they live over, which of
+//! them are, and what such a function keeps.
+//!
+//! A move of a register to itself changes nothing. But it writes the register anew: so what spilling
+//! stores for that call is this write alone, right before the call, and none of the assignments before.
+//! A loop that assigns a variable then stores it in no turn, and a function that returns before its first
+//! call stores nothing.
+//!
+//! The crate holds definitions and laws alone.
+#![tactic(auto)]
+
+ghost use Rattle.std.specs.Prelude.{◌≡◌};
+ghost use Rattle.mach_ir.specs.Formed.{WellFormed};
+ghost use Rattle.mach_ir.specs.declared.mach.Mach.{Mach};
+ghost use Rattle.sink_rules.specs.Chosen.{IsChosen, IsSunk};
+ghost use Rattle.sink_rules.specs.Sunk.{Plan, IsPlan, IsKept, sunk};
+
+/// Law: a function in which registers are moved to themselves by a plan is kept.
+pub fn moves_to_themselves_change_nothing()
+    ensures { (m : Mach) (plan : Plan) → WellFormed m → IsPlan m plan →
+        IsKept m (sunk plan m) plan }
+{}
+
+/// Law: what is chosen is a plan.
+pub fn a_chosen_plan_is_one()
+    ensures { (m : Mach) (plan : Plan) → WellFormed m → IsChosen m plan → IsPlan m plan }
+{}
+
+/// Law: what is made of a function so is kept.
+pub fn what_is_sunk_is_kept()
+    ensures { (m q : Mach) → WellFormed m → (s : IsSunk m q) → IsKept m q s.plan }
+{}
+
+/// Law: one function is made of each.
+pub fn sinking_makes_one()
+    ensures { (m q k : Mach) → WellFormed m → IsSunk m q → IsSunk m k → q ≡ k }
+{}
