@@ -59,8 +59,8 @@ module _ (tree : FunctionTree) where
     code_passed : (stage : Stage) → IsPassText stage tree (function_text stage tree of)
     code_passed Select = refl
     code_passed CombAlloc = refl
-    code_passed Cse = record { made = slots.is_cleaned.repeated; is = slots.is_cleaned.has_no_repeats; spelled = refl }
-    code_passed Dead = record { made = slots.dropped; is = slots.is_cleaned; spelled = refl }
+    code_passed Cse = record { made = slots.is_readied.is_cleaned.repeated; is = slots.is_readied.is_cleaned.has_no_repeats; spelled = refl }
+    code_passed Dead = record { made = slots.is_readied.dropped; is = slots.is_readied.is_cleaned; spelled = refl }
     code_passed Spill = record { made = of.made.is_prepared.spilled; is = slots; spelled = refl }
     code_passed Split = record { made = of.made.prepared; is = of.made.is_prepared; spelled = refl }
     code_passed Alloc = record { made = of.made.mach; is = is_allocated; spelled = refl }

@@ -15,7 +15,7 @@ use Rattle.mach_ir.specs.declared.mach.Mach.{Mach}
 use Rattle.mach_passes.specs.Prepared.{IsPreparable, IsPrepared}
 use Rattle.made_functions.specs.Files.{IsFunctionMade}
 use Rattle.placed_functions.specs.Placed.{IsPlacedFor}
-use Rattle.placed_functions.proofs.Placed.{selected_preparable, ready, placed_for}
+use Rattle.placed_functions.proofs.Placed.{selected_preparable, ready, carried, placed_for}
 use Rattle.places_rules.specs.Places.{ColoursLow}
 use Rattle.rounds_rules.specs.Rounds.{IsAllocatedIn, IsAllocated}
 use Rattle.rv_pieces.specs.declared.piece.Pieces.{Pieces}
@@ -45,7 +45,7 @@ module _ (tree : FunctionTree) (accepted : IsAcceptedFunction tree) (mach : Mach
     prepared_placed = (ready known of_selected).placed
 
     pub prepared_low : ColoursLow prepared
-    prepared_low = ((ready known of_selected).carried).colours_low (selected_low tree)
+    prepared_low = (carried known (ready known of_selected)).colours_low (selected_low tree)
 
     module _ (placed : Mach) (rounds : ℕ) (rest : Bool) (in_rounds : IsAllocatedIn prepared placed rounds rest) where
       allocated : IsAllocated prepared placed

@@ -4,15 +4,17 @@ use Rattle.combine_rules.proofs.Formed.{combined_formed}
 use Rattle.combine_rules.specs.Combined.{combined}
 use Rattle.copy_rules.specs.Propagated.{IsPropagated}
 use Rattle.dead_rules.specs.Dropped.{IsDropped}
+use Rattle.hoist_rules.specs.Chosen.{HasConstantsFirst}
 use Rattle.mach_ir.specs.Formed.{WellFormed}
 use Rattle.mach_ir.specs.Placed.{WellPlaced}
 use Rattle.mach_ir.specs.declared.mach.Mach.{Mach}
 use Rattle.repeat_rules.specs.Repeated.{IsRepeated}
+use Rattle.sink_rules.specs.Chosen.{IsSunk}
 use Rattle.spill_rules.specs.Chosen.{IsSpilled}
 use Rattle.split_rules.specs.Split.{IsSplit}
 use Rattle.mach_passes.specs.Prepared.{IsPreparable, IsPrepared}
-use Rattle.mach_passes.specs.Stages.{IsCommoned, HasNoRepeats, IsCleaned, HasSlots}
-use Rattle.mach_passes.proofs.Whole.{commoned_formed, small_stage, slots_stage}
+use Rattle.mach_passes.specs.Stages.{IsCommoned, HasNoRepeats, IsCleaned, IsReadied, HasSlots}
+use Rattle.mach_passes.proofs.Whole.{commoned_formed, small_stage, ready_stage, slots_stage}
 
 pub combined_form : (m q : Mach) → IsPreparable m → q ≡ combined m → WellFormed q
 combined_form m q is made = subst WellFormed (sym made) (combined_formed m is.combinable)
@@ -39,6 +41,13 @@ split_prepared m s q is slots made =
     let k = slots_stage m s is slots in
     record { spilled = s; has_slots = slots; is_split = made k.formed k.placed }
 
-pub has_slots : (m small q : Mach) → IsPreparable m → IsCleaned m small → (WellFormed small → IsSpilled small q) → HasSlots m q
-has_slots m small q is made spilled =
-    record { dropped = small; is_cleaned = made; is_spilled = spilled (cleaned_formed m small is made) }
+pub is_readied : (m dropped hoisted q : Mach) → IsCleaned m dropped → HasConstantsFirst dropped hoisted → IsSunk hoisted q → IsReadied m q
+is_readied m dropped hoisted q made first sunk =
+    record { dropped = dropped; is_cleaned = made; hoisted = hoisted; has_constants_first = first; is_sunk = sunk }
+
+readied_formed : (m q : Mach) → IsPreparable m → IsReadied m q → WellFormed q
+readied_formed m q is made = (ready_stage m q is made).formed
+
+pub has_slots : (m readied q : Mach) → IsPreparable m → IsReadied m readied → (WellFormed readied → IsSpilled readied q) → HasSlots m q
+has_slots m readied q is made spilled =
+    record { readied = readied; is_readied = made; is_spilled = spilled (readied_formed m readied is made) }

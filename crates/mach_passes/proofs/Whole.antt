@@ -13,6 +13,8 @@ use Rattle.copy_rules.proofs.Whole.{propagated_kept}
 use Rattle.copy_rules.specs.Propagated.{IsPropagated}
 use Rattle.dead_rules.proofs.Whole.{dropped_kept, one_dropped}
 use Rattle.dead_rules.specs.Dropped.{IsDropped}
+use Rattle.hoist_rules.proofs.Chosen.{constants_first_kept, one_with_constants_first}
+use Rattle.hoist_rules.specs.Chosen.{HasConstantsFirst}
 use Rattle.mach_ir.proofs.Keeping.{keeps_then}
 use Rattle.mach_ir.specs.Formed.{WellFormed}
 use Rattle.mach_ir.specs.Keeps.{Keeps}
@@ -26,13 +28,15 @@ use Rattle.mach_ir.specs.declared.mach.Mach.{Mach}
 use Rattle.mach_laws.proofs.Walking.{none_in, in_cons}
 use Rattle.pass_rules.specs.Carried.{IsCarried}
 use Rattle.pass_rules.specs.Measures.{copy_words, code_words, code_points, exits, other_operands}
+use Rattle.sink_rules.proofs.Chosen.{sunk_kept, one_sunk}
+use Rattle.sink_rules.specs.Chosen.{IsSunk}
 use Rattle.spill_rules.proofs.Chosen.{spilled_kept, one_spilled, seated_params}
 use Rattle.spill_rules.specs.Chosen.{ParamsPlaced, IsSpilled, IsChosenKept}
 use Rattle.split_rules.proofs.One.{one_split}
 use Rattle.split_rules.proofs.Whole.{split_kept}
 use Rattle.split_rules.specs.Split.{IsSplit}
 use Rattle.mach_passes.specs.Prepared.{IsPrepared, IsPreparable, IsKept}
-use Rattle.mach_passes.specs.Stages.{IsCommoned, HasNoRepeats, IsCleaned, HasSlots}
+use Rattle.mach_passes.specs.Stages.{IsCommoned, HasNoRepeats, IsCleaned, IsReadied, HasSlots}
 use Rattle.repeat_rules.proofs.Form as repeats
 use Rattle.repeat_rules.proofs.One.{one_repeated}
 use Rattle.repeat_rules.proofs.Whole.{repeated_kept}
@@ -199,6 +203,18 @@ stage_then {grown = grown} one two =
 abbrev pub Smaller : Mach → Mach → Type 0
 Smaller m q = IsStage 0 (λ (s : Size). s) m q
 
+-- where it comes to a size, it is within each greater one
+pub within_size : {m : Mach} {s t : Size} → HasSize m s → s.instrs ≤ t.instrs → s.operands ≤ t.operands → s.registers ≡ t.registers → s.labels ≡ t.labels →
+    HasSize m t
+within_size {m} {s} {t} h instrs operands registers labels =
+    record {
+      instrs = le_then (length m.code) s.instrs t.instrs h.instrs instrs;
+      operands = le_then (operand_count m.code) s.operands t.operands h.operands operands;
+      numbers = λ r i. subst (λ n. r.number < n) registers (h.numbers r i);
+      origins = λ r i. subst (λ n. r.origin < n) registers (h.origins r i);
+      labels = subst (λ n. m.labels ≤ n) labels h.labels;
+    }
+
 pub fewer_operands : {more : ℕ} {m q : Mach} → IsStage more (λ (s : Size). s) m q → operand_count q.code ≤ operand_count m.code
 fewer_operands {m = m} stage = (stage.size (own_size m) (has_own_size m)).operands
 
@@ -207,6 +223,44 @@ spilled_size s = record s { instrs = s.instrs + s.operands; operands = 3 * s.ope
 
 abbrev split_size : ℕ → Size → Size
 split_size parameters s = record s { registers = s.registers + (s.operands + parameters) }
+
+-- a move to itself for each register at the most
+abbrev sunk_size : Size → Size
+sunk_size s = record s { instrs = s.instrs + s.registers; operands = s.operands + 2 * s.registers }
+
+hoist_stage : (m q : Mach) → WellFormed m → WellPlaced m → HasConstantsFirst m q → Smaller m q
+hoist_stage m q formed placed s =
+    let k = constants_first_kept m q formed s in
+    record {
+      keeps = k.keeps;
+      formed = k.formed;
+      placed = k.placed placed;
+      seated = k.seated;
+      params = k.params;
+      size = k.size;
+      carried = k.carried;
+    }
+
+more_than : (a n r : ℕ) → n ≤ r → a + n ≤ a + r
+more_than a n r le = omega (arith, le)
+
+twice_more : (a n r : ℕ) → n ≤ r → a + 2 * n ≤ a + 2 * r
+twice_more a n r le = omega (arith, le)
+
+sink_stage : (m q : Mach) → WellFormed m → WellPlaced m → (made : IsSunk m q) → IsStage (copy_words * length made.plan.registers) sunk_size m q
+sink_stage m q formed placed s =
+    let k = sunk_kept m q formed s in
+    let moved = length s.plan.registers in
+    record {
+      keeps = k.keeps;
+      formed = k.formed;
+      placed = k.placed placed;
+      seated = k.seated;
+      params = k.params;
+      size = λ z h.
+          within_size (k.size z h) (more_than z.instrs moved z.registers (k.few z h)) (twice_more z.operands moved z.registers (k.few z h)) refl refl;
+      carried = k.carried;
+    }
 
 spill_stage : (m q : Mach) → WellFormed m → WellPlaced m → ParamsPlaced m → IsSpilled m q →
     IsStage (copy_words * operand_count m.code) spilled_size m q
@@ -238,11 +292,11 @@ split_stage m q parameters e formed placed s =
 
 -- ---- the passes
 
-all_words : (a b : ℕ) → a ≤ b → (0 + copy_words * a) + 0 ≤ copy_words * b
-all_words a b le = by a b le
+all_words : (n r a b : ℕ) → n ≤ r → a ≤ b + 2 * r → ((0 + copy_words * n) + copy_words * a) + 0 ≤ copy_words * (b + 3 * r)
+all_words n r a b few le = by n r a b few le
   where
-    by : (a b : ℕ) → a ≤ b → (0 + 6 * a) + 0 ≤ 6 * b
-    by a b le = omega (arith, le)
+    by : (n r a b : ℕ) → n ≤ r → a ≤ b + 2 * r → ((0 + 6 * n) + 6 * a) + 0 ≤ 6 * (b + 3 * r)
+    by n r a b few le = omega (arith, few, le)
 
 combine_stage : (m : Mach) → IsCombinable m → WellPlaced m → Smaller m (combined m)
 combine_stage m is placed =
@@ -328,6 +382,13 @@ module _ (m q : Mach) (formed : WellFormed m) (placed : WellPlaced m) (own : Own
   common_own = repeated_own c.propagated q read.formed read.placed read_own c.is_repeated
 
 -- the passes that do not enlarge the function
+pub repeats_own : (m q : Mach) → IsPreparable m → HasNoRepeats m q → OwnOrigins q
+repeats_own m q is made =
+    let one = combine_stage m is.combinable is.placed in
+    let own = combined_own m is.combinable in
+    let first = common_stage (combined m) made.once one.formed one.placed own made.first in
+    common_own made.once q first.formed first.placed (common_own (combined m) made.once one.formed one.placed own made.first) made.second
+
 pub repeats_stage : (m q : Mach) → IsPreparable m → HasNoRepeats m q → Smaller m q
 repeats_stage m q is made =
     let one = combine_stage m is.combinable is.placed in
@@ -341,18 +402,49 @@ small_stage m q is made =
     let one = repeats_stage m made.repeated is made.has_no_repeats in
     stage_then one (drop_stage made.repeated q one.formed one.placed made.is_dropped)
 
+-- none of them makes a register from another
+pub cleaned_own : (m q : Mach) → IsPreparable m → IsCleaned m q → OwnOrigins q
+cleaned_own m q is made r i =
+    let one = repeats_stage m made.repeated is made.has_no_repeats in
+    repeats_own m made.repeated is made.has_no_repeats r ((dropped_kept made.repeated q one.formed one.placed made.is_dropped).registers r i)
+
+-- and those that make it ready for spilling
+module _ (m q : Mach) (is : IsPreparable m) (made : IsReadied m q) where
+  pub cleaned_stage : Smaller m made.dropped
+  cleaned_stage = small_stage m made.dropped is made.is_cleaned
+
+  pub hoisted_stage : Smaller m made.hoisted
+  hoisted_stage =
+      stage_then cleaned_stage (hoist_stage made.dropped made.hoisted cleaned_stage.formed cleaned_stage.placed made.has_constants_first)
+
+  abbrev pub moves : ℕ
+  moves = length (made.is_sunk).plan.registers
+
+  pub ready_stage : IsStage (0 + copy_words * moves) sunk_size m q
+  ready_stage = stage_then hoisted_stage (sink_stage made.hoisted q hoisted_stage.formed hoisted_stage.placed made.is_sunk)
+
+  -- a move for each register at the most
+  pub few_moves : (s : Size) → HasSize m s → moves ≤ s.registers
+  few_moves s h = (sunk_kept made.hoisted q hoisted_stage.formed made.is_sunk).few s (hoisted_stage.size s h)
+
+-- which leave no more operands than that
+ready_operands : (m q : Mach) {more : ℕ} → IsStage more sunk_size m q → (s : Size) → HasSize m s → operand_count q.code ≤ operand_count m.code + 2 * s.registers
+ready_operands m q stage s h =
+    (stage.size (record s { operands = operand_count m.code })
+    (record { instrs = h.instrs; operands = le_self (operand_count m.code); numbers = h.numbers; origins = h.origins; labels = h.labels })).operands
+
 -- and spilling after them
-pub slots_stage : (m q : Mach) → IsPreparable m → (made : HasSlots m q) →
-    IsStage (0 + copy_words * operand_count (made.dropped).code) spilled_size m q
+pub slots_stage : (m q : Mach) (is : IsPreparable m) (made : HasSlots m q) →
+    IsStage (0 + copy_words * moves m made.readied is made.is_readied + copy_words * operand_count (made.readied).code) (λ s. spilled_size (sunk_size s)) m q
 slots_stage m q is made =
-    let one = small_stage m made.dropped is made.is_cleaned in
+    let one = ready_stage m made.readied is made.is_readied in
     stage_then one
-    (spill_stage made.dropped q one.formed one.placed (seated_params made.dropped (one.seated is.seated)) made.is_spilled)
+    (spill_stage made.readied q one.formed one.placed (seated_params made.readied (one.seated is.seated)) made.is_spilled)
 
 pub prepared_kept : (m q : Mach) → IsPreparable m → IsPrepared m q → IsKept m q
 prepared_kept m q is made =
-    let dropped = made.has_slots.dropped in
-    let small = small_stage m dropped is made.has_slots.is_cleaned in
+    let readied = made.has_slots.readied in
+    let ready = ready_stage m readied is made.has_slots.is_readied in
     let slots = slots_stage m made.spilled is made.has_slots in
     let all = stage_then slots (split_stage made.spilled q (length m.params) (ap length slots.params) slots.formed slots.placed made.is_split) in
     record {
@@ -361,7 +453,10 @@ prepared_kept m q is made =
       placed = all.placed;
       seated = all.seated is.seated;
       size = all.size;
-      carried = carried_within (all_words (operand_count dropped.code) (operand_count m.code) (fewer_operands small)) all.carried;
+      carried = λ s h.
+          carried_within
+          (all_words (moves m readied is made.has_slots.is_readied) s.registers (operand_count readied.code) (operand_count m.code)
+          (few_moves m readied is made.has_slots.is_readied s h) (ready_operands m readied ready s h)) all.carried;
     }
 
 -- ---- one result
@@ -381,10 +476,18 @@ one_cleaned m q k a b =
     let repeated = one_without_repeats m a.repeated b.repeated a.has_no_repeats b.has_no_repeats in
     one_dropped b.repeated q k (subst (λ (d : Mach). IsDropped d q) repeated a.is_dropped) b.is_dropped
 
+pub one_readied : (m q k : Mach) → IsReadied m q → IsReadied m k → q ≡ k
+one_readied m q k a b =
+    let cleaned = one_cleaned m a.dropped b.dropped a.is_cleaned b.is_cleaned in
+    let hoisted =
+        one_with_constants_first b.dropped a.hoisted b.hoisted (subst (λ (d : Mach). HasConstantsFirst d a.hoisted) cleaned a.has_constants_first)
+        b.has_constants_first in
+    one_sunk b.hoisted q k (subst (λ (d : Mach). IsSunk d q) hoisted a.is_sunk) b.is_sunk
+
 pub one_with_slots : (m q k : Mach) → HasSlots m q → HasSlots m k → q ≡ k
 one_with_slots m q k a b =
-    let cleaned = one_cleaned m a.dropped b.dropped a.is_cleaned b.is_cleaned in
-    one_spilled b.dropped q k (subst (λ (d : Mach). IsSpilled d q) cleaned a.is_spilled) b.is_spilled
+    let readied = one_readied m a.readied b.readied a.is_readied b.is_readied in
+    one_spilled b.readied q k (subst (λ (d : Mach). IsSpilled d q) readied a.is_spilled) b.is_spilled
 
 pub one_prepared : (m q k : Mach) → IsPrepared m q → IsPrepared m k → q ≡ k
 one_prepared m q k a b =

@@ -14,8 +14,8 @@ use Rattle.split_rules.specs.Split.{IsSplit}
 use Rattle.mach_passes.specs.Stages.{HasSlots}
 
 -- Its allocations are combined, operands are read from what they are copies of, repeats become moves,
--- what only computes and is not used goes, what lives over calls goes to slots, and each web of writes
--- gets a number of its own.
+-- what only computes and is not used goes, constants of loops are made at the entry, what lives over
+-- calls goes to slots, late, and each web of writes gets a number of its own.
 pub record IsPrepared (m q : Mach) : Type 0 where
   pub spilled : Mach
   pub has_slots : HasSlots m spilled
@@ -29,13 +29,14 @@ pub record IsPreparable (m : Mach) : Type 0 where
   pub colours_low : ColoursLow m
 
 -- Bounds on the function, by those on the one that it is made of, and the number of its parameters.
--- Spilling adds at most a copy for each operand and result, and each web has a number of its own.
+-- A register is moved to itself once at the most. Spilling adds at most a copy for each operand and
+-- result, and each web has a number of its own.
 abbrev pub prepared_size : ℕ → Size → Size
 prepared_size parameters s =
     record s {
-      instrs = s.instrs + s.operands;
-      operands = 3 * s.operands;
-      registers = 2 * s.registers + (3 * s.operands + parameters);
+      instrs = s.instrs + s.registers + (s.operands + 2 * s.registers);
+      operands = 3 * (s.operands + 2 * s.registers);
+      registers = 2 * s.registers + (3 * (s.operands + 2 * s.registers) + parameters);
     }
 
 -- What a function keeps that is prepared.
@@ -45,5 +46,7 @@ pub record IsKept (m q : Mach) : Type 0 where
   pub placed : WellPlaced q
   pub seated : Seated q
   pub size : (s : Size) → HasSize m s → HasSize q (prepared_size (length m.params) s)
-  -- a copy for each operand and result at the most
-  pub carried : IsCarried (copy_words * operand_count m.code) m q
+  -- at most a copy for each operand and result, and three for each register: its move to itself, and
+  -- one for the operand and one for the result of that
+  pub carried : (s : Size) → HasSize m s →
+      IsCarried (copy_words * (operand_count m.code + 3 * s.registers)) m q

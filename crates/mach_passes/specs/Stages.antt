@@ -2,8 +2,10 @@
 use Rattle.combine_rules.specs.Combined.{combined}
 use Rattle.copy_rules.specs.Propagated.{IsPropagated}
 use Rattle.dead_rules.specs.Dropped.{IsDropped}
+use Rattle.hoist_rules.specs.Chosen.{HasConstantsFirst}
 use Rattle.mach_ir.specs.declared.mach.Mach.{Mach}
 use Rattle.repeat_rules.specs.Repeated.{IsRepeated}
+use Rattle.sink_rules.specs.Chosen.{IsSunk}
 use Rattle.spill_rules.specs.Chosen.{IsSpilled}
 
 -- The second is the first with operands read from what they are copies of, and then moves for repeats.
@@ -26,8 +28,17 @@ pub record IsCleaned (m q : Mach) : Type 0 where
   pub has_no_repeats : HasNoRepeats m repeated
   pub is_dropped : IsDropped repeated q
 
--- The second is the first, so cleaned, in which what lives over calls has slots.
-pub record HasSlots (m q : Mach) : Type 0 where
+-- The second is the first, so cleaned, and ready to be spilled: constants of loops are made at the
+-- entry, and what lives over a call is written anew right before it.
+pub record IsReadied (m q : Mach) : Type 0 where
   pub dropped : Mach
   pub is_cleaned : IsCleaned m dropped
-  pub is_spilled : IsSpilled dropped q
+  pub hoisted : Mach
+  pub has_constants_first : HasConstantsFirst dropped hoisted
+  pub is_sunk : IsSunk hoisted q
+
+-- The second is the first, so readied, in which what lives over calls has slots.
+pub record HasSlots (m q : Mach) : Type 0 where
+  pub readied : Mach
+  pub is_readied : IsReadied m readied
+  pub is_spilled : IsSpilled readied q

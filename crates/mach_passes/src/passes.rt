@@ -2,11 +2,13 @@
 ghost use Rattle.std.specs.Prelude.{IfOk};
 ghost use Rattle.mach_ir.specs.Formed.{WellFormed};
 ghost use Rattle.mach_passes.specs.Prepared.{IsPreparable, IsPrepared};
-ghost use Rattle.mach_passes.specs.Stages.{IsCommoned, HasNoRepeats, IsCleaned, HasSlots};
+ghost use Rattle.mach_passes.specs.Stages.{IsCommoned, HasNoRepeats, IsCleaned, IsReadied, HasSlots};
 
 use comballoc::combine;
 use cse_deadcode::{cse, drop_dead, propagate};
+use hoist::hoist;
 use mach_ir::Mach;
+use sink::sink;
 use spill::spill;
 use split::split;
 use std::alloc::{AllocError, Global};
@@ -46,20 +48,32 @@ pub fn without_dead(alloc: Global, mach: Mach) -> Result<Mach, AllocError>
     drop_dead(alloc, repeated)
 }
 
-/// The function without dead code in which what lives over calls has slots. The only error is want of
-/// memory.
+/// The function without dead code, with the constants of its loops made at its entry, and with what
+/// lives over a call written anew right before it. The only error is want of memory.
+#[tactic(auto, using(crate::proofs::Stages::is_readied))]
+fn readied(alloc: Global, mach: Mach) -> Result<Mach, AllocError>
+    requires { IsPreparable mach }
+    ensures { IfOk result (IsReadied mach) }
+{
+    let dropped = without_dead(alloc, mach)?;
+    let hoisted = hoist(alloc, dropped)?;
+    sink(alloc, hoisted)
+}
+
+/// The function, so readied, in which what lives over calls has slots. The only error is want of memory.
 #[tactic(auto, using(crate::proofs::Stages::has_slots))]
 pub fn with_slots(alloc: Global, mach: Mach) -> Result<Mach, AllocError>
     requires { IsPreparable mach }
     ensures { IfOk result (HasSlots mach) }
 {
-    let dropped = without_dead(alloc, mach)?;
-    spill(alloc, dropped)
+    let readied = readied(alloc, mach)?;
+    spill(alloc, readied)
 }
 
 /// What the passes before register allocation make of a function: its allocations are combined,
 /// operands are read from what they are copies of, repeats become moves, what only computes and is not
-/// used goes, what lives over calls goes to slots, and each web of writes gets a number of its own.
+/// used goes, constants of loops are made at the entry, what lives over calls goes to slots, stored late,
+/// and each web of writes gets a number of its own.
 ///
 /// The only error is want of memory, which more places, writes or registers than a number can count
 /// are too.

@@ -17,7 +17,8 @@ use Rattle.mach_ir.proofs.Keeping.{keeps_then}
 use Rattle.mach_passes.specs.Prepared.{IsPreparable, IsPrepared}
 use Rattle.mach_passes.specs.Prepared as prepared
 use Rattle.mach_passes.proofs.Whole.{prepared_kept}
-use Rattle.pass_rules.specs.Measures.{operands_with, other_operands}
+use Rattle.pass_rules.specs.Carried.{IsCarried}
+use Rattle.pass_rules.specs.Measures.{copy_words, operands_with, other_operands}
 use Rattle.rounds_rules.specs.Rounds.{IsAllocated}
 use Rattle.rounds_rules.specs.Rounds as rounds
 use Rattle.rounds_rules.proofs.Kept.{allocated_kept}
@@ -66,17 +67,22 @@ module _ {defined : List ℕ → Option DefinedSymbol} {tree : FunctionTree} (ac
   pub ready : {p : Mach} → IsPrepared (selected tree) p → prepared.IsKept (selected tree) p
   ready {p} is = prepared_kept (selected tree) p selected_preparable is
 
+  -- what it carries, by the tokens of the text
+  pub carried : {p : Mach} → prepared.IsKept (selected tree) p →
+      IsCarried (copy_words * (operand_count (selected tree).code + 3 * (23 * tree.tokens))) (selected tree) p
+  carried made = made.carried (size_by tree.tokens) promise.size
+
   module _ {p q : Mach} (is : IsPrepared (selected tree) p) (allocated : IsAllocated p q) where
     kept : rounds.IsKept p q
     kept =
         let made = ready is in
-        allocated_kept p q made.formed made.placed ((made.carried).colours_low (selected_low tree)) allocated
+        allocated_kept p q made.formed made.placed ((carried made).colours_low (selected_low tree)) allocated
 
     -- what is made of the function
     pub placed_for : IsPlacedFor tree q
     placed_for =
         let made = ready is in
-        let one = made.carried in
+        let one = carried made in
         let two = kept.carried in
         let others = others_few (selected tree).code in
         let size = promise.size in
