@@ -21,7 +21,7 @@ use Rattle.mach_ir.specs.Keeps.{Keeps}
 use Rattle.mach_ir.specs.Placed.{WellPlaced}
 use Rattle.mach_ir.specs.Seats.{Seated}
 use Rattle.mach_ir.specs.Sizes.{Size, HasSize, operand_count}
-use Rattle.mach_ir.specs.Walks.{InCode, in_args, in_results, further, IsRegister, is_param, is_colour, is_in_code}
+use Rattle.mach_ir.specs.Walks.{InCode, in_args, in_results, further, IsRegister, is_param, is_colour, is_in_code, NoAddrLive}
 use Rattle.mach_ir.specs.declared.reg.Reg.{Reg}
 use Rattle.mach_ir.specs.declared.mach.Instr.{Instr}
 use Rattle.mach_ir.specs.declared.mach.Mach.{Mach}
@@ -247,9 +247,9 @@ more_than a n r le = omega (arith, le)
 twice_more : (a n r : ℕ) → n ≤ r → a + 2 * n ≤ a + 2 * r
 twice_more a n r le = omega (arith, le)
 
-sink_stage : (m q : Mach) → WellFormed m → WellPlaced m → (made : IsSunk m q) → IsStage (copy_words * length made.plan.registers) sunk_size m q
-sink_stage m q formed placed s =
-    let k = sunk_kept m q formed s in
+sink_stage : (m q : Mach) → WellFormed m → WellPlaced m → NoAddrLive m → (made : IsSunk m q) → IsStage (copy_words * length made.plan.registers) sunk_size m q
+sink_stage m q formed placed no_addr s =
+    let k = sunk_kept m q formed no_addr s in
     let moved = length s.plan.registers in
     record {
       keeps = k.keeps;
@@ -417,15 +417,18 @@ module _ (m q : Mach) (is : IsPreparable m) (made : IsReadied m q) where
   hoisted_stage =
       stage_then cleaned_stage (hoist_stage made.dropped made.hoisted cleaned_stage.formed cleaned_stage.placed made.has_constants_first)
 
+  no_addr_left : NoAddrLive made.hoisted
+  no_addr_left = (hoisted_stage.keeps).addrs is.no_addr
+
   abbrev pub moves : ℕ
   moves = length (made.is_sunk).plan.registers
 
   pub ready_stage : IsStage (0 + copy_words * moves) sunk_size m q
-  ready_stage = stage_then hoisted_stage (sink_stage made.hoisted q hoisted_stage.formed hoisted_stage.placed made.is_sunk)
+  ready_stage = stage_then hoisted_stage (sink_stage made.hoisted q hoisted_stage.formed hoisted_stage.placed no_addr_left made.is_sunk)
 
   -- a move for each register at the most
   pub few_moves : (s : Size) → HasSize m s → moves ≤ s.registers
-  few_moves s h = (sunk_kept made.hoisted q hoisted_stage.formed made.is_sunk).few s (hoisted_stage.size s h)
+  few_moves s h = (sunk_kept made.hoisted q hoisted_stage.formed no_addr_left made.is_sunk).few s (hoisted_stage.size s h)
 
 -- which leave no more operands than that
 ready_operands : (m q : Mach) {more : ℕ} → IsStage more sunk_size m q → (s : Size) → HasSize m s → operand_count q.code ≤ operand_count m.code + 2 * s.registers

@@ -6,6 +6,7 @@ use Rattle.mach_ir.specs.Keeps.{Keeps}
 use Rattle.mach_ir.specs.Placed.{WellPlaced}
 use Rattle.mach_ir.specs.Seats.{Seated}
 use Rattle.mach_ir.specs.Sizes.{Size, HasSize, operand_count}
+use Rattle.mach_ir.specs.Walks.{NoAddrLive}
 use Rattle.mach_ir.specs.declared.mach.Mach.{Mach}
 use Rattle.pass_rules.specs.Carried.{IsCarried}
 use Rattle.pass_rules.specs.Measures.{copy_words}
@@ -27,6 +28,7 @@ pub record IsPreparable (m : Mach) : Type 0 where
   pub placed : WellPlaced m
   pub seated : Seated m
   pub colours_low : ColoursLow m
+  pub no_addr : NoAddrLive m
 
 -- Bounds on the function, by those on the one that it is made of, and the number of its parameters.
 -- A register is moved to itself once at the most. Spilling adds at most a copy for each operand and

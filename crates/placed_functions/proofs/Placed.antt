@@ -61,6 +61,7 @@ module _ {defined : List ℕ → Option DefinedSymbol} {tree : FunctionTree} (ac
     placed = promise.placed;
     seated = promise.seated;
     colours_low = selected_low tree;
+    no_addr = promise.no_addr;
   }
 
   -- and what they make is ready for allocation
