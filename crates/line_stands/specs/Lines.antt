@@ -69,7 +69,7 @@ pub record LineStands (s : Fixed) (laid : Laid) (n : Named) (m : Lin) (c : Setti
   pub spare : SparePasses m live tries i next
 
 -- An exit that has no words. Control goes to a branch, whose part begins where that of the exit
--- does, since the label between has no words either.
+-- does, since the labels between have no words either.
 pub record FreeStands (laid : Laid) (m : Lin) (i : Line) (next : List Line) : Type 0 where
   pub label : ℕ
   pub is : i.op ≡ lin.Flow (flow.Exit label)

@@ -75,7 +75,7 @@ pub record Turns (m r : Lin) : Type 0 where
   -- each label stands once
   pub labels : AllPairs (λ k l. k ≢ l) (labels_in r.code)
 
--- ---- all exits that lead to branches
+-- ---- which exits are turned
 
 -- greater than each label that stands in the code
 abbrev pub next_free : List ℕ → ℕ
@@ -104,14 +104,14 @@ abbrev pub comes_first : ℕ → List Line → Bool
 comes_first l [] = false
 comes_first l (i ∷ next) = has_label l i.op
 
--- control does not come to what stands right after it
+-- a jump or an exit: control does not come to what stands right after it
 abbrev pub goes_away : LinOp → Bool
 goes_away (lin.Flow (flow.Jump l)) = true
 goes_away (lin.Flow (flow.Exit l)) = true
 goes_away _ = false
 
--- The label comes first, or after a jump or an exit: from an exit control does not come to that, and
--- so it goes.
+-- The label comes first, or after one jump or exit: from an exit control does not come to that, and so
+-- it goes.
 abbrev pub stands_first : ℕ → List Line → Bool
 stands_first l [] = false
 stands_first l (i ∷ next) = has_label l i.op || (goes_away i.op && comes_first l next)
@@ -142,7 +142,7 @@ turn_at m free [] n = None
 turn_at m free (i ∷ next) n =
     cond (nat_eq (length next) n) (line_turn m free i next) (turn_at m free next n)
 
--- whether some exit of the code leads to the branch whose label this is
+-- whether some exit of the code that is turned leads to the branch whose label this is
 abbrev pub is_on : ℕ → Option Turn → Bool
 is_on l None = false
 is_on l (Some t) = nat_eq t.head.on l
@@ -155,7 +155,8 @@ abbrev pub opened_at : Lin → ℕ → ℕ → Option ℕ
 opened_at m free n =
     cond (is_led_to m free (label_on free n) m.code) (Some (label_on free n)) None
 
--- the function in which each exit that leads to a branch is turned
+-- The function in which each exit that leads to a branch is turned, but one whose label comes right
+-- after it.
 abbrev pub turned_all : Lin → Lin
 turned_all m =
     let free = next_free (labels_in m.code) in
