@@ -9,6 +9,7 @@ pub(crate) fn shown_of(alloc: Global, part: &str, text: &str) -> Result<Vec<u8>,
             Some((line, _)) => whole_line(alloc, line),
             None => b"nothing\n".to_vec(alloc),
         },
+        "top" => top_of(alloc, text),
         "slots" => slots_of(alloc, text),
         "sizes" => sizes_of(alloc, text),
         operation => lines_of(alloc, operation, text),
@@ -19,6 +20,17 @@ fn whole_line(alloc: Global, line: &str) -> Result<Vec<u8>, AllocError> {
     let mut whole = line.as_bytes().to_vec(alloc)?;
     whole.push(b'\n')?;
     Ok(whole)
+}
+
+/// The first instruction of the text, which is its second line, without the names of its registers.
+fn top_of(alloc: Global, text: &str) -> Result<Vec<u8>, AllocError> {
+    let mut top = Vec::new(alloc);
+    if let Some((_, body)) = text.split_once('\n') {
+        if let Some((line, _)) = body.split_once('\n') {
+            put_nameless(&mut top, line)?;
+        }
+    }
+    Ok(top)
 }
 
 /// How many different slots stand in the text.
