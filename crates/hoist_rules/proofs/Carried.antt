@@ -1,6 +1,6 @@
 -- Constants that are made at the entry are as many words as before, and no frame point or exit is new; and what a function
 -- keeps then, whole.
-use Rattle.std.proofs.Common.{◌≡◌, ℕ, suc, ◌+◌, ◌≤◌, Bool, true, false, cond, ◌&&◌, inl, inr, ◌⊎◌, ⊎_elim, List, [], ◌∷◌, ◌++◌, length, refl, sym, ap, ◌∙◌, subst, arith}
+use Rattle.std.proofs.Common.{◌≡◌, ℕ, suc, ◌+◌, ◌≤◌, Bool, true, false, cond, inl, inr, ◌⊎◌, ⊎_elim, List, [], ◌∷◌, ◌++◌, length, refl, sym, ap, ◌∙◌, subst, arith}
 use Rattle.std.specs.Prelude.{slice_index_or}
 use Rattle.std.proofs.lemmas.List.Elements.{Contains-get_or}
 use Rattle.mach_ir.specs.Formed.{is_exit, WellFormed}
@@ -14,9 +14,9 @@ use Rattle.places_rules.proofs.Lists.{tail_same}
 use Rattle.split_rules.proofs.Formed.{of_each}
 use Rattle.pass_rules.specs.Carried.{OffsetFits, EndsInReturn, at_return, further, IsCarried}
 use Rattle.pass_rules.specs.Measures.{instr_words, code_words, one_if, code_points, exits, operands_with, other_operands}
-use Rattle.dead_rules.specs.Dropped.{may_go, without}
+use Rattle.dead_rules.specs.Dropped.{without}
 use Rattle.dead_rules.proofs.Text.{Fate, falls, remains, fate, keeps_marks}
-use Rattle.hoist_rules.specs.Hoisted.{moved, hoisted, MayAllMove, MoveTheSame, IsHoisted, IsKept}
+use Rattle.hoist_rules.specs.Hoisted.{moved, hoisted, MayAllMove, IsHoisted, IsKept}
 use Rattle.hoist_rules.proofs.Moved as at_entry_of
 use Rattle.hoist_rules.proofs.Live as live
 use Rattle.hoist_rules.proofs.Whole as whole
@@ -116,26 +116,3 @@ module _ (m : Mach) (moves : ℕ → Bool) (may : MayAllMove m moves) (formed : 
 -- A function whose constants are made at the entry is kept.
 pub hoisted_kept : (m q : Mach) → WellFormed m → IsHoisted m q → IsKept m q
 hoisted_kept m q formed h = subst (IsKept m) (sym h.is) (kept_by m h.moves h.may formed)
-
--- ---- one result
-
-same_code : (m : Mach) (x y : ℕ → Bool) → MoveTheSame m x y → (code : List Instr) →
-    ((i : Instr) (next : List Instr) → Stands i next code → Stands i next m.code) →
-    (expand (moved x) code ≡ expand (moved y) code) × (expand (without x) code ≡ expand (without y) code)
-same_code m x y same [] known = (refl, refl)
-same_code m x y same (i ∷ is) known =
-    let e = same i is (known i is here) in
-    let ih = same_code m x y same is (λ j next s. known j next (below s)) in (
-      ap (λ b. cond b (i ∷ []) [] ++ expand (moved x) is) e ∙ ap (λ xs. moved y (length is) i ++ xs) ih.0,
-      ap (λ b. cond (may_go i.op && b) [] (i ∷ []) ++ expand (without x) is) e
-          ∙ ap (λ xs. without y (length is) i ++ xs) ih.1,
-    )
-
--- Moving the same makes one function of each.
-pub one_hoisted : (m q k : Mach) (a : IsHoisted m q) (b : IsHoisted m k) → MoveTheSame m a.moves b.moves → q ≡ k
-one_hoisted m q k a b same =
-    let e = same_code m a.moves b.moves same m.code (λ i next s. s) in
-    a.is
-    ∙ ap (λ code. record m { code = code ++ expand (without a.moves) m.code }) e.0
-    ∙ ap (λ code. record m { code = expand (moved b.moves) m.code ++ code }) e.1
-    ∙ sym b.is

@@ -4,4 +4,4 @@ pub mod Entry
 pub mod Kept
 pub mod Whole
 pub mod Carried
-pub mod Used
+pub mod Chosen

@@ -4,13 +4,13 @@ use Rattle.std.specs.Prelude.{◌≡◌, ℕ, ◌%◌, Bool, true, cond, List, [
 use Rattle.bs_words.specs.declared.types.Comp.{Comp}
 use Rattle.bs_words.specs.declared.types.Comp.TheVariants as comp
 use Rattle.bs_words.specs.declared.types.Loc.TheVariants as loc
-use Rattle.dead_rules.specs.Dropped.{may_go, without, IsLive}
+use Rattle.dead_rules.specs.Dropped.{without}
 use Rattle.mach_ir.specs.Formed.{WellFormed}
 use Rattle.mach_ir.specs.Keeps.{Keeps}
 use Rattle.mach_ir.specs.Placed.{WellPlaced, AllocatesFresh}
 use Rattle.mach_ir.specs.Seats.{Seated}
 use Rattle.mach_ir.specs.Sizes.{Size, HasSize}
-use Rattle.mach_ir.specs.Walks.{Among, Reached, Writes, Stands, IsRegister}
+use Rattle.mach_ir.specs.Walks.{Among, Writes, Stands, IsRegister}
 use Rattle.mach_ir.specs.declared.op.Op.TheVariants as op
 use Rattle.mach_ir.specs.declared.op.Pure.TheVariants as pure
 use Rattle.mach_ir.specs.declared.reg.Reg.{Reg}
@@ -77,19 +77,3 @@ pub record IsKept (p q : Mach) : Type 0 where
   pub registers : (r : Reg) → IsRegister q r → IsRegister p r
   pub size : (s : Size) → HasSize p s → HasSize q s
   pub carried : IsCarried 0 p q
-
--- two ways to move, which say the same of each instruction
-abbrev pub MoveTheSame : Mach → (ℕ → Bool) → (ℕ → Bool) → Type 0
-MoveTheSame m x y =
-    (i : Instr) (next : List Instr) → Stands i next m.code → x (length next) ≡ y (length next)
-
--- each instruction that may go has a result that is live after it
-abbrev pub NoneDead : Mach → Type 0
-NoneDead m =
-    (i : Instr) (next : List Instr) → Stands i next m.code → may_go i.op ≡ true → IsLive m i next
-
--- those that move are reached
-abbrev pub MovesReached : Mach → (ℕ → Bool) → Type 0
-MovesReached m moves =
-    (i : Instr) (next : List Instr) → Stands i next m.code → moves (length next) ≡ true →
-    Reached m (i ∷ next)
