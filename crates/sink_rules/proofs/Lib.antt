@@ -1,1 +1,4 @@
 pub mod Text
+pub mod Live
+pub mod Files
+pub mod Kept
