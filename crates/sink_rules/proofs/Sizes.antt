@@ -63,7 +63,7 @@ module _ (plan : Plan) where
 
   none_total : (code : List Instr) → total [] code ≡ 0
   none_total [] = refl
-  none_total (i ∷ is) = none_total is
+  none_total (i ∷ is) = let e = none_total is in omega (arith, e)
 
   total_more : (r : Reg) (rs : List Reg) (code : List Instr) → total (r ∷ rs) code ≡ times r.number code + total rs code
   total_more r rs [] = refl
@@ -133,10 +133,10 @@ module _ (plan : Plan) where
             spread : (k x y : ℕ) → k * x + k * y ≡ k * (x + y)
             spread k x y = omega arith
 
-module _ (m : Mach) (plan : Plan) (is : IsPlan m plan) where
+module _ (m : Mach) (plan : Plan) (known_plan : IsPlan m plan) where
   -- ---- each register is moved once at the most
 
-  shorter : {i j : Instr} {next others code : List Instr} → Stands j others code → length others < length code
+  shorter : {j : Instr} {others code : List Instr} → Stands j others code → length others < length code
   shorter here = omega arith
   shorter (below s) = let lt = shorter s in omega (arith, lt)
 
@@ -155,26 +155,22 @@ module _ (m : Mach) (plan : Plan) (is : IsPlan m plan) where
 
   once : (r : Reg) → Contains plan.registers r → (code : List Instr) → Ending code m.code → times plan r.number code ≤ 1
   once r c [] ending = omega arith
-  once r c (i ∷ is) ending = by (plan.moves (length is) r.number) refl (once r c is (ending_next ending))
+  once r c (i ∷ next) ending = by (plan.moves (length next) r.number) refl (once r c next (ending_next ending))
     where
-      by : (b : Bool) → plan.moves (length is) r.number ≡ b → times plan r.number is ≤ 1 → cond b 1 0 + times plan r.number is ≤ 1
+      by : (b : Bool) → plan.moves (length next) r.number ≡ b → times plan r.number next ≤ 1 → cond b 1 0 + times plan r.number next ≤ 1
       by true t old =
-          let e = never r.number is
+          let e = never r.number next
           (λ j others s u.
-          let same : others ≡ is = is_once j others s u t in
-          let lt : length others < length is = shorter {i = i} {next = is} s in
-          let le : length others ≡ length is = ap length same in absurd (omega (arith, lt, le))) in
+          let same : others ≡ next = is_once j others s u t in
+          let lt : length others < length next = shorter s in
+          let le : length others ≡ length next = ap length same in absurd (omega (arith, lt, le))) in
           omega (arith, e)
         where
-          is_once : (j : Instr) (others : List Instr) → Stands j others is → plan.moves (length others) r.number ≡ true →
-              plan.moves (length is) r.number ≡ true → others ≡ is
-          is_once j others s u t = once_of i j is others r (stands_of ending) (stands_later (ending_next ending) s) c t u
+          is_once : (j : Instr) (others : List Instr) → Stands j others next → plan.moves (length others) r.number ≡ true →
+              plan.moves (length next) r.number ≡ true → others ≡ next
+          is_once j others s u t =
+              known_plan.once i j next others r (stands_of ending) (stands_later (ending_next ending) s) c t u
       by false t old = omega (arith, old)
-
-      once_of : (i j : Instr) (next others : List Instr) (r : Reg) → Stands i next m.code → Stands j others m.code →
-          Contains plan.registers r → plan.moves (length next) r.number ≡ true → plan.moves (length others) r.number ≡ true →
-          others ≡ next
-      once_of = is.once
 
   few_of : (rs : List Reg) → ((r : Reg) → Contains rs r → Contains plan.registers r) → total plan rs m.code ≤ length rs
   few_of [] known = let e = none_total plan m.code in omega (arith, e)
@@ -218,4 +214,4 @@ module _ (m : Mach) (plan : Plan) (is : IsPlan m plan) where
       }
 
   pub few : (s : Size) → HasSize m s → length plan.registers ≤ s.registers
-  few s h = few_registers plan.registers s.registers is.distinct (λ r c. h.numbers r (is.registers r c))
+  few s h = few_registers plan.registers s.registers known_plan.distinct (λ r c. h.numbers r (known_plan.registers r c))
