@@ -5,3 +5,4 @@ pub mod Kept
 pub mod Formed
 pub mod Sizes
 pub mod Whole
+pub mod Chosen
