@@ -1,13 +1,15 @@
 -- Mach functions in which registers are moved to themselves before calls.
-use Rattle.std.specs.Prelude.{◌≡◌, ◌≢◌, ℕ, ◌+◌, ◌*◌, Bool, true, cond, List, [], ◌∷◌, ◌++◌, length, AllPairs, Contains}
+use Rattle.std.specs.Prelude.{◌≡◌, ◌≢◌, ℕ, ◌+◌, ◌*◌, ◌≤◌, Bool, true, cond, List, [], ◌∷◌, ◌++◌, length, Contains}
+use Rattle.bs_words.specs.declared.types.Comp.TheVariants as comp
 use Rattle.bs_words.specs.declared.types.Loc.TheVariants as loc
 use Rattle.mach_ir.specs.Formed.{WellFormed, AreDistinct}
 use Rattle.mach_ir.specs.Keeps.{Keeps}
 use Rattle.mach_ir.specs.Placed.{WellPlaced}
 use Rattle.mach_ir.specs.Seats.{Seated}
 use Rattle.mach_ir.specs.Sizes.{Size, HasSize}
-use Rattle.mach_ir.specs.Walks.{Live, Stands, IsRegister}
+use Rattle.mach_ir.specs.Walks.{Live, Reached, Stands, IsRegister}
 use Rattle.mach_ir.specs.declared.op.CopyKind.TheVariants as copy
+use Rattle.mach_ir.specs.declared.op.Op.{Op}
 use Rattle.mach_ir.specs.declared.op.Op.TheVariants as op
 use Rattle.mach_ir.specs.declared.op.Pure.TheVariants as pure
 use Rattle.mach_ir.specs.declared.reg.Reg.{Reg}
@@ -57,6 +59,13 @@ pub record IsPlan (m : Mach) (plan : Plan) : Type 0 where
   pub written : (i : Instr) (next : List Instr) (r : Reg) → Stands i next m.code →
       Contains plan.registers r → plan.moves (length next) r.number ≡ true →
       Stale m r.number (i ∷ next) → ⊥
+  -- moves stand before operations, and before no marks
+  pub operations : (i : Instr) (next : List Instr) (r : Reg) → Stands i next m.code →
+      Contains plan.registers r → plan.moves (length next) r.number ≡ true →
+      (f : Op) × (i.op ≡ mach.Op f)
+  -- No addr is moved where a walk comes: a frame point that is no call loses it, too.
+  pub no_addr : (i : Instr) (next : List Instr) (r : Reg) → Reached m (i ∷ next) →
+      Contains plan.registers r → plan.moves (length next) r.number ≡ true → r.comp ≢ comp.Addr
   -- each is moved before one instruction at the most
   pub once : (i j : Instr) (next others : List Instr) (r : Reg) → Stands i next m.code →
       Stands j others m.code → Contains plan.registers r →

@@ -11,6 +11,7 @@
 
 ghost use Rattle.std.specs.Prelude.{◌≡◌};
 ghost use Rattle.mach_ir.specs.Formed.{WellFormed};
+ghost use Rattle.mach_ir.specs.Walks.{NoAddrLive};
 ghost use Rattle.mach_ir.specs.declared.mach.Mach.{Mach};
 ghost use Rattle.sink_rules.specs.Chosen.{IsChosen, IsSunk};
 ghost use Rattle.sink_rules.specs.Sunk.{Plan, IsPlan, IsKept, sunk};
@@ -21,14 +22,15 @@ pub fn moves_to_themselves_change_nothing()
         IsKept m (sunk plan m) plan }
 {}
 
-/// Law: what is chosen is a plan.
+/// Law: what is chosen is a plan, where no addr lives over a frame point.
 pub fn a_chosen_plan_is_one()
-    ensures { (m : Mach) (plan : Plan) → WellFormed m → IsChosen m plan → IsPlan m plan }
+    ensures { (m : Mach) (plan : Plan) → WellFormed m → NoAddrLive m → IsChosen m plan →
+        IsPlan m plan }
 {}
 
-/// Law: what is made of a function so is kept.
+/// Law: what is made of such a function so is kept.
 pub fn what_is_sunk_is_kept()
-    ensures { (m q : Mach) → WellFormed m → (s : IsSunk m q) → IsKept m q s.plan }
+    ensures { (m q : Mach) → WellFormed m → NoAddrLive m → (s : IsSunk m q) → IsKept m q s.plan }
 {}
 
 /// Law: one function is made of each.

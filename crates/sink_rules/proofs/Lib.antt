@@ -1,0 +1,8 @@
+pub mod Text
+pub mod Live
+pub mod Files
+pub mod Kept
+pub mod Formed
+pub mod Sizes
+pub mod Whole
+pub mod Chosen
