@@ -13,7 +13,7 @@ use Rattle.copy_rules.proofs.Whole.{propagated_kept}
 use Rattle.copy_rules.specs.Propagated.{IsPropagated}
 use Rattle.dead_rules.proofs.Whole.{dropped_kept, one_dropped}
 use Rattle.dead_rules.specs.Dropped.{IsDropped}
-use Rattle.hoist_rules.proofs.Chosen.{constants_first_kept, one_with_constants_first}
+use Rattle.hoist_rules.proofs.Chosen.{constants_first_kept, one_constants_first}
 use Rattle.hoist_rules.specs.Chosen.{HasConstantsFirst}
 use Rattle.mach_ir.proofs.Keeping.{keeps_then}
 use Rattle.mach_ir.specs.Formed.{WellFormed}
@@ -28,7 +28,8 @@ use Rattle.mach_ir.specs.declared.mach.Mach.{Mach}
 use Rattle.mach_laws.proofs.Walking.{none_in, in_cons}
 use Rattle.pass_rules.specs.Carried.{IsCarried}
 use Rattle.pass_rules.specs.Measures.{copy_words, code_words, code_points, exits, other_operands}
-use Rattle.sink_rules.proofs.Chosen.{sunk_kept, one_sunk}
+use Rattle.sink_rules.proofs.Chosen as sinking
+use Rattle.sink_rules.proofs.Chosen.{one_sunk}
 use Rattle.sink_rules.specs.Chosen.{IsSunk}
 use Rattle.spill_rules.proofs.Chosen.{spilled_kept, one_spilled, seated_params}
 use Rattle.spill_rules.specs.Chosen.{ParamsPlaced, IsSpilled, IsChosenKept}
@@ -249,7 +250,7 @@ twice_more a n r le = omega (arith, le)
 
 sink_stage : (m q : Mach) → WellFormed m → WellPlaced m → NoAddrLive m → (made : IsSunk m q) → IsStage (copy_words * length made.plan.registers) sunk_size m q
 sink_stage m q formed placed no_addr s =
-    let k = sunk_kept m q formed no_addr s in
+    let k = sinking.kept m q formed no_addr s in
     let moved = length s.plan.registers in
     record {
       keeps = k.keeps;
@@ -428,7 +429,7 @@ module _ (m q : Mach) (is : IsPreparable m) (made : IsReadied m q) where
 
   -- a move for each register at the most
   pub few_moves : (s : Size) → HasSize m s → moves ≤ s.registers
-  few_moves s h = (sunk_kept made.hoisted q hoisted_stage.formed no_addr_left made.is_sunk).few s (hoisted_stage.size s h)
+  few_moves s h = (sinking.kept made.hoisted q hoisted_stage.formed no_addr_left made.is_sunk).few s (hoisted_stage.size s h)
 
 -- which leave no more operands than that
 ready_operands : (m q : Mach) {more : ℕ} → IsStage more sunk_size m q → (s : Size) → HasSize m s → operand_count q.code ≤ operand_count m.code + 2 * s.registers
@@ -483,7 +484,7 @@ pub one_readied : (m q k : Mach) → IsReadied m q → IsReadied m k → q ≡ k
 one_readied m q k a b =
     let cleaned = one_cleaned m a.dropped b.dropped a.is_cleaned b.is_cleaned in
     let hoisted =
-        one_with_constants_first b.dropped a.hoisted b.hoisted (subst (λ (d : Mach). HasConstantsFirst d a.hoisted) cleaned a.has_constants_first)
+        one_constants_first b.dropped a.hoisted b.hoisted (subst (λ (d : Mach). HasConstantsFirst d a.hoisted) cleaned a.has_constants_first)
         b.has_constants_first in
     one_sunk b.hoisted q k (subst (λ (d : Mach). IsSunk d q) hoisted a.is_sunk) b.is_sunk
 
