@@ -1,0 +1,5 @@
+pub mod Tables
+pub mod Constants
+pub mod Loops
+pub mod Written
+pub mod Moves

@@ -1,0 +1,17 @@
+//! Constants of loops, made first: a wide constant that a loop without calls makes anew in each turn is
+//! made once, at the entry of the function.
+//!
+//! Loops are told by the text: from a label to the last exit that leads back to it. So one table, of the
+//! last exit to each label, and one scan, which keeps the greatest end of the loops whose labels have been
+//! passed, tell the loops round each place. OCaml's `asmcomp` moves no code out of loops.
+#![tactic(auto)]
+
+mod calls;
+mod choosing;
+mod constants;
+mod hoisting;
+mod loops;
+mod table;
+mod writes;
+
+pub use hoisting::hoist;

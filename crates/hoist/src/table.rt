@@ -1,0 +1,48 @@
+//! A table by number.
+ghost use Rattle.std.specs.Prelude.{◌≡◌, ℕ, cond, nat_eq, IfOk};
+ghost use Rattle.hoist.specs.Tables.{entry};
+
+use std::alloc::{AllocError, Global};
+
+/// For each number what was put there last, 0 where nothing was. The table is as long as the greatest
+/// number, so the numbers should be dense, as those of labels and of registers are.
+#[derive(Drop)]
+pub struct Table {
+    entries: Vec<usize>,
+}
+
+impl Table {
+    /// Nothing was put. It takes no memory.
+    pub fn new(alloc: Global) -> Table
+        ensures { (n : ℕ) → entry result n ≡ 0 }
+    {
+        Table {
+            entries: Vec::new(alloc),
+        }
+    }
+
+    /// What was put at the number last, or 0.
+    pub fn get(&self, number: u32) -> usize
+        ensures { result ≡ entry self.now number }
+    {
+        match self.entries.get(number as usize) {
+            None => 0,
+            Some(entry) => *entry,
+        }
+    }
+
+    /// Puts it at the number. After an error nothing is known of the table.
+    pub fn put(&mut self, number: u32, new: usize) -> Result<(), AllocError>
+        ensures { IfOk result (λ _. (n : ℕ) →
+            entry self.new n ≡ cond (nat_eq number n) new (entry self.old n)) }
+    {
+        let index = number as usize;
+        if index < self.entries.len() {
+            self.entries[index] = new;
+            return Ok(());
+        }
+        self.entries.resize(index, 0)?;
+        self.entries.push(new)?;
+        Ok(())
+    }
+}

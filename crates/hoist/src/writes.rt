@@ -1,0 +1,59 @@
+//! How often registers are written.
+ghost use Rattle.std.specs.Prelude.{◌≡◌, ℕ, IfOk};
+ghost use Rattle.std.specs.List.{list_all};
+ghost use Rattle.hoist.specs.Tables.{entry};
+ghost use Rattle.hoist.specs.Written.{more, noted, noted_in, times, is_once};
+
+use crate::table::Table;
+use mach_ir::{Instr, Mach, Reg};
+use std::alloc::{AllocError, Global};
+
+/// Once more: 2 stands for each greater number too.
+fn more(times: usize) -> usize
+    ensures { result ≡ more times }
+{
+    if times == 0 { 1 } else { 2 }
+}
+
+fn note_writes(writes: &mut Table, regs: &[Reg]) -> Result<(), AllocError>
+    ensures { IfOk result (λ _. (n : ℕ) →
+        entry writes.new n ≡ noted n regs.now (entry writes.old n)) }
+{
+    for reg in regs {
+        let times = more(writes.get(reg.number));
+        writes.put(reg.number, times)?;
+    }
+    Ok(())
+}
+
+fn note_code(writes: &mut Table, code: &[Instr]) -> Result<(), AllocError>
+    ensures { IfOk result (λ _. (n : ℕ) →
+        entry writes.new n ≡ noted_in n code.now (entry writes.old n)) }
+{
+    for instr in code {
+        note_writes(writes, instr.results.as_slice())?;
+    }
+    Ok(())
+}
+
+/// How often each register is written, by its number: 0, 1 or, for more, 2. The entry writes the
+/// parameters.
+pub fn times_written(alloc: Global, mach: &Mach) -> Result<Table, AllocError>
+    ensures { IfOk result (λ writes. (n : ℕ) → entry writes n ≡ times mach.now n) }
+{
+    let mut writes = Table::new(alloc);
+    note_writes(&mut writes, mach.params.as_slice())?;
+    note_code(&mut writes, mach.code.as_slice())?;
+    Ok(writes)
+}
+
+/// Whether its results are written nowhere else.
+pub fn is_once(writes: &Table, instr: &Instr) -> bool
+    ensures { result ≡ is_once (entry writes.now) instr.now }
+{
+    instr
+        .results
+        .as_slice()
+        .iter()
+        .all(|reg| writes.get(reg.number) == 1)
+}
