@@ -1,8 +1,6 @@
 -- What is chosen is a plan, and there is one way to choose.
-use Rattle.std.proofs.Common.{◌≡◌, ◌≢◌, ◌↔◌, ℕ, zero, suc, ◌<◌, ◌≤◌, Bool, true, false, cond, ◌⊎◌, inl, inr, ⊎_elim, List, [], ◌∷◌, ◌++◌, length, refl, sym, ap, ◌∙◌, subst, arith}
+use Rattle.std.proofs.Common.{◌≡◌, ◌↔◌, ℕ, suc, ◌<◌, Bool, true, false, cond, ⊎_elim, List, [], ◌∷◌, ◌++◌, length, refl, sym, ap, ◌∙◌, subst, arith}
 use Rattle.std.specs.List.{AllPairs, Contains}
-use Rattle.std.specs.Prelude.{slice_index_or}
-use Rattle.bs_words.specs.declared.types.Comp.TheVariants as comp
 use Rattle.mach_ir.specs.Acts.{Target, has_descriptor}
 use Rattle.mach_ir.specs.Formed.{WellFormed, AreDistinct}
 use Rattle.mach_ir.specs.Meaning.{Nothing, Temporaries, Everything, destroyed, destroyed_by, passes_frame}
@@ -11,7 +9,6 @@ use Rattle.mach_ir.specs.declared.op.Calling.TheVariants as calling
 use Rattle.mach_ir.specs.declared.op.Op.{Op}
 use Rattle.mach_ir.specs.declared.op.Op.TheVariants as op
 use Rattle.mach_ir.specs.declared.reg.Reg.{Reg}
-use Rattle.mach_ir.specs.declared.mach.MachOp.{MachOp}
 use Rattle.mach_ir.specs.declared.mach.MachOp.TheVariants as mach
 use Rattle.mach_ir.specs.declared.mach.Instr.{Instr}
 use Rattle.mach_ir.specs.declared.mach.Mach.{Mach}
@@ -21,7 +18,7 @@ use Rattle.mach_laws.proofs.Walking.{none_in, first_in, later_in, in_cons, endin
 use Rattle.places_rules.proofs.Walked.{stands_of}
 use Rattle.spill_rules.specs.Chosen.{LivesOver, lives}
 use Rattle.sink_rules.specs.Chosen.{IsSunkAt, IsSunkSomewhere, IsChosen, IsSunk}
-use Rattle.sink_rules.specs.Sunk.{Plan, to_itself, moves_of, sunk_instr, sunk, IsPlan, IsKept}
+use Rattle.sink_rules.specs.Sunk.{Plan, to_itself, moves_of, sunk_instr, IsPlan, IsKept}
 use Rattle.sink_rules.proofs.Whole.{sunk_kept}
 
 -- ---- calls

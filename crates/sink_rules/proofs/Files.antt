@@ -1,5 +1,5 @@
 -- What registers hold: values of their own components, and something wherever they surely were written.
-use Rattle.std.proofs.Common.{◌≡◌, ◌≢◌, ℕ, Bool, true, false, cond, not, ◌&&◌, ◌⊎◌, inl, inr, ⊎_elim, List, [], ◌∷◌, length, Option, Some, None, refl, sym, ap, ◌∙◌, subst}
+use Rattle.std.proofs.Common.{◌≡◌, ◌≢◌, ℕ, Bool, true, false, cond, not, ◌&&◌, ◌⊎◌, inl, inr, ⊎_elim, List, [], ◌∷◌, Option, Some, None, refl, sym, ap, ◌∙◌}
 use Rattle.std.proofs.Math.Path.{fun_ext}
 use Rattle.std.proofs.lemmas.Bool.{cases_Bool, eq-eqb, eqb-true}
 use Rattle.std.specs.List.{Contains}
@@ -15,7 +15,7 @@ use Rattle.mach_ir.specs.declared.mach.Instr.{Instr}
 use Rattle.mach_ir.specs.declared.mach.Mach.{Mach}
 use Rattle.mach_laws.proofs.Walking.{none_in, in_cons}
 use Rattle.liveness.proofs.Bounds.{killed_is_colour}
-use Rattle.places_rules.proofs.Files.{differ, none_some, some_same, put_here, put_other}
+use Rattle.places_rules.proofs.Files.{differ, put_here, put_other}
 use Rattle.split_rules.proofs.Text.{number_among}
 
 -- ---- a register that is put back

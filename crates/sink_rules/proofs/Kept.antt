@@ -9,8 +9,8 @@ use Rattle.bs_words.specs.declared.values.Value.{Value}
 use Rattle.mach_ir.specs.Acts.{Around, Target, On, At, Landing, AtLabel, AtHandler}
 use Rattle.mach_ir.specs.Formed.{IsFormed, WellFormed}
 use Rattle.mach_ir.specs.Runs.{Place, Continues, entered}
-use Rattle.mach_ir.specs.Meaning.{Held, File, put, put_if, put_all, clear, killed, written, with_held, values, past_frame, passes_frame, after_label, from_handler, at_handler, code_at, tries_at, tries_past, landing_code, wrote, on_values, step}
-use Rattle.mach_ir.specs.Walks.{Among, OneOf, this, targets, may_raise, goes, raises, Reached, at_entry, by_step, by_raise, Live, LiveAcross, IsRegister, is_param, is_in_code, Stands, Writes}
+use Rattle.mach_ir.specs.Meaning.{Held, File, put_if, put_all, clear, killed, written, with_held, values, past_frame, passes_frame, after_label, from_handler, at_handler, code_at, tries_at, tries_past, landing_code, wrote, on_values, step}
+use Rattle.mach_ir.specs.Walks.{Among, OneOf, this, targets, may_raise, goes, raises, Reached, at_entry, by_step, by_raise, Live, LiveAcross, IsRegister, is_param, is_in_code}
 use Rattle.mach_ir.specs.Keeps.{ValsWritten, OriginsAgree, wrote_unless, Does}
 use Rattle.mach_ir.specs.declared.reg.Reg.{Reg}
 use Rattle.mach_ir.specs.declared.mach.MachOp.{MachOp}
@@ -22,7 +22,7 @@ use Rattle.mach_laws.proofs.General as general
 use Rattle.mach_laws.proofs.General.{at}
 use Rattle.mach_laws.proofs.Leads.{IsTry, is_try, MayLand, lands_at_label, lands_at_handler}
 use Rattle.mach_laws.proofs.Level as level
-use Rattle.mach_laws.proofs.Places.{ending_next, ending_label, ending_from_handler, label_expand, handler_expand}
+use Rattle.mach_laws.proofs.Places.{ending_next, handler_expand}
 use Rattle.mach_laws.proofs.Simulate.{Agrees}
 use Rattle.mach_laws.proofs.Walking.{first_in, later_in}
 use Rattle.places_rules.proofs.Files.{differ, none_some, some_same, not_cleared, among_or_not, PutsBoth, put_both}
@@ -36,7 +36,7 @@ use Rattle.sink_rules.specs.Sunk.{Plan, to_itself, moves_of, IsPlan}
 use Rattle.sink_rules.specs.Walks as walks
 use Rattle.sink_rules.specs.Walks.{Stale}
 use Rattle.sink_rules.proofs.Files.{put_back, open_kept, lost_nothing}
-use Rattle.sink_rules.proofs.Live.{laid_label, laid_handler, live_back, live_before, moved_live, across_back}
+use Rattle.sink_rules.proofs.Live.{laid_label, laid_handler, live_back, moved_live, across_back}
 use Rattle.sink_rules.proofs.Text as text
 use Rattle.sink_rules.proofs.Text.{before, laid_instr, keeps_marks, of_one}
 

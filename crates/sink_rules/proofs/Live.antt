@@ -1,10 +1,9 @@
 -- What is live, joined and reached with the moves was so without them: a move reads its register before it writes it, and the
 -- register is live there.
-use Rattle.std.proofs.Common.{◌≡◌, ℕ, Bool, true, false, ◌⊎◌, inl, inr, ⊎_elim, List, [], ◌∷◌, length, refl, sym, ap, ◌∙◌, subst}
+use Rattle.std.proofs.Common.{◌≡◌, ℕ, true, false, List, ◌∷◌, refl, sym, ap, ◌∙◌, subst}
 use Rattle.std.specs.List.{Contains}
 use Rattle.bs_words.specs.declared.types.Comp.TheVariants as comp
 use Rattle.mach_ir.specs.Acts.{Target, On, At}
-use Rattle.mach_ir.specs.Formed.{WellFormed}
 use Rattle.mach_ir.specs.Meaning.{after_label, from_handler, code_at, passes_frame, tries_at, tries_past, written}
 use Rattle.mach_ir.specs.Walks.{Among, OneOf, targets, may_raise, goes, raises, Reached, at_entry, by_step, by_raise, Live, read, on, aside, LiveAfter, after_step, LiveAcross, across_step, across_raise, IsRegister, NoAddrLive, Meets, at_write, at_params, Joined, one_way, other_way}
 use Rattle.mach_ir.specs.declared.reg.Reg.{Reg}
@@ -14,7 +13,7 @@ use Rattle.mach_laws.specs.Expand.{expand, Ending}
 use Rattle.mach_laws.proofs.Places.{label_expand, handler_expand, ending_label, ending_from_handler}
 use Rattle.places_rules.proofs.Files.{differ}
 use Rattle.places_rules.proofs.Walked.{stands_of}
-use Rattle.sink_rules.specs.Sunk.{Plan, to_itself, IsPlan}
+use Rattle.sink_rules.specs.Sunk.{Plan, IsPlan}
 use Rattle.sink_rules.proofs.Text as text
 use Rattle.sink_rules.proofs.Text.{laid_instr, keeps_marks, only_on, of_one}
 

@@ -15,7 +15,7 @@ use Rattle.mach_ir.specs.declared.mach.Instr.{Instr}
 use Rattle.mach_ir.specs.declared.mach.Mach.{Mach}
 use Rattle.mach_laws.specs.Expand.{expand, Ending, all, more}
 use Rattle.mach_laws.proofs.Places.{ending_next}
-use Rattle.mach_laws.proofs.Walking.{none_in, first_in, later_in}
+use Rattle.mach_laws.proofs.Walking.{first_in, later_in}
 use Rattle.places_rules.proofs.Lists.{was, length_mapped}
 use Rattle.places_rules.proofs.Walked.{stands_of}
 use Rattle.sink_rules.specs.Sunk.{Plan, to_itself, moves_of, sunk_instr, sunk, IsPlan}
@@ -197,9 +197,12 @@ module _ (m : Mach) (plan : Plan) (known_plan : IsPlan m plan) where
       joins : (g d k x y : ℕ) → g ≤ d + k * x → x ≤ y → g ≤ d + k * y
       joins g d k x y p le = let z = times_le k x y le in omega (arith, p, z)
 
+  -- bounds with a move for each register
+  abbrev pub with_moves : Size → Size
+  with_moves s = record s { instrs = s.instrs + length plan.registers; operands = s.operands + 2 * length plan.registers }
+
   pub sunk_size : ((r : Reg) → IsRegister (sunk plan m) r → IsRegister m r) → (s : Size) → HasSize m s →
-      HasSize (sunk plan m)
-      (record s { instrs = s.instrs + length plan.registers; operands = s.operands + 2 * length plan.registers })
+      HasSize (sunk plan m) (with_moves s)
   sunk_size old s h =
       let a = sum_within length (λ i. 1) 1 refl (λ i is. omega arith) (λ r. omega arith) in
       let b = sum_within operand_count (λ (i : Instr). length i.args + length i.results) 2 refl (λ i is. refl) (λ r. omega arith) in

@@ -1,10 +1,9 @@
 -- The code grows by at most a copy for each register that is moved; and what a function with moves keeps, whole.
 use Rattle.std.proofs.Common.{◌≡◌, ℕ, suc, ◌+◌, ◌*◌, ◌≤◌, Bool, true, false, cond, List, [], ◌∷◌, length, refl, sym, ap, ◌∙◌, subst, arith}
-use Rattle.std.specs.List.{Contains}
 use Rattle.mach_ir.specs.Formed.{is_exit, WellFormed}
 use Rattle.mach_ir.specs.Meaning.{passes_frame, tries_at, tries_past}
 use Rattle.mach_ir.specs.Sizes.{HasSize}
-use Rattle.mach_ir.specs.Walks.{IsRegister, Stands}
+use Rattle.mach_ir.specs.Walks.{IsRegister}
 use Rattle.mach_ir.specs.declared.reg.Reg.{Reg}
 use Rattle.mach_ir.specs.declared.mach.Instr.{Instr}
 use Rattle.mach_ir.specs.declared.mach.Mach.{Mach}
@@ -14,7 +13,7 @@ use Rattle.pass_rules.specs.Carried.{OffsetFits, TriesAtMost, EndsInReturn, at_r
 use Rattle.pass_rules.specs.Measures.{copy_words, instr_words, code_words, one_if, code_points, exits, operands_with, other_operands}
 use Rattle.sink_rules.specs.Sunk.{Plan, to_itself, sunk, IsPlan, IsKept}
 use Rattle.sink_rules.proofs.Formed.{each_in, tries_so, main_tries, still_formed, still_placed, still_seated, still_keeps}
-use Rattle.sink_rules.proofs.Sizes.{sum_within, sunk_size, few}
+use Rattle.sink_rules.proofs.Sizes.{sum_within, with_moves, sunk_size, few}
 use Rattle.sink_rules.proofs.Text as text
 
 exit_one : (b : Bool) (n : ℕ) → cond b (suc n) n ≡ cond b 1 0 + n
@@ -89,7 +88,8 @@ module _ (m : Mach) (plan : Plan) (formed : WellFormed m) (is : IsPlan m plan) w
         seated = still_seated m plan formed is;
         params = refl;
         registers = was;
-        size = λ s h. subst (λ (k : Mach). HasSize k (record s { instrs = s.instrs + length plan.registers; operands = s.operands + 2 * length plan.registers })) (text.sunk_is_laid m plan is) (sunk_size m plan is old s h);
+        size = λ s h.
+            subst (λ (k : Mach). HasSize k (with_moves m plan is s)) (text.sunk_is_laid m plan is) (sunk_size m plan is old s h);
         carried = carried;
         few = few m plan is;
       }

@@ -1,6 +1,6 @@
 -- Which registers are moved to themselves before a call: those that spilling then stores there, in
 -- place of each assignment before.
-use Rattle.std.specs.Prelude.{◌≡◌, ◌↔◌, ◌<◌, ℕ, true, List, ◌∷◌, length, AllPairs, Contains}
+use Rattle.std.specs.Prelude.{◌≡◌, ◌↔◌, ◌<◌, true, List, ◌∷◌, length, AllPairs, Contains}
 use Rattle.bs_words.specs.declared.types.Loc.TheVariants as loc
 use Rattle.mach_ir.specs.Walks.{Stands, IsRegister}
 use Rattle.mach_ir.specs.declared.op.Op.{Op}
@@ -9,7 +9,7 @@ use Rattle.mach_ir.specs.declared.mach.Instr.{Instr}
 use Rattle.mach_ir.specs.declared.mach.Mach.{Mach}
 use Rattle.mach_ir.specs.declared.mach.MachOp.TheVariants as mach
 use Rattle.spill_rules.specs.Chosen.{LivesOver}
-use Rattle.sink_rules.specs.Sunk.{Plan, sunk, IsKept}
+use Rattle.sink_rules.specs.Sunk.{Plan, sunk}
 use Rattle.sink_rules.specs.Walks.{Fresh, Stale}
 
 -- A register is moved to itself before a call that it lives over, where it surely was written since
