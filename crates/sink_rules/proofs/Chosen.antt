@@ -169,8 +169,8 @@ same_answer false true x y = x.1 (y.0 refl)
 same_answer false false x y = refl
 
 -- One function is made of each.
-pub one_sunk : (m q k : Mach) → WellFormed m → IsSunk m q → IsSunk m k → q ≡ k
-one_sunk m q k formed s t =
+pub one_sunk : (m q k : Mach) → IsSunk m q → IsSunk m k → q ≡ k
+one_sunk m q k s t =
     s.is
     ∙ ap (λ xs. record m { code = xs })
     (code_same s.plan t.plan registers m.code (λ i next stands r c.

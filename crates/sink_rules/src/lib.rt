@@ -35,5 +35,5 @@ pub fn what_is_sunk_is_kept()
 
 /// Law: one function is made of each.
 pub fn sinking_makes_one()
-    ensures { (m q k : Mach) → WellFormed m → IsSunk m q → IsSunk m k → q ≡ k }
+    ensures { (m q k : Mach) → IsSunk m q → IsSunk m k → q ≡ k }
 {}
