@@ -4,6 +4,7 @@ pub mod Comments
 pub mod Escapes
 pub mod Fronts
 pub mod Languages
+pub mod Lengths
 pub mod Numbers
 pub mod Pairs
 pub mod Places
