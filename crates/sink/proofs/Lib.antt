@@ -1,0 +1,14 @@
+mod Held
+mod Steps
+mod Living
+mod Nodes
+mod Popping
+mod Graph
+mod StaleFlow
+mod FreshFlow
+mod Copying
+mod Seeing
+mod Entered
+mod Moving
+mod Choosing
+mod Planning

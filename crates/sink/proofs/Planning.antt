@@ -1,0 +1,255 @@
+-- The plan of the moves is the chosen one, and the code is that of the plan.
+use Rattle.std.proofs.Common.{◌≡◌, ℕ, suc, ◌-◌, ◌<◌, Bool, true, false, cond, ◌&&◌, ◌||◌, ◌⊎◌, inl, inr, ⊎_elim, List, [], ◌∷◌, ◌++◌, map, length, drop, refl, sym, ap, ◌∙◌, subst, arith}
+use Rattle.std.proofs.lemmas.Bool.{cases_Bool, eq-eqb, eqb-true}
+use Rattle.std.specs.List.{AllPairs, Contains}
+use Rattle.std.specs.Prelude.{nat_eq}
+use Rattle.mach_ir.specs.Formed.{WellFormed}
+use Rattle.mach_ir.specs.Walks.{goes, Stands, here, below, IsRegister}
+use Rattle.mach_ir.specs.declared.op.Op.{Op}
+use Rattle.mach_ir.specs.declared.reg.Reg.{Reg}
+use Rattle.mach_ir.specs.declared.mach.Instr.{Instr}
+use Rattle.mach_ir.specs.declared.mach.Mach.{Mach}
+use Rattle.mach_ir.specs.declared.mach.MachOp.TheVariants as mach
+use Rattle.mach_laws.specs.Expand.{expand}
+use Rattle.mach_laws.specs.Graph.{place_of}
+use Rattle.mach_laws.proofs.Walking.{none_in, first_in, later_in, in_cons, place_is}
+use Rattle.spill_rules.specs.Chosen.{LivesOver, lives}
+use Rattle.sink_rules.specs.Chosen.{IsSunkAt, IsChosen, IsSunk}
+use Rattle.sink_rules.specs.Sunk.{Plan, to_itself, moves_of, sunk_instr}
+use Rattle.sink.specs.Chosen.{is_call, AreMoves}
+use Rattle.sink.specs.Moves.{moves_before, instr_at, code_at}
+use Rattle.sink.specs.declared.chosen.Move.{Move}
+use Rattle.sink.proofs.Held.{held_of, ending_of}
+use Rattle.sink.proofs.Living.{not_both}
+use Rattle.sink.proofs.Moving.{pairs_none, pairs_more, pairs_first, pairs_rest}
+use Rattle.sink.proofs.Choosing.{is_a_call}
+
+-- ---- tests
+
+or_cases : (a b : Bool) → a || b ≡ true → (a ≡ true) ⊎ (b ≡ true)
+or_cases true b e = inl refl
+or_cases false b e = inr e
+
+or_left : (a b : Bool) → a ≡ true → a || b ≡ true
+or_left true b e = refl
+or_left false b e = absurd (not_both false e refl)
+
+or_right : (a b : Bool) → b ≡ true → a || b ≡ true
+or_right true b e = refl
+or_right false b e = e
+
+and_parts : (a b : Bool) → a && b ≡ true → (a ≡ true) × (b ≡ true)
+and_parts true b e = (refl, e)
+and_parts false b e = absurd (not_both false e refl)
+
+and_from : (a b : Bool) → a ≡ true → b ≡ true → a && b ≡ true
+and_from true b e h = h
+and_from false b e h = absurd (not_both false e refl)
+
+same_test : (a b : Bool) → (a ≡ true → b ≡ true) → (b ≡ true → a ≡ true) → a ≡ b
+same_test true b f g = sym (f refl)
+same_test false true f g = g refl
+same_test false false f g = refl
+
+-- ---- moves by their numbers and places
+
+abbrev regs_of : List Move → List Reg
+regs_of moves = map (λ (x : Move). x.reg) moves
+
+-- a register of this number is moved before this place
+abbrev moved_there : List Move → ℕ → ℕ → Bool
+moved_there [] n p = false
+moved_there (x ∷ xs) n p = (nat_eq x.reg.number n && nat_eq x.place p) || moved_there xs n p
+
+record There (xs : List Move) (n p : ℕ) : Type 0 where
+  move : Move
+  among : Contains xs move
+  number : move.reg.number ≡ n
+  place : move.place ≡ p
+
+there_of : (xs : List Move) (n p : ℕ) → moved_there xs n p ≡ true → There xs n p
+there_of [] n p e = absurd (not_both false e refl)
+there_of (x ∷ xs) n p e =
+    ⊎_elim
+    (λ h.
+    let t = and_parts (nat_eq x.reg.number n) (nat_eq x.place p) h in
+    record { move = x; among = first_in x xs; number = eqb-true x.reg.number n t.0; place = eqb-true x.place p t.1 })
+    (λ h.
+    let t = there_of xs n p h in
+    record { move = t.move; among = later_in x t.move xs t.among; number = t.number; place = t.place })
+    (or_cases (nat_eq x.reg.number n && nat_eq x.place p) (moved_there xs n p) e)
+
+of_there : (xs : List Move) (y : Move) (n p : ℕ) → Contains xs y → y.reg.number ≡ n → y.place ≡ p → moved_there xs n p ≡ true
+of_there [] y n p c e h = absurd (none_in y c)
+of_there (x ∷ xs) y n p c e h =
+    ⊎_elim
+    (λ s.
+    or_left (nat_eq x.reg.number n && nat_eq x.place p) (moved_there xs n p)
+    (and_from (nat_eq x.reg.number n) (nat_eq x.place p) (eq-eqb x.reg.number n (ap (λ (x : Move). x.reg.number) s ∙ e))
+    (eq-eqb x.place p (ap (λ (x : Move). x.place) s ∙ h))))
+    (λ d. or_right (nat_eq x.reg.number n && nat_eq x.place p) (moved_there xs n p) (of_there xs y n p d e h))
+    (in_cons x y xs c)
+
+reg_in : (xs : List Move) (r : Reg) → Contains (regs_of xs) r → (x : Move) × Contains xs x × (x.reg ≡ r)
+reg_in [] r c = absurd (none_in r c)
+reg_in (x ∷ xs) r c =
+    ⊎_elim (λ e. (x, first_in x xs, e)) (λ d. let y = reg_in xs r d in (y.0, later_in x y.0 xs y.1, y.2)) (in_cons x.reg r (regs_of xs) c)
+
+in_regs : (xs : List Move) (y : Move) → Contains xs y → Contains (regs_of xs) y.reg
+in_regs [] y c = absurd (none_in y c)
+in_regs (x ∷ xs) y c =
+    ⊎_elim (λ e. subst (λ (y : Move). Contains (regs_of (x ∷ xs)) y.reg) e (first_in x.reg (regs_of xs)))
+    (λ d. later_in x.reg y.reg (regs_of xs) (in_regs xs y d)) (in_cons x y xs c)
+
+rising_regs : (xs : List Move) → AllPairs (λ (x y : Move). x.reg.number < y.reg.number) xs →
+    AllPairs (λ (r q : Reg). r.number < q.number) (regs_of xs)
+rising_regs [] all = pairs_none (λ (r q : Reg). r.number < q.number)
+rising_regs (x ∷ xs) all =
+    pairs_more (λ (r q : Reg). r.number < q.number) x.reg (regs_of xs)
+    (λ q c.
+    let y = reg_in xs q c in
+    subst (λ (q : Reg). x.reg.number < q.number) y.2
+    (pairs_first (λ (x y : Move). x.reg.number < y.reg.number) x y.0 xs all y.1))
+    (rising_regs xs (pairs_rest (λ (x y : Move). x.reg.number < y.reg.number) x xs all))
+
+-- ---- the code
+
+code_same : (f g : ℕ → Instr → List Instr) (code : List Instr) →
+    ((i : Instr) (next : List Instr) → Stands i next code → f (length next) i ≡ g (length next) i) → expand f code ≡ expand g code
+code_same f g [] h = refl
+code_same f g (i ∷ is) h =
+    ap (λ xs. xs ++ expand f is) (h i is here) ∙ ap (λ xs. g (length is) i ++ xs) (code_same f g is (λ j next s. h j next (below s)))
+
+bare : (end : ℕ) (code : List Instr) → code ≡ code_at [] end code
+bare end [] = refl
+bare end (i ∷ is) = ap (λ xs. i ∷ xs) (bare end is) ∙ ap (λ xs. xs ++ code_at [] end is) (one (is_call i.op))
+  where
+    one : (b : Bool) → i ∷ [] ≡ cond b ([] ++ i ∷ []) (i ∷ [])
+    one true = refl
+    one false = refl
+
+module _ (m : Mach) (formed : WellFormed m) (moves : List Move) (are : AreMoves m moves) where
+  abbrev plan : Plan
+  plan = record { registers = regs_of moves; moves = λ k n. moved_there moves n (length m.code - 1 - k) }
+
+  place_now : (i : Instr) (next : List Instr) → length m.code - 1 - length next ≡ place_of m (i ∷ next)
+  place_now i next = minus (length m.code) (length next)
+    where
+      minus : (a b : ℕ) → a - 1 - b ≡ a - suc b
+      minus a b = omega arith
+
+  stands_over : {n : ℕ} {i : Instr} {next to : List Instr} → LivesOver m n i next to → Stands i next m.code
+  stands_over (lives s d w l v) = s
+
+  calls_over : {n : ℕ} {i : Instr} {next to : List Instr} (g : Op) → LivesOver m n i next to → i.op ≡ mach.Op g → is_call i.op ≡ true
+  calls_over {i = i} g (lives s d w (goes t o) v) e = is_a_call i.op g e (held_of i.op t d o)
+
+  -- a place is that of one instruction
+  same_code : {i j : Instr} {next others : List Instr} → Stands i next m.code → Stands j others m.code →
+      place_of m (j ∷ others) ≡ place_of m (i ∷ next) → j ∷ others ≡ i ∷ next
+  same_code s t e = sym (place_is m (ending_of t)) ∙ ap (λ p. drop p m.code) e ∙ place_is m (ending_of s)
+
+  head_is : {i j : Instr} {xs ys : List Instr} → i ∷ xs ≡ j ∷ ys → i ≡ j
+  head_is e = cc
+
+  tail_is : {i j : Instr} {xs ys : List Instr} → i ∷ xs ≡ j ∷ ys → xs ≡ ys
+  tail_is e = cc
+
+  registered : (r : Reg) → Contains plan.registers r → IsRegister m r
+  registered r c = let x = reg_in moves r c in subst (IsRegister m) x.2 ((are.each x.0 x.1).sunk_at).register
+
+  -- a move of the plan stands there
+  sunk_there : (i : Instr) (next : List Instr) (r : Reg) → Stands i next m.code → IsRegister m r → There moves r.number (length m.code - 1 - length next) →
+      IsSunkAt m i next r
+  sunk_there i next r s known t =
+      let x = are.each t.move t.among in
+      let a = x.sunk_at in
+      let same = same_code s (stands_over a.over) (sym x.place ∙ t.place ∙ place_now i next) in
+      let reg : t.move.reg ≡ r = formed.numbers t.move.reg r a.register known t.number in
+      subst (IsSunkAt m i next) reg
+      (subst (λ (i : Instr). IsSunkAt m i next t.move.reg) (head_is same)
+      (subst (λ (next : List Instr). IsSunkAt m x.instr next t.move.reg) (tail_is same) a))
+
+  there_sunk : (i : Instr) (next : List Instr) (r : Reg) → IsSunkAt m i next r → plan.moves (length next) r.number ≡ true
+  there_sunk i next r a =
+      of_there moves (record { reg = r; place = place_of m (i ∷ next) }) r.number (length m.code - 1 - length next) (are.all i next r a) refl
+      (sym (place_now i next))
+
+  is_chosen : IsChosen m plan
+  is_chosen =
+      record {
+        registers = λ r. (
+          λ c.
+              let x = reg_in moves r c in
+              let y = are.each x.0 x.1 in
+              record { instr = y.instr; next = y.next; sunk_at = subst (IsSunkAt m y.instr y.next) x.2 y.sunk_at },
+          λ h. in_regs moves (record { reg = r; place = place_of m (h.instr ∷ h.next) }) (are.all h.instr h.next r h.sunk_at),
+        );
+        rising = rising_regs moves are.rising;
+        moves = λ i next r s c. (
+          λ e. sunk_there i next r s (registered r c) (there_of moves r.number (length m.code - 1 - length next) e),
+          there_sunk i next r,
+        );
+      }
+
+  -- ---- the code
+
+  module _ (i : Instr) (next : List Instr) (s : Stands i next m.code) where
+    abbrev p : ℕ
+    p = length m.code - 1 - length next
+
+    test_same : (x : Move) → Contains moves x → nat_eq x.place p ≡ plan.moves (length next) x.reg.number
+    test_same x c =
+        same_test (nat_eq x.place p) (moved_there moves x.reg.number p)
+        (λ e. of_there moves x x.reg.number p c refl (eqb-true x.place p e))
+        (λ e.
+        let y = are.each x c in
+        let a = sunk_there i next x.reg s (y.sunk_at).register (there_of moves x.reg.number p e) in
+        let after : next ≡ y.next = (y.sunk_at).only i next a.to a.over a.unsaved in
+        eq-eqb x.place p (y.place ∙ ap (λ xs. length m.code - suc (length xs)) (sym after) ∙ sym (place_now i next)))
+
+    moves_same : (xs : List Move) → ((x : Move) → Contains xs x → Contains moves x) → moves_before xs p ≡ moves_of plan (length next) (regs_of xs)
+    moves_same [] known = refl
+    moves_same (x ∷ xs) known =
+        ap (λ b. cond b (to_itself x.reg ∷ moves_before xs p) (moves_before xs p)) (test_same x (known x (first_in x xs)))
+        ∙ ap (λ ys. cond (plan.moves (length next) x.reg.number) (to_itself x.reg ∷ ys) ys)
+        (moves_same xs (λ y c. known y (later_in x y xs c)))
+
+    none_same : is_call i.op ≡ false → (xs : List Move) → ((x : Move) → Contains xs x → Contains moves x) →
+        moves_of plan (length next) (regs_of xs) ≡ []
+    none_same e [] known = refl
+    none_same e (x ∷ xs) known =
+        ap (λ b. cond b (to_itself x.reg ∷ moves_of plan (length next) (regs_of xs)) (moves_of plan (length next) (regs_of xs)))
+        (⊎_elim (λ h. absurd (never h)) (λ h. h) (cases_Bool (plan.moves (length next) x.reg.number)))
+        ∙ none_same e xs (λ y c. known y (later_in x y xs c))
+      where
+        never : plan.moves (length next) x.reg.number ≡ true → ⊥
+        never h =
+            let y = are.each x (known x (first_in x xs)) in
+            let a = sunk_there i next x.reg s (y.sunk_at).register (there_of moves x.reg.number p h) in
+            not_both (is_call i.op) (calls_over a.call a.over a.is_call) e
+
+    instr_same : instr_at moves p i ≡ sunk_instr plan (length next) i
+    instr_same =
+        ⊎_elim
+        (λ e.
+        ap (λ b. cond b (moves_before moves p ++ i ∷ []) (i ∷ [])) e ∙ ap (λ xs. xs ++ i ∷ []) (moves_same moves (λ x c. c)))
+        (λ e.
+        ap (λ b. cond b (moves_before moves p ++ i ∷ []) (i ∷ [])) e ∙ ap (λ xs. xs ++ i ∷ []) (sym (none_same e moves (λ x c. c))))
+        (cases_Bool (is_call i.op))
+
+  pub sunk_by : (code : List Instr) → code ≡ code_at moves (length m.code) m.code → IsSunk m (record m { code = code })
+  sunk_by code e =
+      record {
+        plan = plan;
+        chosen = is_chosen;
+        is = ap (λ xs. record m { code = xs })
+            (e ∙ code_same (λ k i. instr_at moves (length m.code - 1 - k) i) (sunk_instr plan) m.code instr_same);
+      }
+
+  pub unsunk : moves ≡ [] → IsSunk m m
+  unsunk none = sunk_by m.code (bare (length m.code) m.code ∙ ap (λ xs. code_at xs (length m.code) m.code) (sym none))
+
+pub none_of : {A : Type 0} (xs : List A) → length xs ≡ 0 → xs ≡ []
+none_of [] e = refl
+none_of (x ∷ xs) e = absurd (omega (arith, e))

@@ -1,0 +1,265 @@
+-- What reaches a place in the graph of what is stale is what is stale there.
+use Rattle.std.proofs.Common.{◌≡◌, ℕ, zero, suc, ◌<◌, ◌≤◌, Bool, true, ◌⊎◌, inl, inr, ⊎_elim, List, [], ◌∷◌, map, length, drop, refl, sym, ap, ◌∙◌, subst, arith}
+use Rattle.std.specs.List.{All, Contains}
+use Rattle.std.specs.Prelude.{slice_index_or}
+use Rattle.bs_words.specs.Contents.{contents}
+use Rattle.dataflow.specs.Flow.{Graph, graph, IsPlace}
+use Rattle.dataflow.specs.Flow as flows
+use Rattle.dataflow.specs.Reach.{ComesIn, ComesTo, IsReaching}
+use Rattle.dataflow.specs.declared.flow.Flow as flow
+use Rattle.dataflow.specs.declared.flow.Place as place
+use Rattle.mach_ir.specs.Graph.{IsLiveMap}
+use Rattle.mach_ir.specs.Meaning.{Everything, destroyed_by, code_at, written}
+use Rattle.mach_ir.specs.Walks.{Among, OneOf, targets, goes, Leads, Raises, Live, Writes, Stands}
+use Rattle.mach_ir.specs.Walks as walks
+use Rattle.mach_ir.specs.declared.graph.LiveMap.{LiveMap}
+use Rattle.mach_ir.specs.declared.mach.Instr.{Instr}
+use Rattle.mach_ir.specs.declared.mach.Mach.{Mach}
+use Rattle.mach_laws.specs.Expand.{Ending, all}
+use Rattle.mach_laws.specs.Graph.{place_of, numbers, next_places, raise_places, numbers_written, IsFlowOf}
+use Rattle.mach_laws.proofs.Places.{ending_next}
+use Rattle.mach_laws.proofs.Walking.{none_in, first_in, in_cons, place_is, ending_drop}
+use Rattle.liveness.proofs.Bounds.{no_items, one_more}
+use Rattle.sink_rules.specs.Walks.{Stale, at_entry, over, on, aside}
+use Rattle.sink.specs.Graphs.{held, LivesAt, IsOver, IsEntry, IsStaleNode, AreStaleNodes}
+use Rattle.sink.specs.Tables.{AreStale}
+use Rattle.sink.proofs.Held.{held_destroys, held_of, stands_of, ending_of}
+use Rattle.sink.proofs.Graph.{Where, inner, final, beyond, where_is, at, none_past, lead, rise, of, goes_to, rises_to}
+use Rattle.sink.proofs.Nodes.{At, AtEnd, at_last, count}
+use Rattle.sink.proofs.Steps.{each, among_of, in_numbers, destroys_on, place_back, ending_place, leads_ending, raise_ending, IsWithin, next_within, aside_within, writes_small, live_small}
+
+module _ (m : Mach) (live : LiveMap) (exact : IsLiveMap m live) where
+  abbrev rows : List (List Bool)
+  rows = live.before.rows.items
+
+  abbrev E : place.Place → Type 0
+  E = IsEntry m rows
+
+  abbrev N : Instr → List Instr → place.Place → Type 0
+  N = IsStaleNode m rows
+
+  next_of : (i : Instr) (next : List Instr) (x : place.Place) → N i next x → contents x.next ≡ next_places m (i ∷ next)
+  next_of i next x h = h.next_is
+
+  aside_of : (i : Instr) (next : List Instr) (x : place.Place) → N i next x → contents x.aside ≡ raise_places m (i ∷ next)
+  aside_of i next x h = h.aside
+
+  drop_none : (xs : List Instr) → drop 0 xs ≡ xs
+  drop_none [] = refl
+  drop_none (x ∷ xs) = refl
+
+  module _ (f : flow.Flow) (nodes : AreStaleNodes m rows m.code (contents f.places)) where
+    abbrev g : Graph
+    g = graph f
+
+    abbrev The : ℕ → Type 0
+    The o = At E N m.code (contents f.places) o
+
+    last : AtEnd E N m.code (contents f.places)
+    last = at_last E N nodes
+
+    -- ---- from the graph
+
+    within : (o : ℕ) → o < length m.code → o ≤ length m.code
+    within o lt = omega (arith, lt)
+
+    at_instr : (k n o p : ℕ)
+        (known : (q : ℕ) → q ≤ length m.code → Live m n (drop q m.code) → ComesIn g n k q → Stale m n (drop q m.code)) →
+        Live m n (drop p m.code) → o < length m.code → The o → Contains (g.next o) p →
+        Contains (g.reads o) n ⊎ ((Contains (g.writes o) n → ⊥) × ComesIn g n k o) → Stale m n (drop p m.code)
+    at_instr k n o p known v lt a c h =
+        let i = a.instr in
+        let next = a.next in
+        let leads = lead m E N next_of aside_of f nodes o p a c in
+        ⊎_elim
+        (λ r.
+        let x = ((a.is_node).reads n).0 (subst (λ xs. Contains xs n) (a.part (λ x. contents x.reads)) r) in
+        over (stands_of (ending_place m o a.is)) (held_destroys i.op x.0) (λ w. (x.1).other (in_numbers w)) leads)
+        (λ r.
+        let w : Writes m i n → ⊥ =
+        λ z. r.0 (subst (λ xs. Contains xs n) (sym (a.part (λ x. contents x.writes) ∙ (a.is_node).writes)) (in_numbers z)) in
+        on (subst (Stale m n) a.is (known o (within o lt) (subst (Live m n) (sym a.is) (walks.on w leads v)) r.1)) w leads) h
+
+    at_the_end : (k n o p : ℕ) → Live m n (drop p m.code) → o ≡ length m.code → Contains (g.next o) p →
+        Contains (g.reads o) n ⊎ ((Contains (g.writes o) n → ⊥) × ComesIn g n k o) → Stale m n (drop p m.code)
+    at_the_end k n o p v e c h =
+        let same : (part : place.Place → List ℕ) → slice_index_or (map part (contents f.places)) o [] ≡ part last.node =
+        λ part. ap (λ o. slice_index_or (map part (contents f.places)) o []) e ∙ last.part part in
+        let zero_is : 0 ≡ p =
+        ⊎_elim (λ e. e) (λ d. absurd (none_in p d))
+        (in_cons 0 p [] (subst (λ xs. Contains xs p) (same (λ x. contents x.next) ∙ (last.is_end).next) c)) in
+        let v0 : Live m n (drop 0 m.code) = subst (λ p. Live m n (drop p m.code)) (sym zero_is) v in
+        subst (λ p. Stale m n (drop p m.code)) zero_is
+        (subst (Stale m n) (sym (drop_none m.code))
+        (⊎_elim
+        (λ r.
+        let x = ((last.is_end).reads n).0 (subst (λ xs. Contains xs n) (same (λ x. contents x.reads)) r) in
+        at_entry (λ a. x.other (in_numbers a)))
+        (λ r.
+        absurd
+        (r.0
+        (subst (λ xs. Contains xs n) (sym (same (λ x. contents x.writes)))
+        (((last.is_end).writes n).1 (record { live = (exact.exact 0 n).1 v0; other = λ z. none_in n z }))))) h))
+
+    module _ (k n p : ℕ)
+        (known : (q : ℕ) → q ≤ length m.code → Live m n (drop q m.code) → ComesIn g n k q → Stale m n (drop q m.code))
+        (v : Live m n (drop p m.code)) where
+      by_next : (o : ℕ) → Contains (g.next o) p → Contains (g.reads o) n ⊎ ((Contains (g.writes o) n → ⊥) × ComesIn g n k o) →
+          Where (length m.code) o → Stale m n (drop p m.code)
+      by_next o c h (inner lt) = at_instr k n o p known v lt (at m E N next_of aside_of f nodes o lt) c h
+      by_next o c h (final e) = at_the_end k n o p v e c h
+      by_next o c h (beyond lt) = absurd (none_past m E N next_of aside_of f nodes (λ x. contents x.next) o p lt c)
+
+      by_aside : (o : ℕ) → Contains (g.aside o) p → ComesIn g n k o → Where (length m.code) o → Stale m n (drop p m.code)
+      by_aside o c h (inner lt) =
+          let a = at m E N next_of aside_of f nodes o lt in
+          let r = rise m E N next_of aside_of f nodes o p a c in
+          aside (subst (Stale m n) a.is (known o (within o lt) (subst (Live m n) (sym a.is) (walks.aside r v)) h)) r
+      by_aside o c h (final e) =
+          absurd
+          (none_in p
+          (subst (λ xs. Contains xs p)
+          (ap (λ o. slice_index_or (map (λ x. contents x.aside) (contents f.places)) o []) e ∙ last.part (λ x. contents x.aside)
+          ∙ (last.is_end).aside) c))
+      by_aside o c h (beyond lt) = absurd (none_past m E N next_of aside_of f nodes (λ x. contents x.aside) o p lt c)
+
+    to_stale : (k n p : ℕ) → p ≤ length m.code → Live m n (drop p m.code) → ComesIn g n k p → Stale m n (drop p m.code)
+    to_stale zero n p le v h = absurd h
+    to_stale (suc k) n p le v h =
+        ⊎_elim (λ s. by_next k n p (to_stale k n) v s.0 s.1 s.2 (where_is (length m.code) s.0))
+        (λ s. by_aside k n p (to_stale k n) v s.0 s.1 s.2 (where_is (length m.code) s.0)) h
+
+    -- ---- and back
+
+    stale_ends : {n : ℕ} {rest : List Instr} → Stale m n rest → Ending rest m.code
+    stale_ends (at_entry a) = all
+    stale_ends (over s d w l) = leads_ending m (ending_of s) l
+    stale_ends (on h w l) = leads_ending m (stale_ends h) l
+    stale_ends (aside h r) = raise_ending m r
+
+    next_live : {i : Instr} {next to : List Instr} {n : ℕ} → destroyed_by i.op ≡ Everything → Leads m i next to → Live m n to → Live m n next
+    next_live {i} {next} {n = n} d (goes t o) v = subst (λ t. Live m n (code_at m.code next t)) (destroys_on i.op t d o) v
+
+    is_held : {i : Instr} {next to : List Instr} → destroyed_by i.op ≡ Everything → Leads m i next to → held i.op ≡ true
+    is_held {i} d (goes t o) = held_of i.op t d o
+
+    begins : (n p : ℕ) → p ≤ length m.code → drop p m.code ≡ m.code → (Among n m.params → ⊥) → Live m n m.code → ComesTo g p n
+    begins n p le e a v =
+        let zero_is : p ≡ 0 = by (place_back m p m.code le e) in
+        let end = length m.code in (
+          1,
+          inl (
+            end,
+            subst (λ p. Contains (g.next end) p) (sym zero_is)
+                (subst (λ xs. Contains xs 0) (sym (last.part (λ x. contents x.next) ∙ (last.is_end).next)) (first_in 0 [])),
+            inl (subst (λ xs. Contains xs n) (sym (last.part (λ x. contents x.reads)))
+                (((last.is_end).reads n).1
+                (record {
+                  live = (exact.exact 0 n).1 (subst (Live m n) (sym (drop_none m.code)) v);
+                  other = λ c. a (among_of n m.params c);
+                }))),
+          ),
+        )
+      where
+        by : place_of m m.code ≡ p → p ≡ 0
+        by h = omega (arith, h)
+
+    comes_to : {n : ℕ} {rest : List Instr} → Stale m n rest → Live m n rest → (p : ℕ) → p ≤ length m.code → drop p m.code ≡ rest → ComesTo g p n
+    comes_to {n} (at_entry a) v p le e = begins n p le e a v
+    comes_to {n} (over {i = i} {next = next} s d w l) v p le e =
+        let ending = ending_of s in
+        let x = of m E N next_of aside_of f nodes ending in
+        let after = next_live d l v in
+        let o = x.number in
+        let made : IsOver rows (place_of m next) i.op (numbers (written m i)) n = (
+          is_held d l,
+          record {
+            live = (exact.exact (place_of m next) n).1 (subst (Live m n) (sym (place_is m (ending_next ending))) after);
+            other = λ c. w (among_of n (written m i) c);
+          },
+        ) in (
+          1,
+          inl (
+            o,
+            goes_to m E N next_of aside_of f nodes p x l le e,
+            inl (subst (λ xs. Contains xs n) (sym (x.part (λ x. contents x.reads))) (((x.is_node).reads n).1 made)),
+          ),
+        )
+    comes_to {n} (on {i = i} {next = next} h w l) v p le e =
+        let x = of m E N next_of aside_of f nodes (stale_ends h) in
+        let o = x.number in
+        let b = comes_to h (walks.on w l v) o (within o x.small) x.is in (
+          suc b.0,
+          inl (
+            o,
+            goes_to m E N next_of aside_of f nodes p x l le e,
+            inr (
+              λ c. w (among_of n (written m i) (subst (λ xs. Contains xs n) (x.part (λ x. contents x.writes) ∙ (x.is_node).writes) c)),
+              b.1,
+            ),
+          ),
+        )
+    comes_to {n} (aside {i = i} {next = next} h r) v p le e =
+        let x = of m E N next_of aside_of f nodes (stale_ends h) in
+        let o = x.number in
+        let b = comes_to h (walks.aside r v) o (within o x.small) x.is in (
+          suc b.0,
+          inr (o, rises_to m E N next_of aside_of f nodes p x r le e, b.1),
+        )
+
+    pub are_stale : (found : List (List Bool)) → IsReaching f found → AreStale m found
+    are_stale found h =
+        record {
+          exact = λ p n le v. (
+            λ e. let x = (h.exact p n).0 e in to_stale x.0 n p le v x.1,
+            λ s. (h.exact p n).1 (comes_to s v p le refl),
+          );
+        }
+
+    -- ---- the graph is one
+
+    module _ (old : flow.Flow) (is : IsFlowOf m old) (formed : flows.WellFormed old) (bound : f.bound ≡ old.bound) where
+      same_count : length (contents old.places) ≡ length (contents f.places)
+      same_count = is.places ∙ sym (count E N nodes)
+
+      small : (p : ℕ) (except : List ℕ) (n : ℕ) → LivesAt rows p except n → n < f.bound
+      small p except n h =
+          subst (λ b. n < b) (sym bound) (live_small m old is formed ((exact.exact p n).0 h.live) (ending_drop p m.code))
+
+      abbrev Fits : place.Place → Type 0
+      Fits = IsPlace (length (contents f.places)) f.bound
+
+      fits_instr : (k : ℕ) (a : The k) → Fits a.node
+      fits_instr k a =
+          let n = a.is_node in
+          record {
+            next = subst (λ c. All (λ q. q < c) (contents (a.node).next)) same_count
+                (subst (IsWithin m old is formed) (ap (next_places m) a.is ∙ sym n.next_is) (next_within m old is formed k));
+            aside = subst (λ c. All (λ q. q < c) (contents (a.node).aside)) same_count
+                (subst (IsWithin m old is formed) (ap (raise_places m) a.is ∙ sym n.aside) (aside_within m old is formed k));
+            reads = each (λ r. r < f.bound) (contents (a.node).reads)
+                (λ r c. small (place_of m a.next) (numbers (written m a.instr)) r ((n.reads r).0 c).1);
+            writes = subst (λ b. All (λ r. r < b) (contents (a.node).writes)) (sym bound)
+                (subst (All (λ r. r < old.bound)) (ap (numbers_written m) a.is ∙ sym n.writes) (writes_small m old is formed k));
+          }
+
+      fits_end : Fits last.node
+      fits_end =
+          let n = last.is_end in
+          let some : length (contents f.places) ≡ suc (length m.code) = count E N nodes in
+          record {
+            next = subst (All (λ q. q < length (contents f.places))) (sym n.next)
+                (one_more (λ q. q < length (contents f.places)) 0 [] (omega (arith, some)) (no_items (λ q. q < length (contents f.places))));
+            aside = subst (All (λ q. q < length (contents f.places))) (sym n.aside) (no_items (λ q. q < length (contents f.places)));
+            reads = each (λ r. r < f.bound) (contents (last.node).reads) (λ r c. small 0 (numbers m.params) r ((n.reads r).0 c));
+            writes = each (λ r. r < f.bound) (contents (last.node).writes) (λ r c. small 0 [] r ((n.writes r).0 c));
+          }
+
+      pub stale_formed : flows.WellFormed f
+      stale_formed = λ k d lt. by k d lt (where_is (length m.code) k)
+        where
+          by : (k : ℕ) (d : place.Place) → k < length (contents f.places) → Where (length m.code) k → Fits (slice_index_or (contents f.places) k d)
+          by k d lt (inner small) = let a = at m E N next_of aside_of f nodes k small in subst Fits (sym (a.item d)) (fits_instr k a)
+          by k d lt (final e) =
+              subst (λ k. Fits (slice_index_or (contents f.places) k d)) (sym e) (subst Fits (sym (last.item d)) fits_end)
+          by k d lt (beyond far) = let c = count E N nodes in absurd (omega (arith, lt, far, c))

@@ -1,0 +1,214 @@
+-- Places of a function and where they lead, as lists of numbers.
+use Rattle.std.proofs.Common.{◌≡◌, ℕ, zero, suc, ◌-◌, ◌<◌, ◌≤◌, Bool, true, false, ⊎_elim, List, [], ◌∷◌, map, length, drop, refl, sym, ap, ◌∙◌, subst, arith}
+use Rattle.std.proofs.lemmas.List.{length-drop}
+use Rattle.std.proofs.lemmas.List.Elements.{Contains-get_or}
+use Rattle.std.specs.List.{All, Contains}
+use Rattle.std.specs.Prelude.{slice_index_or}
+use Rattle.bs_words.specs.Contents.{contents}
+use Rattle.dataflow.specs.Flow.{Graph, graph, IsPlace}
+use Rattle.dataflow.specs.Flow as flows
+use Rattle.dataflow.specs.declared.flow.Flow as flow
+use Rattle.dataflow.specs.declared.flow.Place as place
+use Rattle.mach_ir.specs.Acts.{Target, On}
+use Rattle.mach_ir.specs.Meaning.{Nothing, Everything, destroyed_by, code_at, from_handler, tries_at}
+use Rattle.mach_ir.specs.Walks.{Among, first, later, OneOf, this, other, next_if, targets, may_raise, goes, raises, Leads, Raises, Live, read, on, aside}
+use Rattle.mach_ir.specs.declared.mach.Mark.TheVariants as mark
+use Rattle.mach_ir.specs.declared.mach.MachOp.{MachOp}
+use Rattle.mach_ir.specs.declared.mach.MachOp.TheVariants as mach
+use Rattle.mach_ir.specs.declared.reg.Reg.{Reg}
+use Rattle.mach_ir.specs.declared.mach.Instr.{Instr}
+use Rattle.mach_ir.specs.declared.mach.Mach.{Mach}
+use Rattle.mach_laws.specs.Expand.{Ending}
+use Rattle.mach_laws.specs.Graph.{place_of, numbers, handler_places, next_places, raise_places, numbers_read, numbers_written, IsFlowOf}
+use Rattle.mach_laws.proofs.Places.{ending_from_handler}
+use Rattle.mach_laws.proofs.Walking.{none_in, first_in, later_in, in_cons, ending_at, place_is, ending_drop}
+use Rattle.liveness.proofs.Bounds.{no_items}
+
+pub member : {A : Type 0} (P : A → Type 0) (xs : List A) (y : A) → All P xs → Contains xs y → P y
+member P xs y h c = subst P c.2 (h c.0 y c.1)
+
+pub each : {A : Type 0} (P : A → Type 0) (xs : List A) → ((y : A) → Contains xs y → P y) → All P xs
+each P xs h = λ k d lt. h (slice_index_or xs k d) (Contains-get_or xs k d lt)
+
+-- ---- numbers of registers
+
+pub among_of : (n : ℕ) (rs : List Reg) → Contains (numbers rs) n → Among n rs
+among_of n [] c = absurd (none_in n c)
+among_of n (r ∷ rs) c = ⊎_elim (λ e. first e) (λ d. later (among_of n rs d)) (in_cons r.number n (numbers rs) c)
+
+pub in_numbers : {n : ℕ} {rs : List Reg} → Among n rs → Contains (numbers rs) n
+in_numbers {n} (first {r = r} {rs = rs} e) = subst (Contains (r.number ∷ numbers rs)) e (first_in r.number (numbers rs))
+in_numbers {n} (later {r = r} {rs = rs} a) = later_in r.number n (numbers rs) (in_numbers a)
+
+-- ---- what destroys every colour goes on, if anywhere
+
+only_next : (b : Bool) (t : Target) → OneOf t (next_if b) → t ≡ On
+only_next true t this = refl
+only_next true t (other o) = elim o [ ]
+only_next false t o = elim o [ ]
+
+differ : Nothing ≡ Everything → ⊥
+differ e = cc
+
+pub destroys_on : (f : MachOp) (t : Target) → destroyed_by f ≡ Everything → OneOf t (targets f) → t ≡ On
+destroys_on (mach.Op f) t e o = only_next _ t o
+destroys_on (mach.Mark (mark.Exit l n)) t e o = absurd (differ e)
+destroys_on (mach.Mark (mark.If test l)) t e o = absurd (differ e)
+destroys_on (mach.Mark (mark.Else l end)) t e o = absurd (differ e)
+destroys_on (mach.Mark (mark.Switch labels)) t e o = absurd (differ e)
+destroys_on (mach.Mark (mark.Case indexes l end)) t e o = absurd (differ e)
+destroys_on (mach.Mark mark.Catch) t e o = absurd (differ e)
+destroys_on (mach.Mark (mark.With l end)) t e o = absurd (differ e)
+destroys_on (mach.Mark (mark.Try l)) t e o = absurd (differ e)
+destroys_on (mach.Mark (mark.Leave l end)) t e o = absurd (differ e)
+destroys_on (mach.Mark (mark.Handler l)) t e o = only_next true t o
+destroys_on (mach.Mark (mark.End l)) t e o = absurd (differ e)
+
+module _ (m : Mach) where
+  pub place_back : (p : ℕ) (rest : List Instr) → p ≤ length m.code → drop p m.code ≡ rest → place_of m rest ≡ p
+  place_back p rest le e =
+      let long : length (drop p m.code) ≡ length m.code - p = length-drop p m.code in
+      let same : length (drop p m.code) ≡ length rest = ap length e in
+      omega (arith, le, long, same)
+
+  pub place_within : (rest : List Instr) → place_of m rest ≤ length m.code
+  place_within rest = by (length m.code) (length rest)
+    where
+      by : (a b : ℕ) → a - b ≤ a
+      by a b = omega arith
+
+  pub ending_place : (p : ℕ) {rest : List Instr} → drop p m.code ≡ rest → Ending rest m.code
+  ending_place p e = subst (λ rest. Ending rest m.code) e (ending_drop p m.code)
+
+  pub target_of : (next : List Instr) (ts : List Target) (q : ℕ) → Contains (map (λ t. place_of m (code_at m.code next t)) ts) q →
+      (t : Target) × OneOf t ts × (place_of m (code_at m.code next t) ≡ q)
+  target_of next [] q c = absurd (none_in q c)
+  target_of next (t ∷ ts) q c =
+      ⊎_elim (λ e. (t, this, e)) (λ d. let g = target_of next ts q d in (g.0, other g.1, g.2))
+      (in_cons (place_of m (code_at m.code next t)) q (map (λ t. place_of m (code_at m.code next t)) ts) c)
+
+  pub in_targets : (next : List Instr) {t : Target} {ts : List Target} → OneOf t ts →
+      Contains (map (λ t. place_of m (code_at m.code next t)) ts) (place_of m (code_at m.code next t))
+  in_targets next {t} (this {ts = ts}) = first_in (place_of m (code_at m.code next t)) _
+  in_targets next {t} (other {u = u} {ts = ts} o) =
+      later_in (place_of m (code_at m.code next u)) (place_of m (code_at m.code next t)) _ (in_targets next o)
+
+  handler_of : (b : Bool) (tries : List ℕ) (q : ℕ) → Contains (handler_places m b tries) q →
+      (l : ℕ) × (others : List ℕ) × (b ≡ true) × (tries ≡ l ∷ others) × (place_of m (from_handler l m.code) ≡ q)
+  handler_of false tries q c = absurd (none_in q c)
+  handler_of true [] q c = absurd (none_in q c)
+  handler_of true (l ∷ tries) q c =
+      ⊎_elim (λ e. (l, tries, refl, refl, e)) (λ d. absurd (none_in q d))
+      (in_cons (place_of m (from_handler l m.code)) q [] c)
+
+  in_handlers : (b : Bool) (tries : List ℕ) (l : ℕ) (others : List ℕ) → b ≡ true → tries ≡ l ∷ others →
+      Contains (handler_places m b tries) (place_of m (from_handler l m.code))
+  in_handlers b tries l others e h =
+      subst (λ b. Contains (handler_places m b tries) (place_of m (from_handler l m.code))) (sym e)
+      (subst (λ ts. Contains (handler_places m true ts) (place_of m (from_handler l m.code))) (sym h)
+      (first_in (place_of m (from_handler l m.code)) []))
+
+  -- ---- steps
+
+  -- a step leads from a place to another
+  pub record Steps (o q : ℕ) : Type 0 where
+    pub instr : Instr
+    pub next : List Instr
+    pub is : drop o m.code ≡ instr ∷ next
+    pub target : Target
+    pub one : OneOf target (targets instr.op)
+    pub to : drop q m.code ≡ code_at m.code next target
+    pub lands : q ≤ length m.code
+
+  pub steps_of : (o q : ℕ) (rest : List Instr) → drop o m.code ≡ rest → Contains (next_places m rest) q → Steps o q
+  steps_of o q [] e c = absurd (none_in q c)
+  steps_of o q (i ∷ next) e c =
+      let t = target_of next (targets i.op) q c in
+      record {
+        instr = i;
+        next = next;
+        is = e;
+        target = t.0;
+        one = t.1;
+        to = sym (ap (λ k. drop k m.code) t.2) ∙ place_is m (ending_at t.0 (ending_place o e));
+        lands = subst (λ q. q ≤ length m.code) t.2 (place_within (code_at m.code next t.0));
+      }
+
+  pub steps_to : {i : Instr} {next to : List Instr} → Leads m i next to → Contains (next_places m (i ∷ next)) (place_of m to)
+  steps_to {i} {next} (goes t o) = in_targets next o
+
+  pub record Raised (o q : ℕ) : Type 0 where
+    pub instr : Instr
+    pub next : List Instr
+    pub is : drop o m.code ≡ instr ∷ next
+    pub to : List Instr
+    pub lands_at : drop q m.code ≡ to
+    pub raise : Raises m instr next to
+    pub lands : q ≤ length m.code
+
+  pub raised_of : (o q : ℕ) (rest : List Instr) → drop o m.code ≡ rest → Contains (raise_places m rest) q → Raised o q
+  raised_of o q [] e c = absurd (none_in q c)
+  raised_of o q (i ∷ next) e c =
+      let h = handler_of (may_raise i.op) (tries_at (i ∷ next)) q c in
+      record {
+        instr = i;
+        next = next;
+        is = e;
+        to = from_handler h.0 m.code;
+        lands_at = sym (ap (λ k. drop k m.code) h.4) ∙ place_is m (ending_from_handler h.0 m.code);
+        raise = raises h.2 h.3;
+        lands = subst (λ q. q ≤ length m.code) h.4 (place_within (from_handler h.0 m.code));
+      }
+
+  pub raises_to : {i : Instr} {next to : List Instr} → Raises m i next to → Contains (raise_places m (i ∷ next)) (place_of m to)
+  raises_to {i} {next} (raises {l = l} {tries = tries} b e) = in_handlers (may_raise i.op) (tries_at (i ∷ next)) l tries b e
+
+  pub leads_ending : {i : Instr} {next to : List Instr} → Ending (i ∷ next) m.code → Leads m i next to → Ending to m.code
+  leads_ending e (goes t o) = ending_at t e
+
+  pub raise_ending : {i : Instr} {next to : List Instr} → Raises m i next to → Ending to m.code
+  raise_ending (raises {l = l} b e) = ending_from_handler l m.code
+
+  -- ---- the graph of liveness
+
+  module _ (f : flow.Flow) (is : IsFlowOf m f) (formed : flows.WellFormed f) where
+    abbrev pub IsSmall : List ℕ → Type 0
+    IsSmall ns = All (λ n. n < f.bound) ns
+
+    abbrev pub IsWithin : List ℕ → Type 0
+    IsWithin qs = All (λ q. q < length (contents f.places)) qs
+
+    of_part : (P : List ℕ → Type 0) (part : place.Place → List ℕ) → P [] →
+        ((x : place.Place) → IsPlace (length (contents f.places)) f.bound x → P (part x)) → (xs : List place.Place) →
+        All (IsPlace (length (contents f.places)) f.bound) xs → (p : ℕ) → P (slice_index_or (map part xs) p [])
+    of_part P part none h [] a p = none
+    of_part P part none h (x ∷ xs) a zero = h x (a 0 x (omega arith))
+    of_part P part none h (x ∷ xs) a (suc p) = of_part P part none h xs (λ k d lt. a (suc k) d (omega (arith, lt))) p
+
+    pub next_within : (p : ℕ) → IsWithin (next_places m (drop p m.code))
+    next_within p =
+        subst IsWithin (is.next p)
+        (of_part IsWithin (λ x. contents x.next) (no_items (λ q. q < length (contents f.places))) (λ x h. h.next) (contents f.places) formed p)
+
+    pub aside_within : (p : ℕ) → IsWithin (raise_places m (drop p m.code))
+    aside_within p =
+        subst IsWithin (is.aside p)
+        (of_part IsWithin (λ x. contents x.aside) (no_items (λ q. q < length (contents f.places))) (λ x h. h.aside) (contents f.places) formed p)
+
+    pub reads_small : (p : ℕ) → IsSmall (numbers_read (drop p m.code))
+    reads_small p =
+        subst IsSmall (is.reads p)
+        (of_part IsSmall (λ x. contents x.reads) (no_items (λ n. n < f.bound)) (λ x h. h.reads) (contents f.places) formed p)
+
+    pub writes_small : (p : ℕ) → IsSmall (numbers_written m (drop p m.code))
+    writes_small p =
+        subst IsSmall (is.writes p)
+        (of_part IsSmall (λ x. contents x.writes) (no_items (λ n. n < f.bound)) (λ x h. h.writes) (contents f.places) formed p)
+
+    -- what is live is below the bound
+    pub live_small : {n : ℕ} {rest : List Instr} → Live m n rest → Ending rest m.code → n < f.bound
+    live_small {n} (read {i = i} {next = next} a) e =
+        let p = place_of m (i ∷ next) in
+        member (λ n. n < f.bound) (numbers i.args) n (subst (λ rest. IsSmall (numbers_read rest)) (place_is m e) (reads_small p)) (in_numbers a)
+    live_small (on w l v) e = live_small v (leads_ending e l)
+    live_small (aside r v) e = live_small v (raise_ending r)

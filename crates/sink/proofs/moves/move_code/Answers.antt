@@ -1,0 +1,11 @@
+use Rattle.std.proofs.Common.{◌≡◌, ◌∷◌, ◌++◌, [], length, arith}
+use Rattle.sink.proofs.Copying.{copying_more}
+use Rattle.sink.proofs.moves.move_code.Goals as goal
+
+pub loop-instr-preserved : goal.loop-instr-preserved
+loop-instr-preserved c =
+    let popped : c.loop-instr.items.items ≡ c.pop.new.self.items ++ c.in-Some.instr ∷ [] = c.in-Some.ensures.items in
+    let count = c.len-place.ensures in
+    let place : c.len-place.result ≡ length c.pop.new.self.items = omega (arith, count) in
+    copying_more c.args.moves.now c.args.code c.loop-instr.items.items c.pop.new.self.items c.in-Some.instr c.len-place.result c.loop-instr.made
+    c.push_instr.new.made popped place c.loop-instr.invariant c.in_ok-push_instr.ensures

@@ -1,0 +1,66 @@
+-- Which registers are moved to themselves, and where.
+use Rattle.std.specs.Prelude.{◌≡◌, ◌<◌, Bool, true, false, cond, not, ◌&&◌, ◌||◌, List, [], ◌∷◌, ◌++◌, Option, Some, None, option_to_list, slice_get, AllPairs, Contains}
+use Rattle.bs_bits.specs.Set.{has}
+use Rattle.bs_words.specs.declared.types.Loc.{Loc}
+use Rattle.bs_words.specs.declared.types.Loc.TheVariants as loc
+use Rattle.dataflow.specs.Rows.{row}
+use Rattle.mach_ir.specs.declared.reg.Reg.{Reg}
+use Rattle.mach_ir.specs.declared.mach.Instr.{Instr}
+use Rattle.mach_ir.specs.declared.mach.Mach.{Mach}
+use Rattle.mach_ir.specs.declared.mach.MachOp.{MachOp}
+use Rattle.mach_ir.specs.declared.mach.MachOp.TheVariants as mach
+use Rattle.mach_laws.specs.Graph.{place_of}
+use Rattle.sink_rules.specs.Chosen.{IsSunkAt}
+use Rattle.sink.specs.Graphs.{held}
+use Rattle.sink.specs.declared.chosen.Move.{Move}
+use Rattle.sink.specs.declared.sights.Sight.{Sight}
+use Rattle.sink.specs.declared.sights.Sight.TheVariants as sight
+
+abbrev pub is_open : Loc → Bool
+is_open loc.Unset = true
+is_open (loc.Machine n) = false
+is_open (loc.Slot n) = false
+
+-- a call that returns
+abbrev pub is_call : MachOp → Bool
+is_call (mach.Op f) = held (mach.Op f)
+is_call (mach.Mark f) = false
+
+abbrev pub some_call : Option Instr → Bool
+some_call None = false
+some_call (Some i) = is_call i.op
+
+-- whether code has a call
+abbrev pub has_call : List Instr → Bool
+has_call [] = false
+has_call (i ∷ is) = is_call i.op || has_call is
+
+-- the move of a register before the one place where it was seen
+abbrev pub move_at : List Instr → List (List Bool) → Option Reg → Sight → Option Move
+move_at code stale None s = None
+move_at code stale (Some r) sight.Unseen = None
+move_at code stale (Some r) sight.Often = None
+move_at code stale (Some r) (sight.Once p) =
+    cond (is_open r.loc && (some_call (slice_get code p) && not (has (row stale p) r.number)))
+    (Some (record { reg = r; place = p })) None
+
+-- those of all numbers
+abbrev pub all_moves : List Instr → List (List Bool) → List (Option Reg) → List Sight → List Move
+all_moves code stale [] ss = []
+all_moves code stale (r ∷ rs) [] = []
+all_moves code stale (r ∷ rs) (s ∷ ss) =
+    option_to_list (move_at code stale r s) ++ all_moves code stale rs ss
+
+-- a move is one of a register that is sunk there
+pub record IsMove (m : Mach) (move : Move) : Type 0 where
+  pub instr : Instr
+  pub next : List Instr
+  pub sunk_at : IsSunkAt m instr next move.reg
+  pub place : move.place ≡ place_of m (instr ∷ next)
+
+-- these are all moves, by rising numbers
+pub record AreMoves (m : Mach) (moves : List Move) : Type 0 where
+  pub each : (move : Move) → Contains moves move → IsMove m move
+  pub all : (i : Instr) (next : List Instr) (r : Reg) → IsSunkAt m i next r →
+      Contains moves (record { reg = r; place = place_of m (i ∷ next) })
+  pub rising : AllPairs (λ (x y : Move). x.reg.number < y.reg.number) moves

@@ -1,0 +1,81 @@
+//! Which registers are moved to themselves, and where.
+ghost use Rattle.std.specs.Prelude.{◌≡◌, length, IfOk};
+ghost use Rattle.sink.specs.Chosen.{is_open, is_call, move_at, all_moves};
+
+use crate::graphs::is_held;
+use crate::sights::Sight;
+use bs_words::Loc;
+use dataflow::Rows;
+use mach_ir::{Instr, MachOp, Reg};
+use std::alloc::{AllocError, Global};
+
+/// A register is moved to itself before the instruction at a place.
+#[derive(Clone, Copy, Debug)]
+pub struct Move {
+    pub reg: Reg,
+    pub place: usize,
+}
+
+fn is_open(place: Loc) -> bool
+    ensures { result ≡ is_open place }
+{
+    match place {
+        Loc::Unset => true,
+        Loc::Machine(_) => false,
+        Loc::Slot(_) => false,
+    }
+}
+
+/// Whether it is a call that returns.
+pub fn is_call(op: &MachOp) -> bool
+    ensures { result ≡ is_call op.now }
+{
+    match op {
+        MachOp::Op(_) => is_held(op),
+        MachOp::Mark(_) => false,
+    }
+}
+
+/// The move of the register before the one place where it was seen: it is open, a call stands there, and it
+/// is not stale there.
+fn move_at(code: &[Instr], stale: &Rows, reg: Option<Reg>, sight: Sight) -> Option<Move>
+    ensures { result ≡ move_at code.now stale.now.rows.items reg sight }
+{
+    let reg = reg?;
+    match sight {
+        Sight::Unseen => None,
+        Sight::Once(place) => {
+            let calls = match code.get(place) {
+                None => false,
+                Some(instr) => is_call(&instr.op),
+            };
+            if is_open(reg.loc) && calls && !stale.contains(place, reg.number) {
+                Some(Move { reg, place })
+            } else {
+                None
+            }
+        }
+        Sight::Often => None,
+    }
+}
+
+/// The moves of all numbers, by their order.
+pub fn choose(
+    alloc: Global,
+    code: &[Instr],
+    stale: &Rows,
+    registers: &[Option<Reg>],
+    sights: &[Sight],
+) -> Result<Vec<Move>, AllocError>
+    requires { length registers.now ≡ length sights.now }
+    ensures { IfOk result (λ moves.
+        moves.items ≡ all_moves code.now stale.now.rows.items registers.now sights.now) }
+{
+    let mut moves = Vec::new(alloc);
+    for number in 0..registers.len() {
+        if let Some(found) = move_at(code, stale, registers[number], sights[number]) {
+            moves.push(found)?;
+        }
+    }
+    Ok(moves)
+}

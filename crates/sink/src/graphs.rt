@@ -1,0 +1,295 @@
+//! The graphs over which is solved what is stale and what is fresh.
+ghost use Rattle.std.specs.Prelude.{◌≡◌, ◌↔◌, ◌<◌, ◌∷◌, [], suc, length, IsTrue, IfOk};
+ghost use Rattle.std.specs.List.{Contains};
+ghost use Rattle.bs_words.specs.Contents.{contents};
+ghost use Rattle.mach_laws.specs.Graph.{numbers, IsFlowOf};
+ghost use Rattle.sink.specs.Graphs.{held, AreLiving, AreOver, IsEntry, IsStalePlace, AreStaleNodes, AreTurned, IsTurned, IsBare};
+
+use bs_words::List;
+use dataflow::{Flow, Place};
+use liveness::Backward;
+use mach_ir::{Calling, LiveMap, Mach, MachOp, Mark, Op, Reg};
+use std::alloc::{AllocError, Global};
+
+fn call_is_held(calling: &Calling) -> bool
+    ensures { result ≡ held (MachOp.Op (Op.Calling calling.now)) }
+{
+    match calling {
+        Calling::Call { .. } => true,
+        Calling::TailCall { .. } => false,
+        Calling::External { .. } => false,
+    }
+}
+
+fn op_is_held(op: &Op) -> bool
+    ensures { result ≡ held (MachOp.Op op.now) }
+{
+    match op {
+        Op::Pure(_) => false,
+        Op::Access(_) => false,
+        Op::Calling(calling) => call_is_held(calling),
+        Op::Leaving(_) => false,
+    }
+}
+
+fn mark_is_held(mark: &Mark) -> bool
+    ensures { result ≡ held (MachOp.Mark mark.now) }
+{
+    match mark {
+        Mark::Exit { label: _, tries: _ } => false,
+        Mark::If {
+            test: _,
+            otherwise: _,
+        } => false,
+        Mark::Else { label: _, end: _ } => false,
+        Mark::Switch(_) => false,
+        Mark::Case {
+            indexes: _,
+            label: _,
+            end: _,
+        } => false,
+        Mark::Catch => false,
+        Mark::With { label: _, end: _ } => false,
+        Mark::Try { handler: _ } => false,
+        Mark::Leave { handler: _, end: _ } => false,
+        Mark::Handler { label: _ } => true,
+        Mark::End { label: _ } => false,
+    }
+}
+
+/// Whether a register may live over it and is to stand in a slot then: a call that returns, or the entry
+/// of a handler.
+pub fn is_held(op: &MachOp) -> bool
+    ensures { result ≡ held op.now }
+{
+    match op {
+        MachOp::Op(op) => op_is_held(op),
+        MachOp::Mark(mark) => mark_is_held(mark),
+    }
+}
+
+/// The numbers of registers, in their order.
+fn numbers_of(alloc: Global, regs: &[Reg]) -> Result<Vec<u32>, AllocError>
+    ensures { IfOk result (λ found. found.items ≡ numbers regs.now) }
+{
+    let mut found = Vec::with_capacity(alloc, regs.len())?;
+    for reg in regs {
+        found.push(reg.number)?;
+    }
+    Ok(found)
+}
+
+/// Whether the number is one of these.
+fn is_among(number: u32, numbers: &[u32]) -> bool
+    ensures { IsTrue result ↔ Contains numbers.now number }
+{
+    numbers.contains(&number)
+}
+
+/// The numbers that are live at the place, these excepted.
+fn living(
+    alloc: Global,
+    live: &LiveMap,
+    place: usize,
+    except: &[u32],
+) -> Result<Vec<u32>, AllocError>
+    requires { place < length live.now.before.rows.items }
+    ensures { IfOk result (λ found.
+        AreLiving live.now.before.rows.items place except.now found.items) }
+{
+    let row = live.before.at(place);
+    let bound = row.size();
+    let mut found = Vec::new(alloc);
+    let mut from = 0;
+    while from < bound {
+        match row.next(from) {
+            None => from = bound,
+            Some(number) => {
+                if !is_among(number, except) {
+                    found.push(number)?;
+                }
+                from = number + 1;
+            }
+        }
+    }
+    Ok(found)
+}
+
+/// The numbers that live over the instruction before the place `after`, if it is held.
+fn living_over(
+    alloc: Global,
+    live: &LiveMap,
+    after: usize,
+    op: &MachOp,
+    written: &[u32],
+) -> Result<Vec<u32>, AllocError>
+    requires { after < length live.now.before.rows.items }
+    ensures { IfOk result (λ found.
+        AreOver live.now.before.rows.items after op.now written.now found.items) }
+{
+    if is_held(op) {
+        let found = living(alloc, live, after, written)?;
+        Ok(found)
+    } else {
+        Ok(Vec::new(alloc))
+    }
+}
+
+/// A place of the graph of liveness, before the place `after`, as one of the graph of what is stale: it
+/// generates what lives over it, and kills what it writes.
+fn stale_place(
+    alloc: Global,
+    live: &LiveMap,
+    after: usize,
+    op: &MachOp,
+    place: Place,
+) -> Result<Place, AllocError>
+    requires { after < length live.now.before.rows.items }
+    ensures { IfOk result (IsStalePlace live.now.before.rows.items after op.now place) }
+{
+    let Place {
+        next,
+        aside,
+        reads: _,
+        writes,
+    } = place;
+    let over = living_over(alloc, live, after, op, writes.as_slice())?;
+    Ok(Place {
+        next,
+        aside,
+        reads: List::from_vec(over),
+        writes,
+    })
+}
+
+fn just(alloc: Global, number: u32) -> Result<Vec<u32>, AllocError>
+    ensures { IfOk result (λ numbers. numbers.items ≡ number ∷ []) }
+{
+    let mut numbers = Vec::new(alloc);
+    numbers.push(number)?;
+    Ok(numbers)
+}
+
+/// The place after the last instruction stands for the entry: what the entry leaves unwritten comes from it
+/// to the first place. Nothing else passes it.
+fn entry_place(alloc: Global, mach: &Mach, live: &LiveMap) -> Result<Place, AllocError>
+    requires { 0 < length live.now.before.rows.items }
+    ensures { IfOk result (IsEntry mach.now live.now.before.rows.items) }
+{
+    let first = just(alloc, 0)?;
+    let params = numbers_of(alloc, mach.params.as_slice())?;
+    let unwritten = living(alloc, live, 0, &params)?;
+    let all = living(alloc, live, 0, &[])?;
+    Ok(Place {
+        next: List::from_vec(first),
+        aside: List::new(alloc),
+        reads: List::from_vec(unwritten),
+        writes: List::from_vec(all),
+    })
+}
+
+/// The places of the graph of what is stale, made of those of the graph of liveness.
+fn stale_places(
+    alloc: Global,
+    mach: &Mach,
+    live: &LiveMap,
+    flow: Flow,
+) -> Result<Vec<Place>, AllocError>
+    requires flow { IsFlowOf mach.now flow }
+    requires live { length live.now.before.rows.items ≡ suc (length mach.now.code) }
+    ensures { IfOk result (λ nodes.
+        AreStaleNodes mach.now live.now.before.rows.items mach.now.code nodes.items) }
+{
+    let code = mach.code.as_slice();
+    let Flow { places, bound: _ } = flow;
+    let mut left = places.into_vec();
+    let mut nodes = Backward::with_capacity(alloc, left.len())?;
+    nodes.push(entry_place(alloc, mach, live)?)?;
+    let _last = left.pop();
+    while let Some(place) = left.pop() {
+        let at = left.len();
+        let node = stale_place(alloc, live, at + 1, &code[at].op, place)?;
+        nodes.push(node)?;
+    }
+    Ok(nodes.into_vec())
+}
+
+/// The graph of what is stale.
+pub fn stale_flow(
+    alloc: Global,
+    mach: &Mach,
+    live: &LiveMap,
+    flow: Flow,
+) -> Result<Flow, AllocError>
+    requires flow { IsFlowOf mach.now flow }
+    requires live { length live.now.before.rows.items ≡ suc (length mach.now.code) }
+    ensures bound { IfOk result (λ made. made.bound ≡ flow.bound) }
+    ensures nodes { IfOk result (λ made.
+        AreStaleNodes mach.now live.now.before.rows.items mach.now.code (contents made.places)) }
+{
+    let bound = flow.bound;
+    let nodes = stale_places(alloc, mach, live, flow)?;
+    Ok(Flow {
+        places: List::from_vec(nodes),
+        bound,
+    })
+}
+
+/// A place that leads nowhere, reads nothing and writes nothing: the one after the last instruction.
+fn bare_place(alloc: Global) -> Place
+    ensures { IsBare result }
+{
+    Place {
+        next: List::new(alloc),
+        aside: List::new(alloc),
+        reads: List::new(alloc),
+        writes: List::new(alloc),
+    }
+}
+
+fn turned(place: Place) -> Place
+    ensures { IsTurned place result }
+{
+    let Place {
+        next,
+        aside,
+        reads,
+        writes,
+    } = place;
+    Place {
+        next,
+        aside,
+        reads: writes,
+        writes: reads,
+    }
+}
+
+/// The places with what they generate and what they kill exchanged, and a bare one for the last.
+fn turned_places(alloc: Global, places: Vec<Place>) -> Result<Vec<Place>, AllocError>
+    requires { 0 < length places.items }
+    ensures { IfOk result (λ made. AreTurned places.items made.items) }
+{
+    let mut left = places;
+    let mut made = Backward::with_capacity(alloc, left.len())?;
+    made.push(bare_place(alloc))?;
+    let _last = left.pop();
+    while let Some(place) = left.pop() {
+        made.push(turned(place))?;
+    }
+    Ok(made.into_vec())
+}
+
+/// The graph of what is fresh: a place generates what it writes, and kills what lives over it.
+pub fn fresh_flow(alloc: Global, stale: Flow) -> Result<Flow, AllocError>
+    requires { 0 < length (contents stale.places) }
+    ensures bound { IfOk result (λ made. made.bound ≡ stale.bound) }
+    ensures places { IfOk result (λ made.
+        AreTurned (contents stale.places) (contents made.places)) }
+{
+    let Flow { places, bound } = stale;
+    let made = turned_places(alloc, places.into_vec())?;
+    Ok(Flow {
+        places: List::from_vec(made),
+        bound,
+    })
+}

@@ -1,0 +1,85 @@
+//! The function with its moves.
+ghost use Rattle.std.specs.Prelude.{◌≡◌, ◌++◌, ◌∷◌, [], length, IfOk};
+ghost use Rattle.sink_rules.specs.Sunk.{to_itself};
+ghost use Rattle.sink.specs.Moves.{moves_before, instr_at, code_at};
+
+use crate::chosen::{Move, is_call};
+use liveness::Backward;
+use mach_ir::{CopyKind, Instr, MachOp, Op, Pure, Reg, Seq};
+use std::alloc::{AllocError, Global};
+
+fn just(alloc: Global, reg: Reg) -> Result<Seq<Reg>, AllocError>
+    ensures { IfOk result (λ regs. regs ≡ reg ∷ []) }
+{
+    let mut regs = Vec::new(alloc);
+    regs.push(reg)?;
+    Ok(Seq::from_vec(regs))
+}
+
+fn to_itself(alloc: Global, reg: Reg) -> Result<Instr, AllocError>
+    ensures { IfOk result (λ instr. instr ≡ to_itself reg) }
+{
+    let args = just(alloc, reg)?;
+    let results = just(alloc, reg)?;
+    Ok(Instr {
+        op: MachOp::Op(Op::Pure(Pure::Copy(CopyKind::Move))),
+        args,
+        results,
+    })
+}
+
+/// The moves before the place.
+fn moves_before(alloc: Global, moves: &[Move], place: usize) -> Result<Vec<Instr>, AllocError>
+    ensures { IfOk result (λ made. made.items ≡ moves_before moves.now place) }
+{
+    let mut made = Vec::new(alloc);
+    for moved in moves {
+        if moved.place == place {
+            made.push(to_itself(alloc, moved.reg)?)?;
+        }
+    }
+    Ok(made)
+}
+
+/// Puts instructions before the others.
+fn push_all(made: &mut Backward<Instr>, instrs: Vec<Instr>) -> Result<(), AllocError>
+    ensures { IfOk result (λ _. made.new ≡ instrs.items ++ made.old) }
+{
+    let mut left = instrs;
+    while let Some(instr) = left.pop() {
+        made.push(instr)?;
+    }
+    Ok(())
+}
+
+/// Puts the instruction at the place before the others, with its moves.
+fn push_instr(
+    alloc: Global,
+    moves: &[Move],
+    place: usize,
+    instr: Instr,
+    made: &mut Backward<Instr>,
+) -> Result<(), AllocError>
+    ensures { IfOk result (λ _. made.new ≡ instr_at moves.now place instr ++ made.old) }
+{
+    let calls = is_call(&instr.op);
+    made.push(instr)?;
+    if calls {
+        let before = moves_before(alloc, moves, place)?;
+        push_all(made, before)?;
+    }
+    Ok(())
+}
+
+/// The code with its moves.
+pub fn move_code(alloc: Global, moves: &[Move], code: Seq<Instr>) -> Result<Seq<Instr>, AllocError>
+    ensures { IfOk result (λ made. made ≡ code_at moves.now (length code) code) }
+{
+    let mut items = code.into_vec();
+    let mut made = Backward::with_capacity(alloc, items.len())?;
+    while let Some(instr) = items.pop() {
+        let place = items.len();
+        push_instr(alloc, moves, place, instr, &mut made)?;
+    }
+    Ok(Seq::from_vec(made.into_vec()))
+}

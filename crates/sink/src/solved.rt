@@ -1,0 +1,37 @@
+//! What is fresh and what is stale before each place.
+ghost use Rattle.std.specs.Prelude.{IfOk};
+ghost use Rattle.dataflow.specs.Flow.{WellFormed};
+ghost use Rattle.mach_ir.specs.Graph.{IsLiveMap};
+ghost use Rattle.mach_laws.specs.Graph.{IsFlowOf};
+ghost use Rattle.sink.specs.Tables.{IsSolved};
+
+use crate::graphs::{fresh_flow, stale_flow};
+use dataflow::{Flow, Rows, reaching};
+use mach_ir::{LiveMap, Mach};
+use std::alloc::{AllocError, Global};
+
+/// What is fresh and what is stale before each place, and the graph of what is fresh.
+#[derive(Drop)]
+pub struct Solved {
+    pub graph: Flow,
+    pub fresh: Rows,
+    pub stale: Rows,
+}
+
+/// Solves both over the flow graph of liveness, which is used up: its lists are those of the new graphs.
+pub fn solve(alloc: Global, mach: &Mach, live: &LiveMap, flow: Flow) -> Result<Solved, AllocError>
+    requires flow { IsFlowOf mach.now flow }
+    requires formed { WellFormed flow }
+    requires live { IsLiveMap mach.now live.now }
+    ensures { IfOk result (IsSolved mach.now live.now flow.bound) }
+{
+    let graph = stale_flow(alloc, mach, live, flow)?;
+    let stale = reaching(alloc, &graph)?;
+    let graph = fresh_flow(alloc, graph)?;
+    let fresh = reaching(alloc, &graph)?;
+    Ok(Solved {
+        graph,
+        fresh,
+        stale,
+    })
+}
