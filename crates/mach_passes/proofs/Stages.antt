@@ -4,6 +4,7 @@ use Rattle.combine_rules.proofs.Formed.{combined_formed}
 use Rattle.combine_rules.specs.Combined.{combined}
 use Rattle.copy_rules.specs.Propagated.{IsPropagated}
 use Rattle.dead_rules.specs.Dropped.{IsDropped}
+use Rattle.hoist_rules.proofs.Chosen.{constants_first_kept}
 use Rattle.hoist_rules.specs.Chosen.{HasConstantsFirst}
 use Rattle.mach_ir.specs.Formed.{WellFormed}
 use Rattle.mach_ir.specs.Placed.{WellPlaced}
@@ -30,7 +31,7 @@ pub has_no_repeats : (m start once q : Mach) → start ≡ combined m → IsComm
 has_no_repeats m start once q made first second =
     record { once = once; first = subst (λ (s : Mach). IsCommoned s once) made first; second = second }
 
-cleaned_formed : (m q : Mach) → IsPreparable m → IsCleaned m q → WellFormed q
+pub cleaned_formed : (m q : Mach) → IsPreparable m → IsCleaned m q → WellFormed q
 cleaned_formed m q is made = (small_stage m q is made).formed
 
 pub is_cleaned : (m repeated q : Mach) → HasNoRepeats m repeated → IsDropped repeated q → IsCleaned m q
@@ -40,6 +41,9 @@ pub split_prepared : (m s q : Mach) → IsPreparable m → HasSlots m s → (Wel
 split_prepared m s q is slots made =
     let k = slots_stage m s is slots in
     record { spilled = s; has_slots = slots; is_split = made k.formed k.placed }
+
+pub hoisted_formed : (m dropped q : Mach) → IsPreparable m → IsCleaned m dropped → HasConstantsFirst dropped q → WellFormed q
+hoisted_formed m dropped q is made first = (constants_first_kept dropped q (cleaned_formed m dropped is made) first).formed
 
 pub is_readied : (m dropped hoisted q : Mach) → IsCleaned m dropped → HasConstantsFirst dropped hoisted → IsSunk hoisted q → IsReadied m q
 is_readied m dropped hoisted q made first sunk =

@@ -484,8 +484,8 @@ pub one_readied : (m q k : Mach) → IsReadied m q → IsReadied m k → q ≡ k
 one_readied m q k a b =
     let cleaned = one_cleaned m a.dropped b.dropped a.is_cleaned b.is_cleaned in
     let hoisted =
-        one_constants_first b.dropped a.hoisted b.hoisted (subst (λ (d : Mach). HasConstantsFirst d a.hoisted) cleaned a.has_constants_first)
-        b.has_constants_first in
+    one_constants_first b.dropped a.hoisted b.hoisted (subst (λ (d : Mach). HasConstantsFirst d a.hoisted) cleaned a.has_constants_first)
+    b.has_constants_first in
     one_sunk b.hoisted q k (subst (λ (d : Mach). IsSunk d q) hoisted a.is_sunk) b.is_sunk
 
 pub one_with_slots : (m q k : Mach) → HasSlots m q → HasSlots m k → q ≡ k

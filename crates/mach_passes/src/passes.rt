@@ -66,8 +66,8 @@ pub fn with_slots(alloc: Global, mach: Mach) -> Result<Mach, AllocError>
     requires { IsPreparable mach }
     ensures { IfOk result (HasSlots mach) }
 {
-    let readied = readied(alloc, mach)?;
-    spill(alloc, readied)
+    let ready = readied(alloc, mach)?;
+    spill(alloc, ready)
 }
 
 /// What the passes before register allocation make of a function: its allocations are combined,
