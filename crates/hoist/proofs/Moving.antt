@@ -24,7 +24,7 @@ use Rattle.split_rules.proofs.Text.{results_in}
 use Rattle.hoist_rules.specs.Hoisted.{makes, FitsAlways, an_int, an_odd_val, MayMove}
 use Rattle.hoist_rules.specs.Chosen.{IsLoopRound, IsWide, IsMoved}
 use Rattle.hoist_rules.proofs.Moved.{left_among, shorter}
-use Rattle.hoist.specs.Constants.{is_wide, fits_always, is_open, constant_of, can_hold, is_none, holds_wide, makes_wide}
+use Rattle.hoist.specs.Constants.{is_wide, fits_always, is_open, constant_of, can_hold, are_none, holds_wide, makes_wide}
 use Rattle.hoist.specs.Loops.{label_of, exit_of, EndsFrom, IsFirstCall, IsCalmWide}
 use Rattle.hoist.specs.Written.{noted, times, is_once}
 use Rattle.hoist.proofs.Reaching.{same_item, both}
@@ -166,9 +166,9 @@ of_parts f args results = record { op = f; args = args; results = results }
 
 constant_told : (w : ℕ) (args results : List Reg) → holds_wide (Some w) args results ≡ true →
     MakesWide (of_parts (mach.Op (op.Pure (pure.Constant w))) args results)
-constant_told w args results e = by args results (both (is_wide w) (is_none args && can_hold w results) e)
+constant_told w args results e = by args results (both (is_wide w) (are_none args && can_hold w results) e)
   where
-    by : (args results : List Reg) → (is_wide w ≡ true) × ((is_none args && can_hold w results) ≡ true) →
+    by : (args results : List Reg) → (is_wide w ≡ true) × ((are_none args && can_hold w results) ≡ true) →
         MakesWide (of_parts (mach.Op (op.Pure (pure.Constant w))) args results)
     by [] [] t = absurd (true≢false (sym t.1))
     by [] (r ∷ []) t =

@@ -42,13 +42,13 @@ can_hold w [] = false
 can_hold w (r ∷ []) = is_open r.loc && fits_always r.comp w
 can_hold w (r ∷ q ∷ rs) = false
 
-abbrev pub is_none : List Reg → Bool
-is_none [] = true
-is_none (r ∷ rs) = false
+abbrev pub are_none : List Reg → Bool
+are_none [] = true
+are_none (r ∷ rs) = false
 
 abbrev pub holds_wide : Option ℕ → List Reg → List Reg → Bool
 holds_wide None args results = false
-holds_wide (Some w) args results = is_wide w && (is_none args && can_hold w results)
+holds_wide (Some w) args results = is_wide w && (are_none args && can_hold w results)
 
 abbrev pub makes_wide : Instr → Bool
 makes_wide i = holds_wide (constant_of i.op) i.args i.results
