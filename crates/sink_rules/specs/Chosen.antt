@@ -1,8 +1,9 @@
--- Which registers are moved to themselves before a call: those that spilling then stores there, in
--- place of each assignment before.
-use Rattle.std.specs.Prelude.{◌≡◌, ◌↔◌, ◌<◌, true, List, ◌∷◌, length, AllPairs, Contains}
+-- Which registers are moved to themselves before a call, so that spilling stores them there and at none
+-- of the assignments before.
+use Rattle.std.specs.Prelude.{◌≡◌, ◌↔◌, ◌<◌, ℕ, true, false, List, ◌∷◌, ◌++◌, length, All, AllPairs, Contains}
 use Rattle.bs_words.specs.declared.types.Loc.TheVariants as loc
-use Rattle.mach_ir.specs.Walks.{Stands, IsRegister}
+use Rattle.mach_ir.specs.Placed.{is_straight, AreStraight}
+use Rattle.mach_ir.specs.Walks.{Among, Writes, Stands, IsRegister}
 use Rattle.mach_ir.specs.declared.op.Op.{Op}
 use Rattle.mach_ir.specs.declared.reg.Reg.{Reg}
 use Rattle.mach_ir.specs.declared.mach.Instr.{Instr}
@@ -12,21 +13,39 @@ use Rattle.spill_rules.specs.Chosen.{LivesOver}
 use Rattle.sink_rules.specs.Sunk.{Plan, sunk}
 use Rattle.sink_rules.specs.Walks.{Fresh, Stale}
 
--- A register is moved to itself before a call that it lives over, where it surely was written since
--- the last call or entry of a handler, and where no other that it lives over finds it so: then
--- spilling stores it before this call alone, and on no run more often than at each of its writes.
+-- The straight run that begins with this code ends in a call, and does not write the register. It
+-- begins there: what stands right before it is none of it.
+pub record IsRunTo (m : Mach) (n : ℕ) (from : List Instr) (call : Instr) (after : List Instr) :
+    Type 0 where
+  pub run : List Instr
+  pub is : from ≡ run ++ call ∷ after
+  pub straight : AreStraight run
+  pub unwritten : All (λ (j : Instr). Writes m j n → ⊥) run
+  pub begins : (j : Instr) → Stands j from m.code → is_straight j.op ≡ false
+  -- a call, and no entry of a handler
+  pub operation : Op
+  pub is_call : call.op ≡ mach.Op operation
+
+-- A register is moved to itself at the begin of the straight run to a call that it lives over, where it
+-- surely was written since the last call or entry of a handler, if no other of these that it lives over
+-- may find it so, and no read may find it both so and not so. Then spilling stores it there alone, each
+-- time in place of the last write before, and on no run more often.
 pub record IsSunkAt (m : Mach) (i : Instr) (next : List Instr) (r : Reg) : Type 0 where
   pub register : IsRegister m r
   pub open_place : r.loc ≡ loc.Unset
-  -- a call, and no entry of a handler
-  pub call : Op
-  pub is_call : i.op ≡ mach.Op call
+  pub stands : Stands i next m.code
+  pub call : Instr
+  pub after : List Instr
+  pub run : IsRunTo m r.number (i ∷ next) call after
   pub to : List Instr
-  pub over : LivesOver m r.number i next to
-  pub unsaved : Fresh m r.number (i ∷ next)
-  pub surely : Stale m r.number (i ∷ next) → ⊥
-  pub only : (j : Instr) (others after : List Instr) → LivesOver m r.number j others after →
-      Fresh m r.number (j ∷ others) → others ≡ next
+  pub over : LivesOver m r.number call after to
+  pub unsaved : Fresh m r.number (call ∷ after)
+  pub surely : Stale m r.number (call ∷ after) → ⊥
+  pub only : (j : Instr) (others onward : List Instr) → LivesOver m r.number j others onward →
+      Fresh m r.number (j ∷ others) → others ≡ after
+  pub late : (j : Instr) (others : List Instr) → Stands j others m.code →
+      Among r.number j.args → Fresh m r.number (j ∷ others) →
+      Stale m r.number (j ∷ others) → ⊥
 
 -- some instruction of the function has this register moved before it
 pub record IsSunkSomewhere (m : Mach) (r : Reg) : Type 0 where
@@ -34,7 +53,7 @@ pub record IsSunkSomewhere (m : Mach) (r : Reg) : Type 0 where
   pub next : List Instr
   pub sunk_at : IsSunkAt m instr next r
 
--- The plan that is chosen: these registers, by rising numbers, each before its call.
+-- The plan that is chosen: these registers, by rising numbers, each before its run.
 pub record IsChosen (m : Mach) (plan : Plan) : Type 0 where
   pub registers : (r : Reg) → Contains plan.registers r ↔ IsSunkSomewhere m r
   pub rising : AllPairs (λ (r q : Reg). r.number < q.number) plan.registers
