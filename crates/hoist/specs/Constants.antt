@@ -11,7 +11,7 @@ use Rattle.mach_ir.specs.declared.mach.MachOp.{MachOp}
 use Rattle.mach_ir.specs.declared.mach.MachOp.TheVariants as mach
 use Rattle.mach_ir.specs.declared.mach.Instr.{Instr}
 
--- below the words that twelve bits give, sign extended
+-- no word that twelve bits give, sign extended
 abbrev pub is_wide : ℕ → Bool
 is_wide w = nat_le 2048 w && nat_lt w 18446744073709549568
 

@@ -6,7 +6,7 @@ ghost use Rattle.hoist.specs.Constants.{is_wide, fits_always, is_open, constant_
 use bs_words::{Comp, Loc};
 use mach_ir::{Instr, MachOp, Op, Pure, Reg};
 
-/// Whether no single instruction of the machine makes it: it does not fit twelve bits.
+/// Whether it does not fit the twelve bits of an immediate.
 fn is_wide(word: u64) -> bool
     ensures { result ≡ is_wide word }
 {

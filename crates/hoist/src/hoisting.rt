@@ -62,13 +62,14 @@ fn moved_first(alloc: Global, flags: &[bool], code: Seq<Instr>) -> Result<Seq<In
     Ok(Seq::from_vec(first))
 }
 
-/// The function in which wide constants are made at the entry, in their order, that loops without calls
-/// make anew in each turn.
+/// The function in which wide constants of loops before the first call are made at the entry, in their
+/// order.
 ///
-/// A constant is wide that does not fit twelve bits, and so takes more than one instruction of the
-/// machine. It moves where it is an int, or an odd val, in an open register that nothing else writes; and
-/// where it is made in a loop, and each loop round it ends before the first call or entry of a handler, so
-/// that it lives over none. Where nothing moves the function is handed back as it is.
+/// A constant is wide that does not fit the twelve bits of an immediate: most take two instructions of
+/// the machine or more. It moves where it is an int, or an odd val, in an open register that nothing else
+/// writes; and where it is made in a loop, and each loop round it ends before the first call or entry of a
+/// handler, so that it lives over none that it did not live over before. Where nothing moves the function
+/// is handed back as it is.
 ///
 /// The time is linear in the function. The only error is want of memory.
 pub fn hoist(alloc: Global, mach: Mach) -> Result<Mach, AllocError>

@@ -4,7 +4,7 @@ ghost use Rattle.hoist.specs.Tables.{entry};
 
 use std::alloc::{AllocError, Global};
 
-/// For each number what was put there last, 0 where nothing was. The table is as long as the greatest
+/// For each number what was put there last, 0 where nothing was. The table is one longer than the greatest
 /// number, so the numbers should be dense, as those of labels and of registers are.
 #[derive(Drop)]
 pub struct Table {

@@ -1,4 +1,4 @@
--- Which constants are made at the entry: those that loops without calls make anew in each turn.
+-- Which constants are made at the entry: wide ones in loops before the first call.
 use Rattle.std.specs.Prelude.{◌≡◌, ◌↔◌, ◌<◌, ◌≤◌, ◌+◌, ◌^◌, ℕ, Bool, true, List, ◌∷◌, length}
 use Rattle.mach_ir.specs.Formed.{LeadsTo, is_exit}
 use Rattle.mach_ir.specs.Meaning.{Everything, destroyed_by, has_label}
@@ -7,8 +7,8 @@ use Rattle.mach_ir.specs.declared.mach.Instr.{Instr}
 use Rattle.mach_ir.specs.declared.mach.Mach.{Mach}
 use Rattle.hoist_rules.specs.Hoisted.{MayMove, hoisted}
 
--- A loop round this code, by the text: its label stands there or before, and an exit that leads back to
--- it, from here on, there or after.
+-- A loop round the code `from`, by the text: its label stands there or before, and an exit to it there
+-- or after, from which on is `end`.
 pub record IsLoopRound (m : Mach) (from end : List Instr) : Type 0 where
   pub label : ℕ
   pub head : Instr
@@ -24,20 +24,21 @@ pub record IsLoopRound (m : Mach) (from end : List Instr) : Type 0 where
   pub leads : LeadsTo back.op label
   pub after : length end ≤ length from
 
--- a constant that no single instruction of the machine makes: it does not fit twelve bits
+-- a constant that does not fit the twelve bits of an immediate
 abbrev pub IsWide : ℕ → Type 0
 IsWide w = (2048 ≤ w) × (w + 2048 < 2 ^ 64)
 
 -- An instruction moves to the entry where it may, where it makes a wide constant, and where it stands
 -- in a loop, and each loop round it ends before the first call or entry of a handler: so it lives over
--- none.
+-- none that it did not live over before. A tail call counts, an external call does not.
 pub record IsMoved (m : Mach) (i : Instr) (next : List Instr) : Type 0 where
   pub may : MayMove m i next
   pub wide : IsWide may.word
   pub end : List Instr
   pub round : IsLoopRound m (i ∷ next) end
-  pub calm : (loop : List Instr) → IsLoopRound m (i ∷ next) loop → (c : Instr) (others : List Instr) →
-      Stands c others m.code → destroyed_by c.op ≡ Everything → length (c ∷ others) < length loop
+  pub calm : (loop : List Instr) → IsLoopRound m (i ∷ next) loop →
+      (c : Instr) (others : List Instr) → Stands c others m.code →
+      destroyed_by c.op ≡ Everything → length (c ∷ others) < length loop
 
 -- exactly those move
 abbrev pub AreChosen : Mach → (ℕ → Bool) → Type 0

@@ -1,10 +1,10 @@
-//! Mach functions in which constants that loops make anew in each turn are made once, at the entry of the
-//! function; and what such a function keeps.
+//! Mach functions in which constants of loops are made once, at the entry of the function; and what such
+//! a function keeps.
 //!
 //! A constant may move whose register is of ints or odd vals, open, and its own: nothing else writes it,
-//! and no other register has its origin. Those move that no single instruction makes and that stand in a
-//! loop, where no loop round them comes to a call. A register is live at more places then, and so may
-//! meet more registers; nothing else changes.
+//! and no other register has its origin. Those move that do not fit twelve bits and that stand in a
+//! loop, where each loop round them ends before the first call or entry of a handler of the text. A
+//! register is live at more places then, and so may meet more registers; nothing else changes.
 //!
 //! The crate holds definitions and laws alone.
 #![tactic(auto)]
@@ -15,7 +15,7 @@ ghost use Rattle.mach_ir.specs.declared.mach.Mach.{Mach};
 ghost use Rattle.hoist_rules.specs.Chosen.{HasConstantsFirst};
 ghost use Rattle.hoist_rules.specs.Hoisted.{IsHoisted, IsKept};
 
-/// Law: a function is kept whose constants, whichever of them may move, are made at the entry.
+/// Law: a function is kept in which constants that may move, whichever of them, are made at the entry.
 pub fn what_is_hoisted_is_kept()
     ensures { (m q : Mach) → WellFormed m → IsHoisted m q → IsKept m q }
 {}
@@ -25,7 +25,7 @@ pub fn what_has_constants_first_is_kept()
     ensures { (m q : Mach) → WellFormed m → HasConstantsFirst m q → IsKept m q }
 {}
 
-/// Law: with the constants of its loops first a function is one.
+/// Law: there is one function with the constants of its loops first.
 pub fn constants_first_are_one()
     ensures { (m q k : Mach) → HasConstantsFirst m q → HasConstantsFirst m k → q ≡ k }
 {}

@@ -1,4 +1,5 @@
--- What the passes before register allocation make of a Mach function (OCaml's `asmcomp/asmgen.ml`).
+-- What the passes before register allocation make of a Mach function (OCaml's `asmcomp/asmgen.ml`,
+-- with two more right before spilling).
 use Rattle.std.specs.Prelude.{ℕ, ◌+◌, ◌*◌, length}
 use Rattle.combine_rules.specs.Kept.{IsCombinable}
 use Rattle.mach_ir.specs.Formed.{WellFormed}
@@ -16,7 +17,7 @@ use Rattle.mach_passes.specs.Stages.{HasSlots}
 
 -- Its allocations are combined, operands are read from what they are copies of, repeats become moves,
 -- what only computes and is not used goes, constants of loops are made at the entry, what lives over
--- calls goes to slots, late, and each web of writes gets a number of its own.
+-- calls goes to slots, some of it late, and each web of writes gets a number of its own.
 pub record IsPrepared (m q : Mach) : Type 0 where
   pub spilled : Mach
   pub has_slots : HasSlots m spilled

@@ -29,7 +29,7 @@ pub record IsCleaned (m q : Mach) : Type 0 where
   pub is_dropped : IsDropped repeated q
 
 -- The second is the first, so cleaned, and ready to be spilled: constants of loops are made at the
--- entry, and what lives over a call is written anew right before it.
+-- entry, and some of what lives over calls is moved to itself before one of them.
 pub record IsReadied (m q : Mach) : Type 0 where
   pub dropped : Mach
   pub is_cleaned : IsCleaned m dropped

@@ -1,5 +1,5 @@
 //! The passes over Mach between selection and register allocation, in their order (OCaml's
-//! `asmcomp/asmgen.ml`), and what they carry from pass to pass.
+//! `asmcomp/asmgen.ml`, with two more right before spilling), and what they carry from pass to pass.
 #![tactic(auto)]
 
 mod passes;

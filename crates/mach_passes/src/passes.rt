@@ -48,8 +48,8 @@ pub fn without_dead(alloc: Global, mach: Mach) -> Result<Mach, AllocError>
     drop_dead(alloc, repeated)
 }
 
-/// The function without dead code, with the constants of its loops made at its entry, and with what
-/// lives over a call written anew right before it. The only error is want of memory.
+/// The function without dead code, with constants of its loops made at its entry, and with some of what
+/// lives over calls moved to itself before one of them. The only error is want of memory.
 #[tactic(auto, using(crate::proofs::Stages::is_readied))]
 fn readied(alloc: Global, mach: Mach) -> Result<Mach, AllocError>
     requires { IsPreparable mach }
