@@ -15,10 +15,12 @@ use Rattle.mach_ir.specs.declared.mach.Mach.{Mach}
 use Rattle.mach_laws.specs.Expand.{expand, Ending, all}
 use Rattle.mach_laws.proofs.Places.{ending_from_handler}
 use Rattle.mach_laws.proofs.Walking.{none_in, first_in, later_in, in_cons, ending_at}
-use Rattle.places_rules.proofs.Walked.{stands_of}
+use Rattle.places_rules.proofs.Lists.{tail_same}
+use Rattle.places_rules.proofs.Walked.{stands_of, ending_of}
 use Rattle.spill_rules.specs.Chosen.{LivesOver, lives}
-use Rattle.sink_rules.specs.Chosen.{IsSunkAt, IsSunkSomewhere, IsChosen, IsSunk}
+use Rattle.sink_rules.specs.Chosen.{IsRunTo, IsSunkAt, IsSunkSomewhere, IsChosen, IsSunk}
 use Rattle.sink_rules.specs.Sunk.{Plan, to_itself, moves_of, sunk_instr, IsPlan, IsKept}
+use Rattle.sink_rules.proofs.Runs.{stale_at_call, reached_at_call, live_from_call, run_operation, begins_once}
 use Rattle.sink_rules.proofs.Whole.{sunk_kept}
 
 -- ---- calls
@@ -75,15 +77,18 @@ module _ (m : Mach) (plan : Plan) (calm : NoAddrLive m) (chosen : IsChosen m pla
         registers = λ r c. ((somewhere r c).sunk_at).register;
         open_places = λ r c. ((somewhere r c).sunk_at).open_place;
         distinct = rising_distinct plan.registers chosen.rising;
-        live = λ i next r s c t. live_over m (sunk_at i next r s c t).over;
-        written = λ i next r s c t. (sunk_at i next r s c t).surely;
-        operations = λ i next r s c t. let w = sunk_at i next r s c t in (w.call, w.is_call);
+        live = λ i next r s c t. let w = sunk_at i next r s c t in live_from_call m r.number w.run (live_over m w.over);
+        written = λ i next r s c t stale. let w = sunk_at i next r s c t in w.surely (stale_at_call m r.number w.run stale);
+        operations = λ i next r s c t. run_operation m r.number (sunk_at i next r s c t).run;
         no_addr = λ i next r reached c t addr.
             let w = sunk_at i next r (stands_of (reached_ending m reached)) c t in
-            calm.none i next reached (frame_over m w.call w.is_call w.over) r w.register addr (across_over m w.over);
+            calm.none w.call w.after (reached_at_call m r.number w.run reached)
+            (frame_over m (w.run).operation (w.run).is_call w.over) r w.register addr (across_over m w.over);
         once = λ i j next others r s t c a b.
             let w = sunk_at i next r s c a in
-            let v = sunk_at j others r t c b in w.only j others v.to v.over v.unsaved;
+            let v = sunk_at j others r t c b in
+            let one = subst (IsRunTo m r.number (j ∷ others) v.call) (w.only v.call v.after v.to v.over v.unsaved) v.run in
+            tail_same (begins_once m r.number (ending_of t) (ending_of s) one w.run);
       }
 
 pub a_plan : (m : Mach) (plan : Plan) → WellFormed m → NoAddrLive m → IsChosen m plan → IsPlan m plan

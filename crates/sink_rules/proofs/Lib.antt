@@ -5,4 +5,5 @@ pub mod Kept
 pub mod Formed
 pub mod Sizes
 pub mod Whole
+pub mod Runs
 pub mod Chosen

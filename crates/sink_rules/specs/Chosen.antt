@@ -1,5 +1,5 @@
--- Which registers are moved to themselves before a call, so that spilling stores them there and at none
--- of the assignments before.
+-- Which registers are moved to themselves before a call, so that spilling stores them there and at
+-- none of the assignments before.
 use Rattle.std.specs.Prelude.{◌≡◌, ◌↔◌, ◌<◌, ℕ, true, false, List, ◌∷◌, ◌++◌, length, All, AllPairs, Contains}
 use Rattle.bs_words.specs.declared.types.Loc.TheVariants as loc
 use Rattle.mach_ir.specs.Placed.{is_straight, AreStraight}
@@ -26,10 +26,10 @@ pub record IsRunTo (m : Mach) (n : ℕ) (from : List Instr) (call : Instr) (afte
   pub operation : Op
   pub is_call : call.op ≡ mach.Op operation
 
--- A register is moved to itself at the begin of the straight run to a call that it lives over, where it
--- surely was written since the last call or entry of a handler, if no other of these that it lives over
--- may find it so, and no read may find it both so and not so. Then spilling stores it there alone, each
--- time in place of the last write before, and on no run more often.
+-- A register is moved to itself at the begin of the straight run to a call that it lives over,
+-- where it surely was written since the last call or entry of a handler, if no other of these that
+-- it lives over may find it so, and no read may find it both so and not so. Then spilling stores it
+-- there alone, each time in place of the last write before, and on no run more often.
 pub record IsSunkAt (m : Mach) (i : Instr) (next : List Instr) (r : Reg) : Type 0 where
   pub register : IsRegister m r
   pub open_place : r.loc ≡ loc.Unset

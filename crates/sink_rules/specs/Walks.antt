@@ -1,5 +1,5 @@
--- Where a register may have been written since the last call, and where it may not have been. A call
--- here is one that destroys every colour: no external call.
+-- Where a register may have been written since the last call, and where it may not have been. A
+-- call here is one that destroys every colour: no external call.
 use Rattle.std.specs.Prelude.{◌≡◌, ℕ, List, ◌∷◌}
 use Rattle.mach_ir.specs.Meaning.{Everything, destroyed_by}
 use Rattle.mach_ir.specs.Walks.{Among, Writes, Leads, Raises, Stands}
@@ -7,8 +7,8 @@ use Rattle.mach_ir.specs.declared.mach.Instr.{Instr}
 use Rattle.mach_ir.specs.declared.mach.Mach.{Mach}
 
 -- Some walk leads to this code from a write of the register, and comes over no call and over no
--- entry of a handler: so it may stand in the register and in no slot. A raise of a call comes to the
--- entry of the handler, and not over it.
+-- entry of a handler: so it may stand in the register and in no slot. A raise of a call comes to
+-- the entry of the handler, and not over it.
 pub data Fresh (m : Mach) (n : ℕ) : List Instr → Type 0 where
   written : {i : Instr} {next to : List Instr} → Stands i next m.code → Writes m i n →
       Leads m i next to → Fresh m n to

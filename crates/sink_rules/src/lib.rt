@@ -1,10 +1,11 @@
 //! Mach functions in which registers are moved to themselves before calls that they live over, which of
 //! them are, and what such a function keeps.
 //!
-//! A move of a register to itself changes nothing. But it writes the register anew: so what spilling
-//! stores for that call is this write alone, right before the call, and none of the assignments before.
-//! A loop that assigns a variable then stores it in no turn, and a function that returns before its first
-//! call stores nothing.
+//! A move of a register to itself changes nothing, but it writes the register anew, and what a call finds
+//! written is what spilling stores for it. So a register is moved to itself at the begin of the straight
+//! run to the one call that finds it written since the last; spilling then stores it there alone. Each
+//! register has one such move at the most. A loop before that call then stores the register in no turn,
+//! and a function that returns before it does not store the register.
 //!
 //! The crate holds definitions and laws alone.
 #![tactic(auto)]
