@@ -13,8 +13,8 @@ use Rattle.spill_rules.specs.Chosen.{LivesOver}
 use Rattle.sink_rules.specs.Sunk.{Plan, sunk}
 use Rattle.sink_rules.specs.Walks.{Fresh, Stale}
 
--- The straight run that begins with this code ends in a call, and does not write the register. It
--- begins there: what stands right before it is none of it.
+-- The straight run that starts with this code ends in a call, and does not write the register. It
+-- starts there: what stands right before it is none of it.
 pub record IsRunTo (m : Mach) (n : ℕ) (from : List Instr) (call : Instr) (after : List Instr) :
     Type 0 where
   pub run : List Instr
@@ -26,7 +26,7 @@ pub record IsRunTo (m : Mach) (n : ℕ) (from : List Instr) (call : Instr) (afte
   pub operation : Op
   pub is_call : call.op ≡ mach.Op operation
 
--- A register is moved to itself at the begin of the straight run to a call that it lives over,
+-- A register is moved to itself at the start of the straight run to a call that it lives over,
 -- where it surely was written since the last call or entry of a handler, if no other of these that
 -- it lives over may find it so, and no read may find it both so and not so. Then spilling stores it
 -- there alone, each time in place of the last write before, and on no run more often.

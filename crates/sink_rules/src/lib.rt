@@ -2,7 +2,7 @@
 //! them are, and what such a function keeps.
 //!
 //! A move of a register to itself changes nothing, but it writes the register anew, and what a call finds
-//! written is what spilling stores for it. So a register is moved to itself at the begin of the straight
+//! written is what spilling stores for it. So a register is moved to itself at the start of the straight
 //! run to the one call that finds it written since the last; spilling then stores it there alone. Each
 //! register has one such move at the most. A loop before that call then stores the register in no turn,
 //! and a function that returns before it does not store the register.
