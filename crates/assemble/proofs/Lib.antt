@@ -4,3 +4,4 @@ pub mod Walks
 pub mod Made
 pub mod Totals
 pub mod Sized
+pub mod Joined

@@ -1,32 +1,75 @@
 -- What is known while the functions of a file are walked.
-use Rattle.std.proofs.Common.{◌≡◌, ℕ, zero, suc, ◌+◌, ◌<◌, ◌≤◌, List, [], ◌∷◌, ◌++◌, length, map, get_or, drop, refl, sym, ap, ◌∙◌, subst, append_assoc, Vec, Global, arith}
-use Rattle.std.specs.List.{AllByRecursion}
-use Rattle.std.proofs.lemmas.List.{append-nil, map-append, drop_all}
+use Rattle.std.proofs.Common.{◌≡◌, ℕ, zero, suc, ◌+◌, ◌<◌, ◌≤◌, List, [], ◌∷◌, ◌++◌, Some, length, map, get_or, drop, refl, sym, ap, ◌∙◌, subst, append_assoc, arith}
+use Rattle.std.specs.Prelude.{sum_by, slice_get}
+use Rattle.std.specs.List.{AllByRecursion, AllZip}
+use Rattle.std.proofs.lemmas.List.{append-nil, drop_all}
+use Rattle.std.proofs.lemmas.List.Sums.{sum_by-cons}
+use Rattle.assemble.specs.Places.{IsLaid}
+use Rattle.assemble.specs.Sizes.{pieces_size, descs_size}
+use Rattle.assemble.specs.declared.places.Laid.{Laid}
 use Rattle.layout_rules.specs.declared.form.Form.{Form}
-use Rattle.layout_rules.specs.Forms.{total_words, AreForms}
-use Rattle.layout_rules.specs.Laid.{stub_words, entries_from, AreAllForms}
+use Rattle.layout_rules.specs.Forms.{total_words}
+use Rattle.layout_rules.specs.Laid.{entries_from, AreAllForms}
 use Rattle.layout_rules.proofs.Rules.{all_words}
 use Rattle.rv_layout.proofs.Steps.{drop_step}
 use Rattle.rv_pieces.specs.declared.piece.Pieces.{Pieces}
 
--- The first functions are placed, and these are the others.
-pub record Begun (ps rest : List Pieces) (forms : List (List Form)) (entries : List ℕ) (at : ℕ) : Type 0 where
-  pub are : (ks : List (List Form)) → AreAllForms rest ks → AreAllForms ps (forms ++ ks)
-  pub begins : (ks : List (List Form)) → entries ++ entries_from at rest ks ≡ entries_from stub_words ps (forms ++ ks)
-  pub ends : (ks : List (List Form)) → at + all_words rest ks ≡ stub_words + all_words ps (forms ++ ks)
+abbrev pub own_forms : Laid → List Form
+own_forms own = own.forms.items
 
-pub begun_first : (ps : List Pieces) → Begun ps ps [] [] stub_words
-begun_first ps = record { are = λ ks are. are; begins = λ ks. refl; ends = λ ks. refl }
+abbrev pub own_words : Laid → ℕ
+own_words own = own.words
 
-pub begun_next : (ps rest : List Pieces) (p : Pieces) (forms : List (List Form)) (entries : List ℕ) (at : ℕ) (k : List Form) → Begun ps (p ∷ rest) forms entries at → AreForms p.code k →
-    Begun ps rest (forms ++ k ∷ []) (entries ++ at ∷ []) (at + total_words p.code k)
-begun_next ps rest p forms entries at k begun are =
-    let joined : (ks : List (List Form)) → forms ++ k ∷ ks ≡ (forms ++ k ∷ []) ++ ks = λ ks. sym (append_assoc forms (k ∷ []) ks) in
-    record {
-      are = λ ks more. subst (AreAllForms ps) (joined ks) (begun.are (k ∷ ks) (are, more));
-      begins = λ ks. append_assoc entries (at ∷ []) (entries_from (at + total_words p.code k) rest ks) ∙ (begun.begins (k ∷ ks) ∙ ap (entries_from stub_words ps) (joined ks));
-      ends = λ ks. let so_far = begun.ends (k ∷ ks) in let same = ap (all_words ps) (joined ks) in omega (arith, so_far, same);
-    }
+-- ---- functions that are laid out
+
+-- where functions begin, the first of them here
+abbrev pub starts : ℕ → List Laid → List ℕ
+starts at [] = []
+starts at (own ∷ all) = at ∷ starts (at + own.words) all
+
+pub starts_step : (all : List Laid) (i : ℕ) (own : Laid) (at : ℕ) (entries entries' total : List ℕ) → i < length all → own ≡ get_or all i own → entries' ≡ entries ++ at ∷ [] →
+    entries ++ starts at (drop i all) ≡ total → entries' ++ starts (at + own.words) (drop (i + 1) all) ≡ total
+starts_step all i own at entries entries' total h is e so_far =
+    let rest = starts (at + own.words) (drop (i + 1) all) in
+    ap (λ es. es ++ rest) e
+    ∙ (append_assoc entries (at ∷ []) rest ∙ (ap (λ l. entries ++ starts at l) (sym (drop_step all i own h is)) ∙ so_far))
+
+pub starts_done : (all : List Laid) (i at : ℕ) (entries total : List ℕ) → length all ≤ i → entries ++ starts at (drop i all) ≡ total → entries ≡ total
+starts_done all i at entries total h so_far =
+    let none = ap (λ l. entries ++ starts at l) (drop_all i all h) in
+    sym (append-nil entries) ∙ (sym none ∙ so_far)
+
+pub forms_laid : (ps : List Pieces) (all : List Laid) → AllZip IsLaid ps all → AreAllForms ps (map own_forms all)
+forms_laid [] [] each = tt
+forms_laid [] (own ∷ all) each = absurd each
+forms_laid (p ∷ ps) [] each = absurd each
+forms_laid (p ∷ ps) (own ∷ all) each = (each.0.forms, forms_laid ps all each.1)
+
+pub starts_laid : (at : ℕ) (ps : List Pieces) (all : List Laid) → AllZip IsLaid ps all → starts at all ≡ entries_from at ps (map own_forms all)
+starts_laid at [] [] each = refl
+starts_laid at [] (own ∷ all) each = absurd each
+starts_laid at (p ∷ ps) [] each = absurd each
+starts_laid at (p ∷ ps) (own ∷ all) each =
+    ap (λ l. at ∷ l) (ap (λ n. starts (at + n) all) each.0.words ∙ starts_laid (at + total_words p.code own.forms.items) ps all each.1)
+
+pub words_laid : (ps : List Pieces) (all : List Laid) → AllZip IsLaid ps all → sum_by own_words all ≡ all_words ps (map own_forms all)
+words_laid [] [] each = refl
+words_laid [] (own ∷ all) each = absurd each
+words_laid (p ∷ ps) [] each = absurd each
+words_laid (p ∷ ps) (own ∷ all) each = omega (arith, sum_by-cons own_words own all, each.0.words, words_laid ps all each.1)
+
+pub descs_laid : (ps : List Pieces) (all : List Laid) → AllZip IsLaid ps all → sum_by descs_size all ≡ sum_by pieces_size ps
+descs_laid [] [] each = refl
+descs_laid [] (own ∷ all) each = absurd each
+descs_laid (p ∷ ps) [] each = absurd each
+descs_laid (p ∷ ps) (own ∷ all) each =
+    omega (arith, sum_by-cons descs_size own all, sum_by-cons pieces_size p ps, each.0.descs, descs_laid ps all each.1)
+
+pub laid_at : (ps : List Pieces) (all : List Laid) (i : ℕ) (p : Pieces) (own : Laid) → AllZip IsLaid ps all → i < length ps → p ≡ get_or ps i p → own ≡ get_or all i own → IsLaid p own
+laid_at [] all i p own each h is of = absurd (omega (arith, h))
+laid_at (q ∷ ps) [] i p own each h is of = absurd each
+laid_at (q ∷ ps) (k ∷ all) zero p own each h is of = subst (λ x. IsLaid x own) (sym is) (subst (IsLaid q) (sym of) each.0)
+laid_at (q ∷ ps) (k ∷ all) (suc i) p own each h is of = laid_at ps all i p own each.1 (omega (arith, h)) is of
 
 pub here : {A B : Type 0} (f : A → B) (xs : List A) (i : ℕ) (x : A) → i < length xs → x ≡ get_or xs i x → drop i (map f xs) ≡ f x ∷ drop (i + 1) (map f xs)
 here f [] i x h is = absurd (omega (arith, h))
@@ -36,39 +79,6 @@ here f (y ∷ xs) (suc i) x h is =
     let next : suc i + 1 ≡ suc (i + 1) = omega arith in
     rest ∙ ap (λ n. f x ∷ drop n (f y ∷ map f xs)) (sym next)
 
-abbrev pub own_forms : Vec Form Global → List Form
-own_forms own = own.items
-
-pub begun_more : (ps : List Pieces) (i : ℕ) (p : Pieces) (forms forms' : List (Vec Form Global)) (entries entries' : List ℕ) (at at' : ℕ) (own : Vec Form Global) →
-    i < length ps → p ≡ get_or ps i p → Begun ps (drop i ps) (map own_forms forms) entries at → AreForms p.code own.items →
-    forms' ≡ forms ++ own ∷ [] → entries' ≡ entries ++ at ∷ [] → at' ≡ at + total_words p.code own.items →
-    Begun ps (drop (i + 1) ps) (map own_forms forms') entries' at'
-begun_more ps i p forms forms' entries entries' at at' own h is begun are e f g =
-    let rest = drop (i + 1) ps in
-    let opened = subst (λ r. Begun ps r (map own_forms forms) entries at) (drop_step ps i p h is) begun in
-    let next = begun_next ps rest p (map own_forms forms) entries at own.items opened are in
-    let mapped : map own_forms forms ++ own.items ∷ [] ≡ map own_forms forms' = sym (map-append own_forms forms (own ∷ [])) ∙ ap (map own_forms) (sym e) in
-    subst (λ n. Begun ps rest (map own_forms forms') entries' n) (sym g)
-    (subst (λ es. Begun ps rest (map own_forms forms') es (at + total_words p.code own.items)) (sym f)
-    (subst (λ fs. Begun ps rest fs (entries ++ at ∷ []) (at + total_words p.code own.items)) mapped next))
-
--- All functions are placed.
-pub record Placed (ps : List Pieces) (forms : List (List Form)) (entries : List ℕ) (at : ℕ) : Type 0 where
-  pub are : AreAllForms ps forms
-  pub begins : entries ≡ entries_from stub_words ps forms
-  pub ends : at ≡ stub_words + all_words ps forms
-
-pub begun_last : (ps : List Pieces) (i : ℕ) (forms : List (List Form)) (entries : List ℕ) (at : ℕ) → length ps ≤ i → Begun ps (drop i ps) forms entries at → Placed ps forms entries at
-begun_last ps i forms entries at h begun =
-    let opened = subst (λ r. Begun ps r forms entries at) (drop_all i ps h) begun in
-    let none = append-nil forms in
-    let last = opened.ends [] in
-    record {
-      are = subst (AreAllForms ps) none (opened.are [] tt);
-      begins = sym (append-nil entries) ∙ (opened.begins [] ∙ ap (entries_from stub_words ps) none);
-      ends = omega (arith, last, ap (all_words ps) none);
-    }
-
 -- ---- what holds of each
 
 pub all_at : {A : Type 0} (P : A → Type 0) (xs : List A) (i : ℕ) (x : A) → AllByRecursion P xs → i < length xs → x ≡ get_or xs i x → P x
@@ -76,7 +86,19 @@ all_at P [] i x all h is = absurd (omega (arith, h))
 all_at P (y ∷ xs) zero x all h is = subst P (sym is) all.0
 all_at P (y ∷ xs) (suc i) x all h is = all_at P xs i x all.1 (omega (arith, h)) is
 
-pub form_at : (forms : List (Vec Form Global)) (i : ℕ) (own : Vec Form Global) → i < length forms → own ≡ get_or forms i own → own.items ≡ get_or (map own_forms forms) i own.items
+pub form_at : (all : List Laid) (i : ℕ) (own : Laid) → i < length all → own ≡ get_or all i own → own.forms.items ≡ get_or (map own_forms all) i own.forms.items
 form_at [] i own h is = absurd (omega (arith, h))
-form_at (f ∷ forms) zero own h is = ap own_forms is
-form_at (f ∷ forms) (suc i) own h is = form_at forms i own (omega (arith, h)) is
+form_at (f ∷ all) zero own h is = ap own_forms is
+form_at (f ∷ all) (suc i) own h is = form_at all i own (omega (arith, h)) is
+
+-- what stands at a place is what is read there
+pub same_at : {A : Type 0} (xs : List A) (i : ℕ) (x y : A) → slice_get xs i ≡ Some x → y ≡ get_or xs i y → y ≡ x
+same_at [] i x y got is = cc
+same_at (z ∷ xs) zero x y got is = cc
+same_at (z ∷ xs) (suc i) x y got is = same_at xs i x y got is
+
+-- what is read at a place that is there
+pub read_at : (xs : List ℕ) (i x : ℕ) → i < length xs → x ≡ get_or xs i x → x ≡ get_or xs i 0
+read_at [] i x h is = absurd (omega (arith, h))
+read_at (y ∷ xs) zero x h is = is
+read_at (y ∷ xs) (suc i) x h is = read_at xs i x (omega (arith, h)) is

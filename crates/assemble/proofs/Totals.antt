@@ -233,7 +233,7 @@ piece_most (SymbolAddress r name) = omega arith
 piece_most (ExternalNumber r row) = omega arith
 piece_most (Descriptor d) = omega arith
 
-code_most : (ps : List Piece) → sum_by piece_size ps ≤ 12 * weight_of ps
+pub code_most : (ps : List Piece) → sum_by piece_size ps ≤ 12 * weight_of ps
 code_most [] = omega arith
 code_most (p ∷ ps) = omega (arith, sum_by-cons piece_size p ps, sum_by-cons weight p ps, piece_most p, code_most ps)
 

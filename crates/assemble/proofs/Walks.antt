@@ -1,11 +1,12 @@
--- One function after the other: its place, its words, its descriptors and its row.
-use Rattle.std.proofs.Common.{◌≡◌, ℕ, ◌+◌, ◌*◌, ◌^◌, ◌<◌, ◌≤◌, List, [], ◌∷◌, ◌++◌, length, map, get_or, drop, Vec, Global, None, refl, sym, ap, ap₂, ◌∙◌, subst, append_assoc, arith}
-use Rattle.std.proofs.lemmas.List.{drop_all, append-nil, length-map}
-use Rattle.assemble.specs.Places.{forms_in, size_of}
+-- One function after the other: its place, its words and its row.
+use Rattle.std.proofs.Common.{◌≡◌, ℕ, zero, suc, ◌+◌, ◌*◌, ◌^◌, ◌<◌, ◌≤◌, List, [], ◌∷◌, ◌++◌, length, map, get_or, drop, None, refl, sym, ap, ap₂, ◌∙◌, subst, append_assoc, arith}
+use Rattle.std.proofs.lemmas.List.{length-map}
+use Rattle.assemble.specs.Places.{forms_in, size_of, IsLaid}
 use Rattle.assemble.specs.Source.{IsSource, tree_of, entries_of, laid_of, names_by}
+use Rattle.assemble.specs.declared.places.Laid.{Laid}
 use Rattle.assemble.specs.declared.source.Source.{Source}
-use Rattle.assemble.proofs.Bounds.{each_most, zip_length, zip_same, end_short}
-use Rattle.assemble.proofs.Steps.{own_forms, here, all_at, form_at}
+use Rattle.assemble.proofs.Bounds.{each_most, zip_length, zip_same, end_is, end_short}
+use Rattle.assemble.proofs.Steps.{own_forms, here, laid_at, all_at, form_at}
 use Rattle.cmm_tree.specs.Tree.{FunctionTree, functions_among}
 use Rattle.cmm_tree.specs.View.{function_view, item_view}
 use Rattle.cmm_tree.specs.declared.file.DataList.{DataList}
@@ -14,11 +15,11 @@ use Rattle.cmm_tree.specs.declared.file.Item.{Item}
 use Rattle.cmm_tree.specs.declared.file.Item.TheVariants as item
 use Rattle.cmm_types.specs.Typing.{AreItemsAnnotated}
 use Rattle.image_form.specs.Image.{code_limit}
-use Rattle.image_form.specs.Tables.{Desc, Func}
+use Rattle.image_form.specs.Tables.{Func}
 use Rattle.layout_rules.specs.declared.form.Form.{Form}
 use Rattle.layout_rules.specs.Conditions.{IsFunctionLaid, LeadsTo, AllLead}
 use Rattle.layout_rules.specs.Forms.{total_words, place_or_entry}
-use Rattle.layout_rules.specs.Laid.{address_of_place, function_words, code_from, descs_in, descs_from, row_at, rows_from, names_at}
+use Rattle.layout_rules.specs.Laid.{stub_words, entries_from, address_of_place, function_words, row_at, rows_from, names_at}
 use Rattle.layout_rules.specs.TooLarge.{first_too_large}
 use Rattle.layout_rules.specs.Words.{Named, target_of, words_to}
 use Rattle.layout_rules.proofs.Rules.{all_words}
@@ -31,16 +32,17 @@ use Rattle.rv_pieces.specs.declared.piece.Piece.{Piece}
 use Rattle.rv_pieces.specs.declared.piece.Piece.TheVariants.{Known, Label, Branch, Jump, Row, LabelAddress, Call, TailCall, SymbolAddress, ExternalNumber, Descriptor}
 use Rattle.rv_pieces.specs.declared.piece.Pieces.{Pieces}
 
--- Function i of a file is these pieces, in these forms, and its entry is here.
-pub record At (s : Source) (i : ℕ) (p : Pieces) (own : List Form) (entry : ℕ) : Type 0 where
+-- Function i of a file is these pieces, laid out so, and its entry is here.
+pub record At (s : Source) (i : ℕ) (p : Pieces) (own : Laid) (entry : ℕ) : Type 0 where
   pub laid : IsFunctionLaid (tree_of s) p
+  pub is : IsLaid p own
   pub few : size_of p < 2 ^ 48
-  pub same : length own ≡ length p.code
-  pub inside : entry + total_words p.code own ≤ s.places.now.end
+  pub same : length own.forms.items ≡ length p.code
+  pub inside : entry + total_words p.code own.forms.items ≤ s.places.now.end
   pub short : 4 * s.places.now.end ≤ code_limit
   pub pieces : drop i s.pieces.now ≡ p ∷ drop (i + 1) s.pieces.now
-  pub forms : drop i (forms_in s.places.now) ≡ own ∷ drop (i + 1) (forms_in s.places.now)
-  pub place : entry + total_words p.code own + all_words (drop (i + 1) s.pieces.now) (drop (i + 1) (forms_in s.places.now)) ≡ s.places.now.end
+  pub forms : drop i (forms_in s.places.now) ≡ own.forms.items ∷ drop (i + 1) (forms_in s.places.now)
+  pub place : entry + total_words p.code own.forms.items + all_words (drop (i + 1) s.pieces.now) (drop (i + 1) (forms_in s.places.now)) ≡ s.places.now.end
 
 pub forms_long : (s : Source) → IsSource s → length s.places.now.forms.items ≡ length s.pieces.now
 forms_long s source =
@@ -48,9 +50,9 @@ forms_long s source =
     let same = zip_length s.pieces.now (forms_in s.places.now) source.places.forms in
     omega (arith, long, same)
 
-pub function_at : (s : Source) → IsSource s → first_too_large (laid_of s) ≡ None → (i : ℕ) (p : Pieces) (own : Vec Form Global) (entry : ℕ) →
+pub function_at : (s : Source) → IsSource s → first_too_large (laid_of s) ≡ None → (i : ℕ) (p : Pieces) (own : Laid) (entry : ℕ) →
     i < length s.pieces.now → p ≡ get_or s.pieces.now i p → own ≡ get_or s.places.now.forms.items i own →
-    entry + all_words (drop i s.pieces.now) (drop i (forms_in s.places.now)) ≡ s.places.now.end → At s i p own.items entry
+    entry + all_words (drop i s.pieces.now) (drop i (forms_in s.places.now)) ≡ s.places.now.end → At s i p own entry
 function_at s source fits i p own entry h is of place =
     let ps = s.pieces.now in
     let forms = s.places.now.forms.items in
@@ -58,12 +60,13 @@ function_at s source fits i p own entry h is of place =
     let within : i < length forms = omega (arith, h, long) in
     let rest = drop_step ps i p h is in
     let others = here own_forms forms i own within of in
-    let opened : entry + (total_words p.code own.items + all_words (drop (i + 1) ps) (drop (i + 1) (map own_forms forms))) ≡ s.places.now.end =
+    let opened : entry + (total_words p.code own.forms.items + all_words (drop (i + 1) ps) (drop (i + 1) (map own_forms forms))) ≡ s.places.now.end =
     ap (λ (n : ℕ). entry + n) (sym (ap₂ all_words rest others)) ∙ place in
     record {
       laid = all_at (IsFunctionLaid (tree_of s)) ps i p source.can.each h is;
+      is = laid_at ps forms i p own source.places.each h is of;
       few = omega (arith, each_most ps i p h is, source.can.few);
-      same = zip_same ps (forms_in s.places.now) i p own.items source.places.forms h is (form_at forms i own within of);
+      same = zip_same ps (forms_in s.places.now) i p own.forms.items source.places.forms h is (form_at forms i own within of);
       inside = omega (arith, opened);
       short = end_short s source fits;
       pieces = rest;
@@ -73,59 +76,48 @@ function_at s source fits i p own entry h is of place =
 
 -- ---- what grows with each function
 
-pub code_more : (s : Source) (i : ℕ) (p q : Pieces) (own fs : List Form) (entry entry' : ℕ) (words words' all : List ℕ) → At s i p own entry → q ≡ p → fs ≡ own →
-    entry' ≡ entry + total_words p.code own → words' ≡ words ++ function_words (tree_of s) (entries_of s) entry q.code fs →
-    words ++ code_from (tree_of s) (entries_of s) entry (drop i s.pieces.now) (drop i (forms_in s.places.now)) ≡ all →
-    words' ++ code_from (tree_of s) (entries_of s) entry' (drop (i + 1) s.pieces.now) (drop (i + 1) (forms_in s.places.now)) ≡ all
-code_more s i p q own fs entry entry' words words' all at e f g k so_far =
-    let ps = drop (i + 1) s.pieces.now in
-    let ks = drop (i + 1) (forms_in s.places.now) in
-    let file = tree_of s in
-    let entries = entries_of s in
-    let mine = function_words file entries entry p.code own in
-    let made : words' ≡ words ++ mine = k ∙ ap₂ (λ (x : Pieces) (y : List Form). words ++ function_words file entries entry x.code y) e f in
-    ap₂ (λ (ws : List ℕ) (n : ℕ). ws ++ code_from file entries n ps ks) made g
-    ∙ (append_assoc words mine (code_from file entries (entry + total_words p.code own) ps ks)
-    ∙ (ap₂ (λ (x : List Pieces) (y : List (List Form)). words ++ code_from file entries entry x y) (sym at.pieces) (sym at.forms) ∙ so_far))
-
-pub descs_more : (s : Source) (i : ℕ) (p : Pieces) (code : List Piece) (own fs : List Form) (entry entry' : ℕ) (rows rows' all : List Desc) → At s i p own entry → code ≡ p.code → fs ≡ own →
-    entry' ≡ entry + total_words p.code own → rows' ≡ rows ++ descs_in entry code fs →
-    rows ++ descs_from entry (drop i s.pieces.now) (drop i (forms_in s.places.now)) ≡ all →
-    rows' ++ descs_from entry' (drop (i + 1) s.pieces.now) (drop (i + 1) (forms_in s.places.now)) ≡ all
-descs_more s i p code own fs entry entry' rows rows' all at e f g k so_far =
-    let ps = drop (i + 1) s.pieces.now in
-    let ks = drop (i + 1) (forms_in s.places.now) in
-    let mine = descs_in entry p.code own in
-    let made : rows' ≡ rows ++ mine = k ∙ ap₂ (λ (x : List Piece) (y : List Form). rows ++ descs_in entry x y) e f in
-    ap₂ (λ (ds : List Desc) (n : ℕ). ds ++ descs_from n ps ks) made g
-    ∙ (append_assoc rows mine (descs_from (entry + total_words p.code own) ps ks)
-    ∙ (ap₂ (λ (x : List Pieces) (y : List (List Form)). rows ++ descs_from entry x y) (sym at.pieces) (sym at.forms) ∙ so_far))
-
-pub rows_more : (s : Source) (i : ℕ) (p q : Pieces) (f : FunctionTree) (fs : List FunctionTree) (own ks : List Form) (entry entry' : ℕ) (rows rows' all : List Func) → At s i p own entry → q ≡ p →
-    ks ≡ own → entry' ≡ entry + total_words p.code own → rows' ≡ rows ++ row_at entry f q ks ∷ [] →
+pub rows_more : (s : Source) (i : ℕ) (p q : Pieces) (f : FunctionTree) (fs : List FunctionTree) (own ks : Laid) (entry entry' : ℕ) (rows rows' all : List Func) → At s i p own entry → q ≡ p →
+    ks ≡ own → entry' ≡ entry + total_words p.code own.forms.items → rows' ≡ rows ++ row_at entry f q ks.forms.items ∷ [] →
     rows ++ rows_from entry (f ∷ fs) (drop i s.pieces.now) (drop i (forms_in s.places.now)) ≡ all →
     rows' ++ rows_from entry' fs (drop (i + 1) s.pieces.now) (drop (i + 1) (forms_in s.places.now)) ≡ all
 rows_more s i p q f fs own ks entry entry' rows rows' all at e d g k so_far =
     let ps = drop (i + 1) s.pieces.now in
     let others = drop (i + 1) (forms_in s.places.now) in
-    let mine = row_at entry f p own in
-    let made : rows' ≡ rows ++ mine ∷ [] = k ∙ ap₂ (λ (x : Pieces) (y : List Form). rows ++ row_at entry f x y ∷ []) e d in
+    let mine = row_at entry f p own.forms.items in
+    let made : rows' ≡ rows ++ mine ∷ [] = k ∙ ap₂ (λ (x : Pieces) (y : Laid). rows ++ row_at entry f x y.forms.items ∷ []) e d in
     ap₂ (λ (ds : List Func) (n : ℕ). ds ++ rows_from n fs ps others) made g
-    ∙ (append_assoc rows (mine ∷ []) (rows_from (entry + total_words p.code own) fs ps others)
+    ∙ (append_assoc rows (mine ∷ []) (rows_from (entry + total_words p.code own.forms.items) fs ps others)
     ∙ (ap₂ (λ (x : List Pieces) (y : List (List Form)). rows ++ rows_from entry (f ∷ fs) x y) (sym at.pieces) (sym at.forms) ∙ so_far))
 
--- after the last function
-pub code_all : (s : Source) (i entry : ℕ) (words all : List ℕ) → length s.pieces.now ≤ i →
-    words ++ code_from (tree_of s) (entries_of s) entry (drop i s.pieces.now) (drop i (forms_in s.places.now)) ≡ all → words ≡ all
-code_all s i entry words all h so_far =
-    let none = ap (λ (x : List Pieces). words ++ code_from (tree_of s) (entries_of s) entry x (drop i (forms_in s.places.now))) (drop_all i s.pieces.now h) in
-    sym (append-nil words) ∙ (sym none ∙ so_far)
+-- ---- the entry of each function
 
-pub descs_all : (s : Source) (i entry : ℕ) (rows all : List Desc) → length s.pieces.now ≤ i →
-    rows ++ descs_from entry (drop i s.pieces.now) (drop i (forms_in s.places.now)) ≡ all → rows ≡ all
-descs_all s i entry rows all h so_far =
-    let none = ap (λ (x : List Pieces). rows ++ descs_from entry x (drop i (forms_in s.places.now))) (drop_all i s.pieces.now h) in
-    sym (append-nil rows) ∙ (sym none ∙ so_far)
+entry_there : (at : ℕ) (ps : List Pieces) (forms : List (List Form)) (i : ℕ) → i < length ps → length forms ≡ length ps →
+    get_or (entries_from at ps forms) i 0 + all_words (drop i ps) (drop i forms) ≡ at + all_words ps forms
+entry_there at [] forms i h same = absurd (omega (arith, h))
+entry_there at (p ∷ ps) [] i h same = absurd (omega (arith, same))
+entry_there at (p ∷ ps) (f ∷ forms) zero h same = refl
+entry_there at (p ∷ ps) (f ∷ forms) (suc i) h same =
+    let later = entry_there (at + total_words p.code f) ps forms i (omega (arith, h)) (omega (arith, same)) in
+    omega (arith, later)
+
+entries_many : (at : ℕ) (ps : List Pieces) (forms : List (List Form)) → length forms ≡ length ps → length (entries_from at ps forms) ≡ length ps
+entries_many at [] forms same = refl
+entries_many at (p ∷ ps) [] same = absurd (omega (arith, same))
+entries_many at (p ∷ ps) (f ∷ forms) same = ap suc (entries_many (at + total_words p.code f) ps forms (omega (arith, same)))
+
+pub entries_long : (s : Source) → IsSource s → length s.places.now.entries.items ≡ length s.pieces.now
+entries_long s source =
+    ap length source.places.entries ∙ entries_many stub_words s.pieces.now (forms_in s.places.now) (zip_length s.pieces.now (forms_in s.places.now) source.places.forms)
+
+-- the function of this number, whose entry is read from the table
+pub function_there : (s : Source) → IsSource s → first_too_large (laid_of s) ≡ None → (i : ℕ) (p : Pieces) (own : Laid) →
+    i < length s.pieces.now → p ≡ get_or s.pieces.now i p → own ≡ get_or s.places.now.forms.items i own → At s i p own (get_or s.places.now.entries.items i 0)
+function_there s source fits i p own h is of =
+    let ps = s.pieces.now in
+    let forms = forms_in s.places.now in
+    let there = entry_there stub_words ps forms i h (zip_length ps forms source.places.forms) in
+    let same = ap (λ (l : List ℕ). get_or l i 0) source.places.entries in
+    function_at s source fits i p own (get_or s.places.now.entries.items i 0) h is of (omega (arith, there, same, end_is s source))
 
 -- ---- the words of one function
 

@@ -1,3 +1,4 @@
 pub mod Places
 pub mod Source
 pub mod Sizes
+pub mod Code

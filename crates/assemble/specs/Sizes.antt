@@ -1,5 +1,6 @@
 -- The bytes of the rows of an image.
 use Rattle.std.specs.Prelude.{ℕ, ◌+◌, ◌*◌, length, sum_by}
+use Rattle.assemble.specs.declared.places.Laid.{Laid}
 use Rattle.bs_words.specs.Contents.{contents}
 use Rattle.cmm_data.specs.declared.data_map.DataSymbol.{DataSymbol}
 use Rattle.cmm_tree.specs.declared.file.Item.{Item}
@@ -27,3 +28,7 @@ piece_size _ = 0
 
 abbrev pub pieces_size : Pieces → ℕ
 pieces_size p = sum_by piece_size p.code
+
+-- of all descriptors of a function
+abbrev pub descs_size : Laid → ℕ
+descs_size own = own.descs

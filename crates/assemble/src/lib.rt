@@ -7,7 +7,6 @@
 
 mod code;
 mod data;
-mod descs;
 mod image;
 mod names;
 mod places;

@@ -1,6 +1,6 @@
 //! The rows of functions.
-ghost use Rattle.std.specs.Prelude.{◌≡◌, ◌+◌, ◌*◌, ◌<◌, ◌^◌, None, length, map, IfOk};
-ghost use Rattle.assemble.specs.Places.{size_of};
+ghost use Rattle.std.specs.Prelude.{◌≡◌, ◌+◌, ◌*◌, ◌<◌, ◌^◌, None, map, IfOk};
+ghost use Rattle.assemble.specs.Places.{IsLaid};
 ghost use Rattle.assemble.specs.Source.{IsSource, laid_of};
 ghost use Rattle.bs_words.specs.Contents.{contents};
 ghost use Rattle.cmm_tree.specs.View.{function_view, params_view};
@@ -12,12 +12,11 @@ ghost use Rattle.layout_rules.specs.Forms.{total_words as words_in};
 ghost use Rattle.layout_rules.specs.Laid.{row_at};
 ghost use Rattle.layout_rules.specs.TooLarge.{first_too_large};
 
-use crate::places::{STUB_WORDS, total_words};
+use crate::places::{Laid, STUB_WORDS};
 use crate::source::Source;
 use bs_words::{Comp, List, Name, Ret, Ty};
 use cmm_tree::{Function, Item, Param};
 use image_form::FuncRow;
-use layout_rules::Form;
 use rv_pieces::Pieces;
 use std::alloc::{AllocError, Global};
 
@@ -48,20 +47,19 @@ fn row(
     alloc: Global,
     function: &Function,
     pieces: &Pieces,
-    forms: &[Form],
+    laid: &Laid,
     entry: u64,
 ) -> Result<FuncRow, AllocError>
     requires annotated { IsFunctionAnnotated function.now }
-    requires few { size_of pieces.now < 2 ^ 48 }
-    requires same { length forms.now ≡ length pieces.now.code }
-    requires inside { 4 * (entry + words_in pieces.now.code forms.now) < 2 ^ 32 }
-    ensures { IfOk result (λ row.
-        func row ≡ row_at entry (function_view function.now) pieces.now forms.now) }
+    requires laid { IsLaid pieces.now laid.now }
+    requires inside { 4 * (entry + words_in pieces.now.code laid.now.forms.items) < 2 ^ 32 }
+    ensures { IfOk result (λ row. func row
+        ≡ row_at entry (function_view function.now) pieces.now laid.now.forms.items) }
 {
     Ok(FuncRow {
         name: Name::from_vec(Vec::from_slice(alloc, function.name.as_bytes())?),
         offset: (4 * entry) as u32,
-        words: total_words(pieces.code.as_slice(), forms) as u32,
+        words: laid.words as u32,
         frame: pieces.frame,
         params: comps_of(alloc, function.params.as_slice())?,
         result: result_of(function.body.ty),
@@ -75,16 +73,16 @@ impl<'a, 'b> Source<'a, 'b> {
         requires fits { first_too_large (laid_of self.now) ≡ None }
         ensures { IfOk result (λ rows. map func (contents rows) ≡ (laid_of self.now).funcs) }
     {
-        let mut rows = Vec::new(alloc);
+        let mut rows = Vec::with_capacity(alloc, self.pieces.len())?;
         let mut entry = STUB_WORDS;
         let mut next: usize = 0;
         for item in self.file.items.as_slice() {
             match item {
                 Item::Function(function) => {
                     let pieces = &self.pieces[next];
-                    let forms = self.places.forms[next].as_slice();
-                    rows.push(row(alloc, function, pieces, forms, entry)?)?;
-                    entry += total_words(pieces.code.as_slice(), forms);
+                    let laid = &self.places.forms[next];
+                    rows.push(row(alloc, function, pieces, laid, entry)?)?;
+                    entry += laid.words;
                     next += 1;
                 }
                 Item::Data(_) => {}

@@ -1,17 +1,18 @@
 //! How large the sections of an image become, before any of it is made.
 ghost use Rattle.std.specs.Prelude.{◌≡◌, ◌<◌, ◌^◌, map, sum_by};
-ghost use Rattle.assemble.specs.Sizes.{item_size, symbol_size, call_size, piece_size, pieces_size};
+ghost use Rattle.assemble.specs.Sizes.{item_size, symbol_size, call_size, piece_size, descs_size};
 ghost use Rattle.assemble.specs.Source.{IsSource, laid_of, tree_of};
 ghost use Rattle.image_form.specs.Tables.{ext};
 ghost use Rattle.layout_rules.specs.Externals.{ext_of, externals};
 ghost use Rattle.rv_layout.specs.Sizes.{AreSizesOf};
 
+use crate::places::Laid;
 use crate::source::Source;
 use cmm_data::DataSymbol;
 use cmm_tree::Item;
 use image_form::ExtRow;
 use rv_layout::Sizes;
-use rv_pieces::{Piece, Pieces};
+use rv_pieces::Piece;
 
 /// The bytes of the number of a table's rows.
 const COUNT: u64 = 4;
@@ -84,7 +85,8 @@ fn piece_size(piece: &Piece) -> u64
     }
 }
 
-fn code_size(code: &[Piece]) -> u64
+/// The bytes of the descriptors of a function.
+pub fn code_size(code: &[Piece]) -> u64
     requires { sum_by piece_size code.now < 2 ^ 60 }
     ensures { result ≡ sum_by piece_size code.now }
 {
@@ -96,13 +98,13 @@ fn code_size(code: &[Piece]) -> u64
 }
 
 /// The bytes of all descriptors.
-fn pieces_size(pieces: &[Pieces]) -> u64
-    requires { sum_by pieces_size pieces.now < 2 ^ 60 }
-    ensures { result ≡ sum_by pieces_size pieces.now }
+fn descs_size(functions: &[Laid]) -> u64
+    requires { sum_by descs_size functions.now < 2 ^ 60 }
+    ensures { result ≡ sum_by descs_size functions.now }
 {
     let mut size: u64 = 0;
-    for function in pieces {
-        size += code_size(function.code.as_slice());
+    for function in functions {
+        size += function.descs;
     }
     size
 }
@@ -121,7 +123,7 @@ impl<'a, 'b> Source<'a, 'b> {
             syms: COUNT + symbols_size(self.data.symbols.as_slice()),
             roots: COUNT + 4 * self.data.roots.len() as u64,
             extcs: COUNT + calls_size(calls),
-            descs: COUNT + pieces_size(self.pieces),
+            descs: COUNT + descs_size(self.places.forms.as_slice()),
         }
     }
 }

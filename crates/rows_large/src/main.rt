@@ -24,6 +24,7 @@ use made::pieces_of;
 use rv_pieces::Pieces;
 use std::alloc::{AllocError, Global};
 use std::io::{self, BufRead, BufReader, BufWriter, Write};
+use std::thread::Threads;
 
 /// A text of one function.
 const TEXT: &str = "(function \"f\" () [])";
@@ -36,7 +37,7 @@ fn main(rt: HostRuntime) -> Result<()> {
         if let Some((points, entries)) = line.as_str().split_once(' ') {
             let points = points.parse::<u32>()?;
             let entries = entries.parse::<u32>()?;
-            out.write_all(told(alloc, points, entries)?.as_slice())?;
+            out.write_all(told(&rt, alloc, points, entries)?.as_slice())?;
         }
     }
     out.flush()?;
@@ -60,7 +61,12 @@ fn count_functions(items: &[Item]) -> Result<u32, AllocError>
 }
 
 /// What is said to so many descriptors.
-fn told(alloc: Global, points: u32, entries: u32) -> Result<Vec<u8>, AllocError> {
+fn told<R: Threads + Sync>(
+    rt: &R,
+    alloc: Global,
+    points: u32,
+    entries: u32,
+) -> Result<Vec<u8>, AllocError> {
     let checked = match front(alloc, TEXT.as_bytes()) {
         Ok(checked) => checked,
         Err(_) => return b"no file\n".to_vec(alloc),
@@ -69,17 +75,22 @@ fn told(alloc: Global, points: u32, entries: u32) -> Result<Vec<u8>, AllocError>
     if count_functions(checked.typed().file().items.as_slice())? != 1 {
         return b"no function\n".to_vec(alloc);
     }
-    answer(alloc, &checked, &[pieces])
+    answer(rt, alloc, &checked, &[pieces])
 }
 
 /// The answer to these pieces of the functions of a file.
-fn answer(alloc: Global, checked: &Checked, pieces: &[Pieces]) -> Result<Vec<u8>, AllocError>
+fn answer<R: Threads + Sync>(
+    rt: &R,
+    alloc: Global,
+    checked: &Checked,
+    pieces: &[Pieces],
+) -> Result<Vec<u8>, AllocError>
     requires typed { HoldsTypes (typed_of checked.now) }
     requires placed { HasPlace (typed_of checked.now) }
     requires can { CanBeLaid (tree_of (typed_of checked.now)) pieces.now }
 {
     let placed = place_data(alloc, checked.typed().file())?;
-    match assemble(alloc, pieces, checked.typed(), &placed) {
+    match assemble(rt, alloc, pieces, checked.typed(), &placed, 1) {
         Ok(_) => b"fits\n".to_vec(alloc),
         Err(BuildError::TooLarge(large)) => Ok(large_text(alloc, &large)?.into_vec()),
         Err(BuildError::OutOfMemory) => b"no memory\n".to_vec(alloc),

@@ -1,4 +1,4 @@
-use Rattle.std.proofs.Common.{◌≡◌, Some, Err, Result, sym, ap, ◌∙◌, subst}
+use Rattle.std.proofs.Common.{◌≡◌, Some, Err, Result, sym, ap, ◌∙◌, subst, arith}
 use Rattle.assemble.specs.Places.{forms_in}
 use Rattle.bs_fault.specs.declared.build.BuildError.{BuildError}
 use Rattle.bs_fault.specs.declared.build.BuildError.TheVariants as error
@@ -16,11 +16,14 @@ use Rattle.assemble.proofs.image.assemble.Goals as goal
 same_large : {T : Type 0} (a b : Large) → ◌≡◌ {A = Result T BuildError} (Err (error.TooLarge a)) (Err (error.TooLarge b)) → a ≡ b
 same_large a b e = cc
 
+pub of-requires-clause-numbers : goal.of-requires-clause-numbers
+of-requires-clause-numbers g c = omega (arith, c.requires.can.each_one, c.requires.can.of_file.few_functions)
+
 pub image-requires-clause-fits : goal.image-requires-clause-fits
-image-requires-clause-fits c = sym (c.too_large.ensures _ c.sizes.ensures) ∙ c.in_default.is
+image-requires-clause-fits g c = λ lifetimes outlive. sym (c.too_large.ensures _ c.sizes.ensures) ∙ c.in_default.is
 
 pub returns-in-Some-clause-large : goal.returns-in-Some-clause-large
-returns-in-Some-clause-large c = λ large same.
+returns-in-Some-clause-large g c = λ large same.
     let ps = c.args.pieces.now in
     let forms = forms_in c.in_ok-places.places in
     let t : Tables = laid_out (file_view c.file-file.result.now) ps forms in
@@ -28,10 +31,10 @@ returns-in-Some-clause-large c = λ large same.
     (t, (record { forms = forms; are = c.in_ok-places.ensures.forms; is = ap (λ (f : File). laid_out (file_view f) ps forms) c.file-file.ensures }, found))
 
 pub returns-clause-fits : goal.returns-clause-fits
-returns-clause-fits c = ap first_too_large c.in_ok-image.ensures ∙ (sym (c.too_large.ensures _ c.sizes.ensures) ∙ c.in_default.is)
+returns-clause-fits g c = ap first_too_large c.in_ok-image.ensures ∙ (sym (c.too_large.ensures _ c.sizes.ensures) ∙ c.in_default.is)
 
 pub returns-clause-is_image : goal.returns-clause-is_image
-returns-clause-is_image c =
+returns-clause-is_image g c =
     let ps = c.args.pieces.now in
     let forms = forms_in c.in_ok-places.places in
     let can = subst (λ (f : File). CanBeLaid (file_view f) ps) (sym c.file-file.ensures) c.requires.can in

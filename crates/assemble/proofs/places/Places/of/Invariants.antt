@@ -1,11 +1,10 @@
-use Rattle.std.proofs.Common.{◌+◌, ◌*◌, ◌^◌, ◌≤◌, map, drop}
+use Rattle.std.proofs.Common.{◌≡◌, ◌+◌, ◌++◌, drop}
 use Rattle.std.specs.Prelude.{sum_by}
-use Rattle.assemble.specs.Places.{size_of}
-use Rattle.assemble.proofs.Steps.{Begun}
+use Rattle.assemble.proofs.Steps.{own_words, starts}
 use Rattle.assemble.proofs.places.Places.of.Given as goal
 
 abbrev pub invariant-loop-function : goal.invariant-loop-function
-invariant-loop-function l = record {
-  most : l.at + 3 * sum_by size_of (drop l.function-index l.pieces) ≤ 4 + 3 * 2 ^ 48;
-  begun : Begun l.pieces (drop l.function-index l.pieces) (map (λ own. own.items) l.forms.items) l.entries.items l.at;
+invariant-loop-function g l = record {
+  end : l.at + sum_by own_words (drop l.function-index l.functions) ≡ 4 + sum_by own_words l.functions;
+  entries : l.entries.items ++ starts l.at (drop l.function-index l.functions) ≡ starts 4 l.functions;
 }

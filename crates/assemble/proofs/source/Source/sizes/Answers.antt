@@ -1,8 +1,9 @@
 use Rattle.std.proofs.Common.{ap, arith}
 use Rattle.std.specs.Prelude.{sum_by}
-use Rattle.assemble.specs.Sizes.{item_size, symbol_size}
+use Rattle.assemble.specs.Sizes.{item_size, symbol_size, descs_size}
 use Rattle.assemble.proofs.Bounds.{end_most}
 use Rattle.assemble.proofs.Sized.{sized}
+use Rattle.assemble.proofs.Steps.{descs_laid}
 use Rattle.assemble.proofs.source.Source.sizes.Goals as goal
 
 pub items_size-requires : goal.items_size-requires
@@ -50,19 +51,22 @@ overflow_add-result-4 c =
     let it = sized c.args.self.now c.requires.source c.args.calls.now c.requires.calls in
     omega (arith, it.calls_few, c.calls_size.ensures)
 
-pub pieces_size-requires : goal.pieces_size-requires
-pieces_size-requires c =
-    let it = sized c.args.self.now c.requires.source c.args.calls.now c.requires.calls in
-    omega (arith, it.descs_few)
+pub descs_size-requires : goal.descs_size-requires
+descs_size-requires c =
+    let s = c.args.self.now in
+    let it = sized s c.requires.source c.args.calls.now c.requires.calls in
+    omega (arith, it.descs_few, descs_laid s.pieces.now s.places.now.forms.items c.requires.source.places.each, ap (sum_by descs_size) c.as_slice-3.ensures.value)
 
 pub overflow_add-result-5 : goal.overflow_add-result-5
 overflow_add-result-5 c =
-    let it = sized c.args.self.now c.requires.source c.args.calls.now c.requires.calls in
-    omega (arith, it.descs_few, c.pieces_size.ensures)
+    let s = c.args.self.now in
+    let it = sized s c.requires.source c.args.calls.now c.requires.calls in
+    omega (arith, it.descs_few, c.descs_size.ensures, descs_laid s.pieces.now s.places.now.forms.items c.requires.source.places.each, ap (sum_by descs_size) c.as_slice-3.ensures.value)
 
 pub returns : goal.returns
 returns c =
-    let it = sized c.args.self.now c.requires.source c.args.calls.now c.requires.calls in
+    let s = c.args.self.now in
+    let it = sized s c.requires.source c.args.calls.now c.requires.calls in
     record {
       funcs = omega (arith, it.funcs, c.items_size.ensures, ap (sum_by item_size) c.as_slice.ensures);
       code = it.code;
@@ -70,5 +74,5 @@ returns c =
       syms = omega (arith, it.syms, c.symbols_size.ensures, ap (sum_by symbol_size) c.as_slice-2.ensures);
       roots = omega (arith, it.roots, c.len.ensures);
       extcs = omega (arith, it.extcs, c.calls_size.ensures);
-      descs = omega (arith, it.descs, c.pieces_size.ensures);
+      descs = omega (arith, it.descs, c.descs_size.ensures, descs_laid s.pieces.now s.places.now.forms.items c.requires.source.places.each, ap (sum_by descs_size) c.as_slice-3.ensures.value);
     }
