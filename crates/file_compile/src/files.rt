@@ -32,7 +32,6 @@ use image_listings::{code_text, frames_text};
 use rv_pieces::Pieces;
 use stages::Stage;
 use std::alloc::{AllocError, Global};
-use std::mem::forget;
 use std::thread::Threads;
 
 /// The functions among these items, in the order of the text.
@@ -145,10 +144,7 @@ pub fn compile<R: Threads + Sync, G: Gate + Sync>(
     let functions = functions_of(alloc, file.items.as_slice())?;
     let pieces = all_pieces(rt, alloc, functions.as_slice(), jobs, gate)?;
     let placed = place_data(alloc, file)?;
-    let image = assemble(rt, alloc, pieces.as_slice(), checked.typed(), &placed, jobs);
-    // to free piece by piece would take a good part of the time that one thread works alone, and a file is compiled once
-    forget(pieces);
-    image
+    assemble(rt, alloc, pieces.as_slice(), checked.typed(), &placed, jobs)
 }
 
 /// The texts of these functions at a stage, one after the other.

@@ -9,7 +9,6 @@ use cmm_front::front;
 use file_compile::{Gate, compile};
 use image_form::write_image;
 use std::alloc::Global;
-use std::mem::forget;
 use std::thread::Threads;
 use thiserror::Error;
 
@@ -55,8 +54,6 @@ pub fn compile_text<R: Threads + Sync, G: Gate + Sync>(
         Err(BuildError::TooLarge(large)) => return Err(Refusal::TooLarge(large)),
         Err(BuildError::OutOfMemory) => return Err(Refusal::OutOfMemory),
     };
-    // the program ends soon after, and frees the file sooner than node by node
-    forget(checked);
     match write_image(alloc, &image) {
         Ok(bytes) => Ok(bytes),
         Err(_) => Err(Refusal::OutOfMemory),
