@@ -15,7 +15,7 @@ use Rattle.mach_ir.specs.Acts.{On}
 use Rattle.mach_ir.specs.Formed.{WellFormed}
 use Rattle.mach_ir.specs.Graph.{IsLiveMap}
 use Rattle.mach_ir.specs.Meaning.{Everything, destroyed_by, written, code_at}
-use Rattle.mach_ir.specs.Walks.{OneOf, targets, goes, Leads, Live, Writes, Stands, IsRegister, is_in_code}
+use Rattle.mach_ir.specs.Walks.{Among, OneOf, targets, goes, Leads, Live, Writes, Stands, IsRegister, is_in_code}
 use Rattle.mach_ir.specs.Walks as walks
 use Rattle.mach_ir.specs.declared.graph.LiveMap.{LiveMap}
 use Rattle.mach_ir.specs.declared.op.Op.{Op}
@@ -31,6 +31,7 @@ use Rattle.spill_rules.specs.Chosen.{LivesOver, lives}
 use Rattle.sink_rules.specs.Chosen.{IsSunkAt}
 use Rattle.sink_rules.specs.Walks.{Fresh, Stale}
 use Rattle.sink.specs.Chosen.{is_open, is_call, some_call, has_call, move_at, all_moves, IsMove, AreMoves}
+use Rattle.sink.specs.Mixed.{noted_code}
 use Rattle.sink.specs.Graphs.{held, IsOver, IsBare, IsFreshNode}
 use Rattle.sink.specs.Registers.{entered_code}
 use Rattle.sink.specs.Sights.{noted_places}
@@ -43,27 +44,18 @@ use Rattle.sink.proofs.Entered.{is_entered, length_table, is_live_entered}
 use Rattle.sink.proofs.Graph.{Where, inner, final, beyond, where_is, at, none_past, of}
 use Rattle.sink.proofs.Held.{held_destroys, held_on, held_of, stands_of, ending_of}
 use Rattle.sink.proofs.Living.{not_both}
+use Rattle.sink.proofs.Mixing.{IsMixedIn, is_mixed_in, mixed_is_in}
+use Rattle.sink.proofs.Running.{get_there, run_to, begin_of, begins_there, run_starts}
 use Rattle.sink.proofs.Moving.{Moved, moved, moves_at, in_moves, moves_in, moves_rise, pairs_none}
 use Rattle.sink.proofs.Nodes.{at_last}
 use Rattle.sink.proofs.Seeing.{Sees, unseen, once, often, same_sees, InPlaces, all_seen, length_places}
 use Rattle.sink.proofs.Steps.{among_of, in_numbers, destroys_on, place_back, place_within, ending_place, live_small}
 
--- ---- what stands at a place
+-- ---- sights
 
-get_there : (code : List Instr) (p : ℕ) (i : Instr) (next : List Instr) → drop p code ≡ i ∷ next → slice_get code p ≡ Some i
-get_there [] zero i next e = absurd (bad e)
-  where
-    bad : [] ≡ i ∷ next → ⊥
-    bad e = cc
-get_there [] (suc p) i next e = absurd (bad e)
-  where
-    bad : [] ≡ i ∷ next → ⊥
-    bad e = cc
-get_there (x ∷ xs) zero i next e = ap Some (head e)
-  where
-    head : x ∷ xs ≡ i ∷ next → x ≡ i
-    head e = cc
-get_there (x ∷ xs) (suc p) i next e = get_there xs p i next e
+length_unseen : (size : ℕ) → length (replicate {A = Sight} size Unseen) ≡ size
+length_unseen zero = refl
+length_unseen (suc size) = ap suc (length_unseen size)
 
 unseen_once : (p : ℕ) → Unseen ≡ Once p → ⊥
 unseen_once p e = cc
@@ -83,7 +75,7 @@ call_is : (f : MachOp) → is_call f ≡ true → (g : Op) × (f ≡ mach.Op g)
 call_is (mach.Op g) e = (g, refl)
 call_is (mach.Mark g) e = absurd (not_both false e refl)
 
-pub is_a_call : (f : MachOp) (g : Op) → f ≡ mach.Op g → held f ≡ true → is_call f ≡ true
+is_a_call : (f : MachOp) (g : Op) → f ≡ mach.Op g → held f ≡ true → is_call f ≡ true
 is_a_call (mach.Op g) h e held = held
 is_a_call (mach.Mark g) h e held = absurd (bad e)
   where
@@ -219,8 +211,11 @@ module _ (m : Mach) (formed : WellFormed m) (live : LiveMap) (exact : IsLiveMap 
   abbrev table : List Sight
   table = noted_places s.fresh.rows.items 0 (contents f.places) (replicate s.graph.bound Unseen)
 
+  abbrev mixed : List Bool
+  mixed = noted_code s.fresh.rows.items s.stale.rows.items 0 m.code (replicate bound false)
+
   abbrev moves : List Move
-  moves = all_moves m.code s.stale.rows.items registers table
+  moves = all_moves m.code s.stale.rows.items mixed registers table
 
   unique : (r q : Reg) → walks.InCode r m.code → walks.InCode q m.code → r.number ≡ q.number → r ≡ q
   unique r q a b e = formed.numbers r q (is_in_code a) (is_in_code b) e
@@ -254,37 +249,112 @@ module _ (m : Mach) (formed : WellFormed m) (live : LiveMap) (exact : IsLiveMap 
   tail_same : {i j : Instr} {xs ys : List Instr} → i ∷ xs ≡ j ∷ ys → xs ≡ ys
   tail_same e = cc
 
+  -- ---- mixed reads
+
+  abbrev MixedReads : ℕ → Type 0
+  MixedReads n = IsMixedIn s.fresh.rows.items s.stale.rows.items 0 m.code n
+
+  -- a read is at its place, where the register is live
+  live_read : {n : ℕ} {i : Instr} {next : List Instr} (p : ℕ) → drop p m.code ≡ i ∷ next → Among n i.args → Live m n (drop p m.code)
+  live_read p e a = subst (Live m _) (sym e) (walks.read a)
+
+  mixed_read : (n : ℕ) (j : Instr) (others : List Instr) → Stands j others m.code → Among n j.args → Fresh m n (j ∷ others) →
+      Stale m n (j ∷ others) → MixedReads n
+  mixed_read n j others st a fr old =
+      let p = place_of m (j ∷ others) in
+      let e = place_is m (ending_of st) in
+      let v = live_read p e a in
+      record {
+        index = p;
+        instr = j;
+        next = others;
+        is = e;
+        reads = a;
+        fresh_there = ap (λ q. has (row s.fresh.rows.items q) n) (sym (same p))
+            ∙ ((is.fresh).exact p n (place_within m (j ∷ others)) v).1 (subst (Fresh m n) (sym e) fr);
+        stale_there = ap (λ q. has (row s.stale.rows.items q) n) (sym (same p))
+            ∙ ((is.stale).exact p n (place_within m (j ∷ others)) v).1 (subst (Stale m n) (sym e) old);
+      }
+    where
+      same : (q : ℕ) → q ≡ 0 + q
+      same q = omega arith
+
+  read_mixed : (n : ℕ) → MixedReads n →
+      (j : Instr) × (others : List Instr) × Stands j others m.code × Among n j.args × Fresh m n (j ∷ others) × Stale m n (j ∷ others)
+  read_mixed n x =
+      let p = x.index in
+      let v = live_read p x.is x.reads in
+      let le : p ≤ length m.code = inside m.code p x.is in (
+        x.instr,
+        x.next,
+        stands_of (ending_place m p x.is),
+        x.reads,
+        subst (Fresh m n) x.is (((is.fresh).exact p n le v).0 (ap (λ q. has (row s.fresh.rows.items q) n) (same p) ∙ x.fresh_there)),
+        subst (Stale m n) x.is (((is.stale).exact p n le v).0 (ap (λ q. has (row s.stale.rows.items q) n) (same p) ∙ x.stale_there)),
+      )
+    where
+      same : (q : ℕ) → q ≡ 0 + q
+      same q = omega arith
+
+      inside : (code : List Instr) (p : ℕ) {i : Instr} {next : List Instr} → drop p code ≡ i ∷ next → p ≤ length code
+      inside code zero e = omega arith
+      inside [] (suc p) {i} {next} e = absurd (bad e)
+        where
+          bad : [] ≡ i ∷ next → ⊥
+          bad e = cc
+      inside (x ∷ xs) (suc p) e = let le = inside xs p e in omega (arith, le)
+
   -- ---- each move
+
+  table_small : (k : ℕ) → k < length table → k < bound
+  table_small k lt =
+      subst (λ l. k < l)
+      (length_places s.fresh.rows.items 0 (contents f.places) (replicate s.graph.bound Unseen) ∙ length_unseen s.graph.bound ∙ is.bound_is) lt
 
   is_move : (move : Move) → Contains moves move → IsMove m move
   is_move move c =
-      let k = in_moves m.code s.stale.rows.items registers table move c in
-      let x = moved m.code s.stale.rows.items (slice_index_or registers k.0 None) (slice_index_or table k.0 Unseen) move k.2 in
+      let k = in_moves m.code s.stale.rows.items mixed registers table move c in
+      let x = moved m.code s.stale.rows.items mixed (slice_index_or registers k.0 None) (slice_index_or table k.0 Unseen) move k.2 in
       let r = move.reg in
       let entered = is_entered m unique bound k.0 r x.reg in
       let t = seen_once x.sight (sees k.0 k.1) in
-      made move x entered.0
-      (subst (λ n. IsSeen n move.place) (sym entered.1) t.0) (λ q h. t.1 q (subst (λ n. IsSeen n q) entered.1 h))
+      made move x entered.0 (subst (λ n. n < bound) (sym entered.1) (table_small k.0 k.1))
+      (subst (λ n. IsSeen n x.call) (sym entered.1) t.0) (λ q h. t.1 q (subst (λ n. IsSeen n q) entered.1 h))
     where
-      made : (move : Move) {o : Option Reg} {sight : Sight} → Moved m.code s.stale.rows.items o sight move → walks.InCode move.reg m.code →
-          IsSeen move.reg.number move.place → ((q : ℕ) → IsSeen move.reg.number q → q ≡ move.place) → IsMove m move
-      made move x code h only =
+      made : (move : Move) {o : Option Reg} {sight : Sight} (x : Moved m.code s.stale.rows.items mixed o sight move) → walks.InCode move.reg m.code →
+          move.reg.number < bound → IsSeen move.reg.number x.call → ((q : ℕ) → IsSeen move.reg.number q → q ≡ x.call) → IsMove m move
+      made move x code small h only =
           let i = h.instr in
           let next = h.next in
-          let p = move.place in
+          let p = x.call in
+          let q = move.place in
           let n = move.reg.number in
           let calls : is_call i.op ≡ true = sym (ap some_call (get_there m.code p i next h.is_at)) ∙ x.calls in
           let op = call_is i.op calls in
           let l = lives_of h.over in
+          let ran = run_to m n q p i next h.is_at (within p h.here) x.begins in
+          let begin = begin_of m n q i next ran in
+          let first = begin.0 in
+          let rest = begin.1 in
           record {
-            instr = i;
-            next = next;
-            place = sym (place_back m p (i ∷ next) (within p h.here) h.is_at);
+            instr = first;
+            next = rest;
+            place = sym (place_back m q (first ∷ rest) ran.within begin.2);
             sunk_at = record {
               register = is_in_code code;
               open_place = open_is move.reg.loc x.open_place;
-              call = op.0;
-              is_call = op.1;
+              stands = stands_of (ending_place m q begin.2);
+              call = i;
+              after = next;
+              run = record {
+                run = ran.run;
+                is = sym begin.2 ∙ ran.is;
+                straight = ran.straight;
+                unwritten = ran.unwritten;
+                begins = begins_there m n q (first ∷ rest) begin.2 ran.within ran.begins;
+                operation = op.0;
+                is_call = op.1;
+              };
               to = next;
               over = h.over;
               unsaved = h.fresh;
@@ -297,6 +367,9 @@ module _ (m : Mach) (formed : WellFormed m) (live : LiveMap) (exact : IsLiveMap 
                   let same = only (place_of m (j ∷ others)) y in
                   tail_same
                   (sym (place_is m (ending_of (lives_of o).stands)) ∙ ap (λ q. drop q m.code) same ∙ h.is_at);
+              late = λ j others st a fr old.
+                  not_both (has mixed n)
+                  (mixed_is_in s.fresh.rows.items s.stale.rows.items m.code bound n small (mixed_read n j others st a fr old)) x.unmixed;
             };
           }
 
@@ -306,7 +379,9 @@ module _ (m : Mach) (formed : WellFormed m) (live : LiveMap) (exact : IsLiveMap 
       IsSunkAt m i next r → Contains moves (record { reg = r; place = place_of m (i ∷ next) })
   is_all old flow_is old_formed same i next r a =
       let n = r.number in
-      let p = place_of m (i ∷ next) in
+      let call = a.call in
+      let after = a.after in
+      let p = place_of m (call ∷ after) in
       let l = lives_of a.over in
       let ending = ending_of l.stands in
       let small : n < bound = subst (λ b. n < b) same (live_small m old flow_is old_formed l.before ending) in
@@ -314,39 +389,39 @@ module _ (m : Mach) (formed : WellFormed m) (live : LiveMap) (exact : IsLiveMap 
       let same_reg : e.0 ≡ r = formed.numbers e.0 r (is_in_code e.1) a.register e.2 in
       let in_table : n < length table =
       subst (λ k. n < k)
-      (sym (length_places s.fresh.rows.items 0 (contents f.places) (replicate s.graph.bound Unseen) ∙ length_empty s.graph.bound ∙ is.bound_is)) small in
+      (sym (length_places s.fresh.rows.items 0 (contents f.places) (replicate s.graph.bound Unseen) ∙ length_unseen s.graph.bound ∙ is.bound_is)) small in
       let seen = to_seen n p (from_seen a.over a.unsaved) in
       let sight : slice_index_or table n Unseen ≡ Once p =
       once_seen (sees n in_table) seen
       (λ q h.
       sym (place_back m q (h.instr ∷ h.next) (within q h.here) h.is_at)
-      ∙ place_same h.instr h.next (a.only h.instr h.next h.next h.over h.fresh)) in
+      ∙ place_same h.instr h.next call after (a.only h.instr h.next h.next h.over h.fresh)) in
       let calls : some_call (slice_get m.code p) ≡ true =
-      ap some_call (get_there m.code p i next (place_is m ending)) ∙ is_a_call i.op a.call a.is_call l.is_held in
+      ap some_call (get_there m.code p call after (place_is m ending)) ∙ is_a_call call.op (a.run).operation (a.run).is_call l.is_held in
       let surely : has (row s.stale.rows.items p) n ≡ false =
       ⊎_elim
       (λ t.
       absurd
       (a.surely
       (subst (Stale m n) (place_is m ending)
-      (((is.stale).exact p n (place_within m (i ∷ next)) (subst (Live m n) (sym (place_is m ending)) l.before)).0 t))))
+      (((is.stale).exact p n (place_within m (call ∷ after)) (subst (Live m n) (sym (place_is m ending)) l.before)).0 t))))
       (λ t. t) (cases_Bool (has (row s.stale.rows.items p) n)) in
-      moves_in m.code s.stale.rows.items registers table n (record { reg = r; place = p })
+      let unmixed : has mixed n ≡ false =
+      ⊎_elim
+      (λ t.
+      let x = read_mixed n (is_mixed_in s.fresh.rows.items s.stale.rows.items m.code bound n t) in
+      absurd (a.late x.0 x.1 x.2 x.3 x.4 x.5))
+      (λ t. t) (cases_Bool (has mixed n)) in
+      moves_in m.code s.stale.rows.items mixed registers table n (record { reg = r; place = place_of m (i ∷ next) })
       (subst (λ k. n < k) (sym (length_table m unique bound)) small) in_table
-      (ap (λ o. move_at m.code s.stale.rows.items o (slice_index_or table n Unseen)) (e.3 ∙ ap Some same_reg)
-      ∙ ap (move_at m.code s.stale.rows.items (Some r)) sight
-      ∙ moves_at m.code s.stale.rows.items r p (ap is_open a.open_place) calls surely)
+      (ap (λ o. move_at m.code s.stale.rows.items mixed o (slice_index_or table n Unseen)) (e.3 ∙ ap Some same_reg)
+      ∙ ap (move_at m.code s.stale.rows.items mixed (Some r)) sight
+      ∙ moves_at m.code s.stale.rows.items mixed r p (place_of m (i ∷ next)) (ap is_open a.open_place) calls surely unmixed
+      (run_starts m n (ending_of a.stands) a.run))
     where
-      place_same : (j : Instr) (others : List Instr) → others ≡ next → place_of m (j ∷ others) ≡ place_of m (i ∷ next)
-      place_same j others e = ap (λ xs. length m.code - suc (length xs)) e
-
-      length_empty : (size : ℕ) → length (replicate {A = Sight} size Unseen) ≡ size
-      length_empty zero = refl
-      length_empty (suc size) = ap suc (length_empty size)
-
-  length_unseen : (size : ℕ) → length (replicate {A = Sight} size Unseen) ≡ size
-  length_unseen zero = refl
-  length_unseen (suc size) = ap suc (length_unseen size)
+      place_same : (j : Instr) (others : List Instr) (call : Instr) (after : List Instr) → others ≡ after →
+          place_of m (j ∷ others) ≡ place_of m (call ∷ after)
+      place_same j others call after e = ap (λ xs. length m.code - suc (length xs)) e
 
   pub lengths : (rs : List (Option Reg)) (ss : List Sight) → rs ≡ registers → ss ≡ table → length rs ≡ length ss
   lengths rs ss e h =
@@ -360,7 +435,7 @@ module _ (m : Mach) (formed : WellFormed m) (live : LiveMap) (exact : IsLiveMap 
       (record {
         each = is_move;
         all = is_all old flow_is old_formed same;
-        rising = moves_rise m.code s.stale.rows.items registers table 0
+        rising = moves_rise m.code s.stale.rows.items mixed registers table 0
             (λ k r h. (is_entered m unique bound k r h).1 ∙ plain_back k);
       })
     where
@@ -387,7 +462,7 @@ none_moved m code found same e none =
     subst (AreMoves m) (sym none)
     (record {
       each = λ move c. absurd (none_in move c);
-      all = λ i next r a. absurd (bad a.over a.is_call);
+      all = λ i next r a. absurd (bad a.over (a.run).is_call);
       rising = pairs_none (λ (x y : Move). x.reg.number < y.reg.number);
     })
   where

@@ -34,7 +34,9 @@ length_entered (r ∷ rs) t = length_entered rs (one r t) ∙ length_one r t
 
 -- a register stands at its own number, or nothing changed
 one_at : (r : Reg) (t : List (Option Reg)) (n : ℕ) → (at (one r t) n ≡ at t n) ⊎ ((n ≡ r.number) × (at (one r t) n ≡ Some r))
-one_at r t n = ⊎_elim (λ e. set e (same_or n r.number)) (λ e. inl (ap (λ b. at (cond b (slice_set t r.number (Some r)) t) n) e)) (cases_Bool (nat_lt r.number (length t)))
+one_at r t n =
+    ⊎_elim (λ e. set e (same_or n r.number)) (λ e. inl (ap (λ b. at (cond b (slice_set t r.number (Some r)) t) n) e))
+    (cases_Bool (nat_lt r.number (length t)))
   where
     in_set : (e : nat_lt r.number (length t) ≡ true) → at (one r t) n ≡ at (slice_set t r.number (Some r)) n
     in_set e = ap (λ b. at (cond b (slice_set t r.number (Some r)) t) n) e

@@ -6,9 +6,11 @@ mod Popping
 mod Graph
 mod StaleFlow
 mod FreshFlow
+mod Running
 mod Copying
 mod Seeing
 mod Entered
 mod Moving
+mod Mixing
 mod Choosing
 mod Planning

@@ -4,25 +4,23 @@ use Rattle.std.proofs.lemmas.Bool.{cases_Bool, eq-eqb, eqb-true}
 use Rattle.std.specs.List.{AllPairs, Contains}
 use Rattle.std.specs.Prelude.{nat_eq}
 use Rattle.mach_ir.specs.Formed.{WellFormed}
-use Rattle.mach_ir.specs.Walks.{goes, Stands, here, below, IsRegister}
-use Rattle.mach_ir.specs.declared.op.Op.{Op}
+use Rattle.mach_ir.specs.Walks.{Stands, here, below, IsRegister}
 use Rattle.mach_ir.specs.declared.reg.Reg.{Reg}
 use Rattle.mach_ir.specs.declared.mach.Instr.{Instr}
 use Rattle.mach_ir.specs.declared.mach.Mach.{Mach}
-use Rattle.mach_ir.specs.declared.mach.MachOp.TheVariants as mach
 use Rattle.mach_laws.specs.Expand.{expand}
 use Rattle.mach_laws.specs.Graph.{place_of}
 use Rattle.mach_laws.proofs.Walking.{none_in, first_in, later_in, in_cons, place_is}
-use Rattle.spill_rules.specs.Chosen.{LivesOver, lives}
 use Rattle.sink_rules.specs.Chosen.{IsSunkAt, IsChosen, IsSunk}
 use Rattle.sink_rules.specs.Sunk.{Plan, to_itself, moves_of, sunk_instr}
-use Rattle.sink.specs.Chosen.{is_call, AreMoves}
+use Rattle.sink.specs.Chosen.{AreMoves}
+use Rattle.sink.specs.Runs.{begins_at}
 use Rattle.sink.specs.Moves.{moves_before, instr_at, code_at}
 use Rattle.sink.specs.declared.chosen.Move.{Move}
-use Rattle.sink.proofs.Held.{held_of, ending_of}
+use Rattle.sink.proofs.Held.{ending_of}
 use Rattle.sink.proofs.Living.{not_both}
 use Rattle.sink.proofs.Moving.{pairs_none, pairs_more, pairs_first, pairs_rest}
-use Rattle.sink.proofs.Choosing.{is_a_call}
+use Rattle.sink.proofs.Running.{begins_of, one_start}
 
 -- ---- tests
 
@@ -120,9 +118,10 @@ code_same f g [] h = refl
 code_same f g (i ∷ is) h =
     ap (λ xs. xs ++ expand f is) (h i is here) ∙ ap (λ xs. g (length is) i ++ xs) (code_same f g is (λ j next s. h j next (below s)))
 
-bare : (end : ℕ) (code : List Instr) → code ≡ code_at [] end code
-bare end [] = refl
-bare end (i ∷ is) = ap (λ xs. i ∷ xs) (bare end is) ∙ ap (λ xs. xs ++ code_at [] end is) (one (is_call i.op))
+bare : (whole code : List Instr) → code ≡ code_at [] whole code
+bare whole [] = refl
+bare whole (i ∷ is) =
+    ap (λ xs. i ∷ xs) (bare whole is) ∙ ap (λ xs. xs ++ code_at [] whole is) (one (begins_at whole (length whole - 1 - length is)))
   where
     one : (b : Bool) → i ∷ [] ≡ cond b ([] ++ i ∷ []) (i ∷ [])
     one true = refl
@@ -137,12 +136,6 @@ module _ (m : Mach) (formed : WellFormed m) (moves : List Move) (are : AreMoves 
     where
       minus : (a b : ℕ) → a - 1 - b ≡ a - suc b
       minus a b = omega arith
-
-  stands_over : {n : ℕ} {i : Instr} {next to : List Instr} → LivesOver m n i next to → Stands i next m.code
-  stands_over (lives s d w l v) = s
-
-  calls_over : {n : ℕ} {i : Instr} {next to : List Instr} (g : Op) → LivesOver m n i next to → i.op ≡ mach.Op g → is_call i.op ≡ true
-  calls_over {i = i} g (lives s d w (goes t o) v) e = is_a_call i.op g e (held_of i.op t d o)
 
   -- a place is that of one instruction
   same_code : {i j : Instr} {next others : List Instr} → Stands i next m.code → Stands j others m.code →
@@ -164,7 +157,7 @@ module _ (m : Mach) (formed : WellFormed m) (moves : List Move) (are : AreMoves 
   sunk_there i next r s known t =
       let x = are.each t.move t.among in
       let a = x.sunk_at in
-      let same = same_code s (stands_over a.over) (sym x.place ∙ t.place ∙ place_now i next) in
+      let same = same_code s a.stands (sym x.place ∙ t.place ∙ place_now i next) in
       let reg : t.move.reg ≡ r = formed.numbers t.move.reg r a.register known t.number in
       subst (IsSunkAt m i next) reg
       (subst (λ (i : Instr). IsSunkAt m i next t.move.reg) (head_is same)
@@ -205,8 +198,11 @@ module _ (m : Mach) (formed : WellFormed m) (moves : List Move) (are : AreMoves 
         (λ e.
         let y = are.each x c in
         let a = sunk_there i next x.reg s (y.sunk_at).register (there_of moves x.reg.number p e) in
-        let after : next ≡ y.next = (y.sunk_at).only i next a.to a.over a.unsaved in
-        eq-eqb x.place p (y.place ∙ ap (λ xs. length m.code - suc (length xs)) (sym after) ∙ sym (place_now i next)))
+        let b = y.sunk_at in
+        let after : a.after ≡ b.after = b.only a.call a.after a.to a.over a.unsaved in
+        let same : place_of m (i ∷ next) ≡ place_of m (y.instr ∷ y.next) =
+        one_start m x.reg.number (ending_of a.stands) (ending_of b.stands) a.run b.run after in
+        eq-eqb x.place p (y.place ∙ sym same ∙ sym (place_now i next)))
 
     moves_same : (xs : List Move) → ((x : Move) → Contains xs x → Contains moves x) → moves_before xs p ≡ moves_of plan (length next) (regs_of xs)
     moves_same [] known = refl
@@ -215,7 +211,7 @@ module _ (m : Mach) (formed : WellFormed m) (moves : List Move) (are : AreMoves 
         ∙ ap (λ ys. cond (plan.moves (length next) x.reg.number) (to_itself x.reg ∷ ys) ys)
         (moves_same xs (λ y c. known y (later_in x y xs c)))
 
-    none_same : is_call i.op ≡ false → (xs : List Move) → ((x : Move) → Contains xs x → Contains moves x) →
+    none_same : begins_at m.code p ≡ false → (xs : List Move) → ((x : Move) → Contains xs x → Contains moves x) →
         moves_of plan (length next) (regs_of xs) ≡ []
     none_same e [] known = refl
     none_same e (x ∷ xs) known =
@@ -227,28 +223,28 @@ module _ (m : Mach) (formed : WellFormed m) (moves : List Move) (are : AreMoves 
         never h =
             let y = are.each x (known x (first_in x xs)) in
             let a = sunk_there i next x.reg s (y.sunk_at).register (there_of moves x.reg.number p h) in
-            not_both (is_call i.op) (calls_over a.call a.over a.is_call) e
+            not_both (begins_at m.code p) (ap (begins_at m.code) (place_now i next) ∙ begins_of m x.reg.number (ending_of a.stands) a.run) e
 
-    instr_same : instr_at moves p i ≡ sunk_instr plan (length next) i
+    instr_same : instr_at moves (begins_at m.code p) p i ≡ sunk_instr plan (length next) i
     instr_same =
         ⊎_elim
         (λ e.
         ap (λ b. cond b (moves_before moves p ++ i ∷ []) (i ∷ [])) e ∙ ap (λ xs. xs ++ i ∷ []) (moves_same moves (λ x c. c)))
         (λ e.
         ap (λ b. cond b (moves_before moves p ++ i ∷ []) (i ∷ [])) e ∙ ap (λ xs. xs ++ i ∷ []) (sym (none_same e moves (λ x c. c))))
-        (cases_Bool (is_call i.op))
+        (cases_Bool (begins_at m.code p))
 
-  pub sunk_by : (code : List Instr) → code ≡ code_at moves (length m.code) m.code → IsSunk m (record m { code = code })
+  pub sunk_by : (code : List Instr) → code ≡ code_at moves m.code m.code → IsSunk m (record m { code = code })
   sunk_by code e =
       record {
         plan = plan;
         chosen = is_chosen;
         is = ap (λ xs. record m { code = xs })
-            (e ∙ code_same (λ k i. instr_at moves (length m.code - 1 - k) i) (sunk_instr plan) m.code instr_same);
+            (e ∙ code_same (λ k i. instr_at moves (begins_at m.code (length m.code - 1 - k)) (length m.code - 1 - k) i) (sunk_instr plan) m.code instr_same);
       }
 
   pub unsunk : moves ≡ [] → IsSunk m m
-  unsunk none = sunk_by m.code (bare (length m.code) m.code ∙ ap (λ xs. code_at xs (length m.code) m.code) (sym none))
+  unsunk none = sunk_by m.code (bare m.code m.code ∙ ap (λ xs. code_at xs m.code m.code) (sym none))
 
 pub none_of : {A : Type 0} (xs : List A) → length xs ≡ 0 → xs ≡ []
 none_of [] e = refl

@@ -25,7 +25,8 @@ pub record Turning (all items made : List place.Place) : Type 0 where
   pub turned : AreTurned done made
 
 -- the last item of a list that has one
-pub popped : (all new : List place.Place) (o : Option place.Place) (n : ℕ) → n ≡ length all → all ≡ new ++ option_to_list o → 0 < length all → (IsSome o ↔ (0 < n)) →
+pub popped : (all new : List place.Place) (o : Option place.Place) (n : ℕ) → n ≡ length all → all ≡ new ++ option_to_list o → 0 < length all →
+    (IsSome o ↔ (0 < n)) →
     (x : place.Place) × (all ≡ new ++ x ∷ [])
 popped all new (Some x) n k e some h = (x, e)
 popped all new None n k e some h = absurd (bad (h.1 (subst (λ n. 0 < n) (sym k) some)))
@@ -36,8 +37,8 @@ popped all new None n k e some h = absurd (bad (h.1 (subst (λ n. 0 < n) (sym k)
 shifted : (all items rest done : List place.Place) (x : place.Place) → items ≡ rest ++ x ∷ [] → items ++ done ≡ all → rest ++ x ∷ done ≡ all
 shifted all items rest done x e w = sym (append_assoc rest (x ∷ []) done) ∙ ap (λ xs. xs ++ done) (sym e) ∙ w
 
-pub turning_begun : (all new old made : List place.Place) (o : Option place.Place) (y : place.Place) (n : ℕ) → n ≡ length all → all ≡ new ++ option_to_list o → 0 < length all →
-    (IsSome o ↔ (0 < n)) → IsBare y → old ≡ [] → made ≡ y ∷ old → Turning all new made
+pub turning_begun : (all new old made : List place.Place) (o : Option place.Place) (y : place.Place) (n : ℕ) → n ≡ length all →
+    all ≡ new ++ option_to_list o → 0 < length all → (IsSome o ↔ (0 < n)) → IsBare y → old ≡ [] → made ≡ y ∷ old → Turning all new made
 turning_begun all new old made o y n k e some h bare none m =
     let p = popped all new o n k e some h in
     record { done = p.0 ∷ []; whole = sym p.1; turned = subst (AreTurned (p.0 ∷ [])) (sym (m ∙ ap (λ xs. y ∷ xs) none)) (turned_end bare) }

@@ -110,30 +110,6 @@ module _ (m : Mach) where
 
   -- ---- steps
 
-  -- a step leads from a place to another
-  pub record Steps (o q : ℕ) : Type 0 where
-    pub instr : Instr
-    pub next : List Instr
-    pub is : drop o m.code ≡ instr ∷ next
-    pub target : Target
-    pub one : OneOf target (targets instr.op)
-    pub to : drop q m.code ≡ code_at m.code next target
-    pub lands : q ≤ length m.code
-
-  pub steps_of : (o q : ℕ) (rest : List Instr) → drop o m.code ≡ rest → Contains (next_places m rest) q → Steps o q
-  steps_of o q [] e c = absurd (none_in q c)
-  steps_of o q (i ∷ next) e c =
-      let t = target_of next (targets i.op) q c in
-      record {
-        instr = i;
-        next = next;
-        is = e;
-        target = t.0;
-        one = t.1;
-        to = sym (ap (λ k. drop k m.code) t.2) ∙ place_is m (ending_at t.0 (ending_place o e));
-        lands = subst (λ q. q ≤ length m.code) t.2 (place_within (code_at m.code next t.0));
-      }
-
   pub steps_to : {i : Instr} {next to : List Instr} → Leads m i next to → Contains (next_places m (i ∷ next)) (place_of m to)
   steps_to {i} {next} (goes t o) = in_targets next o
 

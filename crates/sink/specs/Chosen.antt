@@ -1,5 +1,5 @@
 -- Which registers are moved to themselves, and where.
-use Rattle.std.specs.Prelude.{◌≡◌, ◌<◌, Bool, true, false, cond, not, ◌&&◌, ◌||◌, List, [], ◌∷◌, ◌++◌, Option, Some, None, option_to_list, slice_get, AllPairs, Contains}
+use Rattle.std.specs.Prelude.{◌≡◌, ◌<◌, ℕ, Bool, true, false, cond, not, ◌&&◌, ◌||◌, List, [], ◌∷◌, ◌++◌, Option, Some, None, option_to_list, slice_get, AllPairs, Contains}
 use Rattle.bs_bits.specs.Set.{has}
 use Rattle.bs_words.specs.declared.types.Loc.{Loc}
 use Rattle.bs_words.specs.declared.types.Loc.TheVariants as loc
@@ -12,6 +12,7 @@ use Rattle.mach_ir.specs.declared.mach.MachOp.TheVariants as mach
 use Rattle.mach_laws.specs.Graph.{place_of}
 use Rattle.sink_rules.specs.Chosen.{IsSunkAt}
 use Rattle.sink.specs.Graphs.{held}
+use Rattle.sink.specs.Runs.{run_start}
 use Rattle.sink.specs.declared.chosen.Move.{Move}
 use Rattle.sink.specs.declared.sights.Sight.{Sight}
 use Rattle.sink.specs.declared.sights.Sight.TheVariants as sight
@@ -35,21 +36,32 @@ abbrev pub has_call : List Instr → Bool
 has_call [] = false
 has_call (i ∷ is) = is_call i.op || has_call is
 
--- the move of a register before the one place where it was seen
-abbrev pub move_at : List Instr → List (List Bool) → Option Reg → Sight → Option Move
-move_at code stale None s = None
-move_at code stale (Some r) sight.Unseen = None
-move_at code stale (Some r) sight.Often = None
-move_at code stale (Some r) (sight.Once p) =
-    cond (is_open r.loc && (some_call (slice_get code p) && not (has (row stale p) r.number)))
-    (Some (record { reg = r; place = p })) None
+abbrev pub move_before : Reg → Option ℕ → Option Move
+move_before r None = None
+move_before r (Some p) = Some (record { reg = r; place = p })
+
+-- whether an open register is not stale at a call, and no read finds it mixed
+abbrev pub is_sure : List Instr → List (List Bool) → List Bool → Reg → ℕ → Bool
+is_sure code stale mixed r p =
+    is_open r.loc
+    && (some_call (slice_get code p)
+    && (not (has (row stale p) r.number) && not (has mixed r.number)))
+
+-- the move of a register before the straight run to the one place where it was seen
+abbrev pub move_at : List Instr → List (List Bool) → List Bool → Option Reg → Sight → Option Move
+move_at code stale mixed None s = None
+move_at code stale mixed (Some r) sight.Unseen = None
+move_at code stale mixed (Some r) sight.Often = None
+move_at code stale mixed (Some r) (sight.Once p) =
+    cond (is_sure code stale mixed r p) (move_before r (run_start code r.number p)) None
 
 -- those of all numbers
-abbrev pub all_moves : List Instr → List (List Bool) → List (Option Reg) → List Sight → List Move
-all_moves code stale [] ss = []
-all_moves code stale (r ∷ rs) [] = []
-all_moves code stale (r ∷ rs) (s ∷ ss) =
-    option_to_list (move_at code stale r s) ++ all_moves code stale rs ss
+abbrev pub all_moves : List Instr → List (List Bool) → List Bool → List (Option Reg) →
+    List Sight → List Move
+all_moves code stale mixed [] ss = []
+all_moves code stale mixed (r ∷ rs) [] = []
+all_moves code stale mixed (r ∷ rs) (s ∷ ss) =
+    option_to_list (move_at code stale mixed r s) ++ all_moves code stale mixed rs ss
 
 -- a move is one of a register that is sunk there
 pub record IsMove (m : Mach) (move : Move) : Type 0 where

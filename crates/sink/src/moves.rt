@@ -1,9 +1,10 @@
 //! The function with its moves.
-ghost use Rattle.std.specs.Prelude.{◌≡◌, ◌++◌, ◌∷◌, [], length, IfOk};
+ghost use Rattle.std.specs.Prelude.{◌≡◌, ◌++◌, ◌∷◌, [], IfOk};
 ghost use Rattle.sink_rules.specs.Sunk.{to_itself};
 ghost use Rattle.sink.specs.Moves.{moves_before, instr_at, code_at};
 
-use crate::chosen::{Move, is_call};
+use crate::chosen::Move;
+use crate::runs::begins_at;
 use liveness::Backward;
 use mach_ir::{CopyKind, Instr, MachOp, Op, Pure, Reg, Seq};
 use std::alloc::{AllocError, Global};
@@ -52,19 +53,20 @@ fn push_all(made: &mut Backward<Instr>, instrs: Vec<Instr>) -> Result<(), AllocE
     Ok(())
 }
 
-/// Puts the instruction at the place before the others, with its moves.
+/// Puts the instruction at the place before the others, with its moves: there are some only where a
+/// straight run may begin.
 fn push_instr(
     alloc: Global,
     moves: &[Move],
+    begins: bool,
     place: usize,
     instr: Instr,
     made: &mut Backward<Instr>,
 ) -> Result<(), AllocError>
-    ensures { IfOk result (λ _. made.new ≡ instr_at moves.now place instr ++ made.old) }
+    ensures { IfOk result (λ _. made.new ≡ instr_at moves.now begins place instr ++ made.old) }
 {
-    let calls = is_call(&instr.op);
     made.push(instr)?;
-    if calls {
+    if begins {
         let before = moves_before(alloc, moves, place)?;
         push_all(made, before)?;
     }
@@ -73,13 +75,14 @@ fn push_instr(
 
 /// The code with its moves.
 pub fn move_code(alloc: Global, moves: &[Move], code: Seq<Instr>) -> Result<Seq<Instr>, AllocError>
-    ensures { IfOk result (λ made. made ≡ code_at moves.now (length code) code) }
+    ensures { IfOk result (λ made. made ≡ code_at moves.now code code) }
 {
     let mut items = code.into_vec();
     let mut made = Backward::with_capacity(alloc, items.len())?;
     while let Some(instr) = items.pop() {
         let place = items.len();
-        push_instr(alloc, moves, place, instr, &mut made)?;
+        let begins = begins_at(&items, place);
+        push_instr(alloc, moves, begins, place, instr, &mut made)?;
     }
     Ok(Seq::from_vec(made.into_vec()))
 }

@@ -5,6 +5,7 @@ ghost use Rattle.sink_rules.specs.Chosen.{IsSunk};
 ghost use Rattle.sink.specs.Chosen.{has_call, AreMoves};
 
 use crate::chosen::{Move, choose, is_call};
+use crate::mixed::mixed_reads;
 use crate::moves::move_code;
 use crate::registers::registers_read;
 use crate::sights::sights;
@@ -39,18 +40,21 @@ fn moves_of(alloc: Global, mach: &Mach) -> Result<Vec<Move>, AllocError>
     let solved = solve(alloc, mach, &live, flow)?;
     let sights = sights(alloc, &solved.fresh, &solved.graph)?;
     let registers = registers_read(alloc, code, bound)?;
-    let moves = choose(alloc, code, &solved.stale, &registers, &sights)?;
+    let mixed = mixed_reads(alloc, code, &solved.fresh, &solved.stale, bound)?;
+    let moves = choose(alloc, code, &solved.stale, &mixed, &registers, &sights)?;
     Ok(moves)
 }
 
 /// The function in which registers are moved to themselves before calls: each open one that lives over a
-/// call, surely was written since the last call or entry of a handler there, and was written since then
-/// before no other that it lives over.
+/// call, surely was written since the last call or entry of a handler there, may have been written since then
+/// before no other that it lives over, and is read nowhere where it both may and may not have been. It is
+/// moved at the begin of the straight run to the call, where no instruction of that run writes it.
 ///
 /// A function with no call is handed back as it is, and so is one in which no register is moved. Else the
 /// flow graph of the function is made once, and what is live, what is stale and what is fresh are solved
 /// over it. The time is that of a sweep over the function for each depth of its loops and two more, three
-/// times. The only error is want of memory, which more places or registers than a number can count are too.
+/// times, and for each of these registers that of the way back from the call to the begin of its run. The
+/// only error is want of memory, which more places or registers than a number can count are too.
 pub fn sink(alloc: Global, mach: Mach) -> Result<Mach, AllocError>
     requires { WellFormed mach }
     ensures { IfOk result (IsSunk mach) }

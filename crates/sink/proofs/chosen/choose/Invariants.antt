@@ -4,5 +4,5 @@ use Rattle.sink.proofs.chosen.choose.Given as goal
 
 abbrev pub invariant-loop-number : goal.invariant-loop-number
 invariant-loop-number l =
-    l.moves.items ++ all_moves l.code l.stale.rows.items (drop l.number l.registers) (drop l.number l.sights)
-    ≡ all_moves l.code l.stale.rows.items l.registers l.sights
+    l.moves.items ++ all_moves l.code l.stale.rows.items l.mixed (drop l.number l.registers) (drop l.number l.sights)
+    ≡ all_moves l.code l.stale.rows.items l.mixed l.registers l.sights

@@ -15,4 +15,4 @@ returns-then-is_empty c =
 pub returns : goal.returns
 returns c =
     sunk_by c.args.mach c.requires c.in_ok-moves.moves.items c.in_ok-moves.ensures c.in_ok-code.code
-    (c.in_ok-code.ensures ∙ ap (λ (xs : List Move). code_at xs (length c.args.mach.code) c.args.mach.code) c.deref.ensures.value)
+    (c.in_ok-code.ensures ∙ ap (λ (xs : List Move). code_at xs c.args.mach.code c.args.mach.code) c.deref.ensures.value)
