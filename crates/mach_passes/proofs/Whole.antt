@@ -20,7 +20,7 @@ use Rattle.mach_ir.specs.Formed.{WellFormed}
 use Rattle.mach_ir.specs.Keeps.{Keeps}
 use Rattle.mach_ir.specs.Placed.{WellPlaced}
 use Rattle.mach_ir.specs.Seats.{Seated}
-use Rattle.mach_ir.specs.Sizes.{Size, HasSize, operand_count}
+use Rattle.mach_ir.specs.Sizes.{Size, HasSize, OpenAtMost, operand_count}
 use Rattle.mach_ir.specs.Walks.{InCode, in_args, in_results, further, IsRegister, is_param, is_colour, is_in_code, NoAddrLive}
 use Rattle.mach_ir.specs.declared.reg.Reg.{Reg}
 use Rattle.mach_ir.specs.declared.mach.Instr.{Instr}
@@ -31,6 +31,7 @@ use Rattle.pass_rules.specs.Measures.{copy_words, code_words, code_points, exits
 use Rattle.sink_rules.proofs.Chosen as sinking
 use Rattle.sink_rules.proofs.Chosen.{one_sunk}
 use Rattle.sink_rules.specs.Chosen.{IsSunk}
+use Rattle.sink_rules.specs.Sunk as sinks
 use Rattle.spill_rules.proofs.Chosen.{spilled_kept, one_spilled, seated_params}
 use Rattle.spill_rules.specs.Chosen.{ParamsPlaced, IsSpilled, IsChosenKept}
 use Rattle.split_rules.proofs.One.{one_split}
@@ -293,10 +294,10 @@ split_stage m q parameters e formed placed s =
 
 -- ---- the passes
 
-all_words : (n r a b : ℕ) → n ≤ r → a ≤ b + 2 * r → ((0 + copy_words * n) + copy_words * a) + 0 ≤ copy_words * (b + 3 * r)
+all_words : (n r a b : ℕ) → n ≤ r → a ≤ b + 2 * n → ((0 + copy_words * n) + copy_words * a) + 0 ≤ copy_words * (b + 3 * r)
 all_words n r a b few le = by n r a b few le
   where
-    by : (n r a b : ℕ) → n ≤ r → a ≤ b + 2 * r → ((0 + 6 * n) + 6 * a) + 0 ≤ 6 * (b + 3 * r)
+    by : (n r a b : ℕ) → n ≤ r → a ≤ b + 2 * n → ((0 + 6 * n) + 6 * a) + 0 ≤ 6 * (b + 3 * r)
     by n r a b few le = omega (arith, few, le)
 
 combine_stage : (m : Mach) → IsCombinable m → WellPlaced m → Smaller m (combined m)
@@ -382,13 +383,28 @@ module _ (m q : Mach) (formed : WellFormed m) (placed : WellPlaced m) (own : Own
   common_own : OwnOrigins q
   common_own = repeated_own c.propagated q read.formed read.placed read_own c.is_repeated
 
--- the passes that do not enlarge the function
+  common_registers : (r : Reg) → IsRegister q r → IsRegister m r
+  common_registers r i =
+      (propagated_kept m c.propagated formed placed own c.is_propagated).registers r
+      ((repeated_kept c.propagated q read.formed read.placed read_own c.is_repeated).registers r i)
+
+-- the passes that do not enlarge the function, and make no register
 pub repeats_own : (m q : Mach) → IsPreparable m → HasNoRepeats m q → OwnOrigins q
 repeats_own m q is made =
     let one = combine_stage m is.combinable is.placed in
     let own = combined_own m is.combinable in
     let first = common_stage (combined m) made.once one.formed one.placed own made.first in
     common_own made.once q first.formed first.placed (common_own (combined m) made.once one.formed one.placed own made.first) made.second
+
+repeats_registers : (m q : Mach) → IsPreparable m → HasNoRepeats m q → (r : Reg) → IsRegister q r → IsRegister m r
+repeats_registers m q is made r i =
+    let one = combine_stage m is.combinable is.placed in
+    let own = combined_own m is.combinable in
+    let first = common_stage (combined m) made.once one.formed one.placed own made.first in
+    let own_once = common_own (combined m) made.once one.formed one.placed own made.first in
+    register_before m r
+    (common_registers (combined m) made.once one.formed one.placed own made.first r
+    (common_registers made.once q first.formed first.placed own_once made.second r i))
 
 pub repeats_stage : (m q : Mach) → IsPreparable m → HasNoRepeats m q → Smaller m q
 repeats_stage m q is made =
@@ -409,6 +425,11 @@ cleaned_own m q is made r i =
     let one = repeats_stage m made.repeated is made.has_no_repeats in
     repeats_own m made.repeated is made.has_no_repeats r ((dropped_kept made.repeated q one.formed one.placed made.is_dropped).registers r i)
 
+cleaned_registers : (m q : Mach) → IsPreparable m → IsCleaned m q → (r : Reg) → IsRegister q r → IsRegister m r
+cleaned_registers m q is made r i =
+    let one = repeats_stage m made.repeated is made.has_no_repeats in
+    repeats_registers m made.repeated is made.has_no_repeats r ((dropped_kept made.repeated q one.formed one.placed made.is_dropped).registers r i)
+
 -- and those that make it ready for spilling
 module _ (m q : Mach) (is : IsPreparable m) (made : IsReadied m q) where
   pub cleaned_stage : Smaller m made.dropped
@@ -427,15 +448,26 @@ module _ (m q : Mach) (is : IsPreparable m) (made : IsReadied m q) where
   pub ready_stage : IsStage (0 + copy_words * moves) sunk_size m q
   ready_stage = stage_then hoisted_stage (sink_stage made.hoisted q hoisted_stage.formed hoisted_stage.placed no_addr_left made.is_sunk)
 
-  -- a move for each register at the most
-  pub few_moves : (s : Size) → HasSize m s → moves ≤ s.registers
-  few_moves s h = (sinking.kept made.hoisted q hoisted_stage.formed no_addr_left made.is_sunk).few s (hoisted_stage.size s h)
+  hoisted_registers : (r : Reg) → IsRegister made.hoisted r → IsRegister m r
+  hoisted_registers r i =
+      cleaned_registers m made.dropped is made.is_cleaned r
+      ((constants_first_kept made.dropped made.hoisted cleaned_stage.formed made.has_constants_first).registers r i)
 
--- which leave no more operands than that
-ready_operands : (m q : Mach) {more : ℕ} → IsStage more sunk_size m q → (s : Size) → HasSize m s → operand_count q.code ≤ operand_count m.code + 2 * s.registers
-ready_operands m q stage s h =
-    (stage.size (record s { operands = operand_count m.code })
-    (record { instrs = h.instrs; operands = le_self (operand_count m.code); numbers = h.numbers; origins = h.origins; labels = h.labels })).operands
+  sunk : sinks.IsKept made.hoisted q (made.is_sunk).plan
+  sunk = sinking.kept made.hoisted q hoisted_stage.formed no_addr_left made.is_sunk
+
+  -- a move for each open register at the most
+  pub few_moves : (k : ℕ) → OpenAtMost m k → moves ≤ k
+  few_moves k h = sunk.few_open k (record { numbers = h.numbers; few = h.few; all = λ r i e. h.all r (hoisted_registers r i) e })
+
+  -- each has an operand and a result
+  pub more_operands : operand_count q.code ≤ operand_count m.code + 2 * moves
+  more_operands =
+      grows (operand_count m.code) (operand_count made.hoisted.code) (operand_count q.code) moves (fewer_operands hoisted_stage)
+      (sunk.size (own_size made.hoisted) (has_own_size made.hoisted)).operands
+    where
+      grows : (a b c n : ℕ) → b ≤ a → c ≤ b + 2 * n → c ≤ a + 2 * n
+      grows a b c n p q = omega (arith, p, q)
 
 -- and spilling after them
 pub slots_stage : (m q : Mach) (is : IsPreparable m) (made : HasSlots m q) →
@@ -448,7 +480,6 @@ slots_stage m q is made =
 pub prepared_kept : (m q : Mach) → IsPreparable m → IsPrepared m q → IsKept m q
 prepared_kept m q is made =
     let readied = made.has_slots.readied in
-    let ready = ready_stage m readied is made.has_slots.is_readied in
     let slots = slots_stage m made.spilled is made.has_slots in
     let all = stage_then slots (split_stage made.spilled q (length m.params) (ap length slots.params) slots.formed slots.placed made.is_split) in
     record {
@@ -457,10 +488,10 @@ prepared_kept m q is made =
       placed = all.placed;
       seated = all.seated is.seated;
       size = all.size;
-      carried = λ s h.
+      carried = λ k h.
           carried_within
-          (all_words (moves m readied is made.has_slots.is_readied) s.registers (operand_count readied.code) (operand_count m.code)
-          (few_moves m readied is made.has_slots.is_readied s h) (ready_operands m readied ready s h)) all.carried;
+          (all_words (moves m readied is made.has_slots.is_readied) k (operand_count readied.code) (operand_count m.code)
+          (few_moves m readied is made.has_slots.is_readied k h) (more_operands m readied is made.has_slots.is_readied)) all.carried;
     }
 
 -- ---- one result

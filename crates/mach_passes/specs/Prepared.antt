@@ -6,7 +6,7 @@ use Rattle.mach_ir.specs.Formed.{WellFormed}
 use Rattle.mach_ir.specs.Keeps.{Keeps}
 use Rattle.mach_ir.specs.Placed.{WellPlaced}
 use Rattle.mach_ir.specs.Seats.{Seated}
-use Rattle.mach_ir.specs.Sizes.{Size, HasSize, operand_count}
+use Rattle.mach_ir.specs.Sizes.{Size, HasSize, OpenAtMost, operand_count}
 use Rattle.mach_ir.specs.Walks.{NoAddrLive}
 use Rattle.mach_ir.specs.declared.mach.Mach.{Mach}
 use Rattle.pass_rules.specs.Carried.{IsCarried}
@@ -49,7 +49,7 @@ pub record IsKept (m q : Mach) : Type 0 where
   pub placed : WellPlaced q
   pub seated : Seated q
   pub size : (s : Size) → HasSize m s → HasSize q (prepared_size (length m.params) s)
-  -- at most a copy for each operand and result, and three for each register: its move to itself, and
-  -- one for the operand and one for the result of that
-  pub carried : (s : Size) → HasSize m s →
-      IsCarried (copy_words * (operand_count m.code + 3 * s.registers)) m q
+  -- at most a copy for each operand and result, and three for each open register: its move to itself,
+  -- and one for the operand and one for the result of that
+  pub carried : (k : ℕ) → OpenAtMost m k →
+      IsCarried (copy_words * (operand_count m.code + 3 * k)) m q

@@ -1,6 +1,7 @@
 -- What the passes and register allocation make of a function of an accepted text is known.
-use Rattle.std.proofs.Common.{◌≡◌, ℕ, ◌+◌, ◌*◌, ◌≤◌, true, List, [], ◌∷◌, length, Option, ap, ◌∙◌, arith}
+use Rattle.std.proofs.Common.{◌≡◌, ℕ, ◌+◌, ◌-◌, ◌*◌, ◌≤◌, true, List, [], ◌∷◌, length, Option, ap, ◌∙◌, arith}
 use Rattle.bs_words.specs.declared.types.Comp.TheVariants as comp
+use Rattle.cmm_tree.specs.Measures.{all_tries}
 use Rattle.cmm_tree.specs.Symbols.{DefinedSymbol}
 use Rattle.cmm_tree.specs.Tree.{FunctionTree}
 use Rattle.combine_rules.specs.Kept.{IsCombinable, holds_block}
@@ -68,10 +69,10 @@ module _ {defined : List ℕ → Option DefinedSymbol} {tree : FunctionTree} (ac
   pub ready : {p : Mach} → IsPrepared (selected tree) p → prepared.IsKept (selected tree) p
   ready {p} is = prepared_kept (selected tree) p selected_preparable is
 
-  -- what it carries, by the tokens of the text
+  -- what it carries, by the open registers of the text
   pub carried : {p : Mach} → prepared.IsKept (selected tree) p →
-      IsCarried (copy_words * (operand_count (selected tree).code + 3 * (23 * tree.tokens))) (selected tree) p
-  carried made = made.carried (size_by tree.tokens) promise.size
+      IsCarried (copy_words * (operand_count (selected tree).code + 3 * (2 * (tree.tokens - all_tries tree.body)))) (selected tree) p
+  carried made = made.carried (2 * (tree.tokens - all_tries tree.body)) promise.open_registers
 
   module _ {p q : Mach} (is : IsPrepared (selected tree) p) (allocated : IsAllocated p q) where
     kept : rounds.IsKept p q

@@ -30,9 +30,9 @@ pub record IsPlacedFor (tree : FunctionTree) (q : Mach) : Type 0 where
   pub offsets : All (λ (i : Instr). OffsetFits i.op) q.code
   pub ends : EndsInReturn q.code
   -- words: two copies for each operand and result of selected code are more than enough, and three
-  -- for each register, of which a token has 23 at the most
+  -- for each open register, of which a token has two at the most
   pub words : code_words q.code ≤
-      code_words (selected tree).code + 12 * operand_count (selected tree).code + 414 * tree.tokens
+      code_words (selected tree).code + 12 * operand_count (selected tree).code + 36 * tree.tokens
   pub points : code_points q.code ≤ code_points (selected tree).code
   pub exits : exits q.code ≤ exits (selected tree).code
   pub instrs : length q.code ≤ 12000 * tree.tokens

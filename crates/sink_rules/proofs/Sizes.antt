@@ -2,13 +2,14 @@
 use Rattle.std.proofs.Common.{◌≡◌, ◌≢◌, ℕ, zero, suc, ◌+◌, ◌*◌, ◌<◌, ◌≤◌, Bool, true, false, cond, List, [], ◌∷◌, ◌++◌, map, length, refl, sym, ap, ◌∙◌, subst, arith}
 use Rattle.std.proofs.lemmas.Bool.{eqb-true}
 use Rattle.std.proofs.lemmas.Bool.Decides.{Decides-eqb}
-use Rattle.std.proofs.lemmas.Map.Made.{IsDistinct-from_AllPairs}
+use Rattle.std.proofs.lemmas.Map.Made.{IsDistinct-from_AllPairs, length-le_from_is_member}
 use Rattle.std.proofs.lemmas.Map.Steps.{length-le_from_distinct_below}
-use Rattle.std.proofs.lemmas.Map.Views.{Contains-from_any}
+use Rattle.std.proofs.lemmas.Map.Views.{Contains-from_any, list_any-from_Contains}
 use Rattle.std.specs.List.{AllPairs, Contains}
+use Rattle.std.specs.Cmp.{nat_eq_equiv}
 use Rattle.std.specs.Prelude.{slice_index_or}
 use Rattle.mach_ir.specs.Formed.{AreDistinct}
-use Rattle.mach_ir.specs.Sizes.{operand_count, Size, HasSize}
+use Rattle.mach_ir.specs.Sizes.{operand_count, Size, HasSize, OpenAtMost}
 use Rattle.mach_ir.specs.Walks.{IsRegister, Stands, here, below}
 use Rattle.mach_ir.specs.declared.reg.Reg.{Reg}
 use Rattle.mach_ir.specs.declared.mach.Instr.{Instr}
@@ -44,6 +45,19 @@ few_registers rs bound h low =
     (λ n seen.
     let w = was (λ (r : Reg). r.number) rs n (Contains-from_any eqb-true n ns seen) in
     subst (λ k. k < bound) w.same (low w.what w.among)))
+  where
+    ns : List ℕ
+    ns = map (λ (r : Reg). r.number) rs
+
+-- registers of different numbers, all among some numbers, are no more than these
+registers_among : (rs : List Reg) (numbers : List ℕ) → AreDistinct rs → ((r : Reg) → Contains rs r → Contains numbers r.number) →
+    length rs ≤ length numbers
+registers_among rs numbers h known =
+    subst (λ n. n ≤ length numbers) (length_mapped (λ (r : Reg). r.number) rs)
+    (length-le_from_is_member nat_eq_equiv ns numbers (IsDistinct-from_AllPairs Decides-eqb ns (numbers_differ rs h))
+    (λ n seen.
+    let w = was (λ (r : Reg). r.number) rs n (Contains-from_any eqb-true n ns seen) in
+    list_any-from_Contains nat_eq_equiv n numbers (subst (λ k. Contains numbers k) w.same (known w.what w.among))))
   where
     ns : List ℕ
     ns = map (λ (r : Reg). r.number) rs
@@ -218,3 +232,12 @@ module _ (m : Mach) (plan : Plan) (known_plan : IsPlan m plan) where
 
   pub few : (s : Size) → HasSize m s → length plan.registers ≤ s.registers
   few s h = few_registers plan.registers s.registers known_plan.distinct (λ r c. h.numbers r (known_plan.registers r c))
+
+  -- they are open
+  pub few_open : (k : ℕ) → OpenAtMost m k → length plan.registers ≤ k
+  few_open k h =
+      few_then (length plan.registers) (length h.numbers) k
+      (registers_among plan.registers h.numbers known_plan.distinct (λ r c. h.all r (known_plan.registers r c) (known_plan.open_places r c))) h.few
+    where
+      few_then : (a b c : ℕ) → a ≤ b → b ≤ c → a ≤ c
+      few_then a b c p q = omega (arith, p, q)

@@ -13,7 +13,7 @@ use Rattle.pass_rules.specs.Carried.{OffsetFits, TriesAtMost, EndsInReturn, at_r
 use Rattle.pass_rules.specs.Measures.{copy_words, instr_words, code_words, one_if, code_points, exits, operands_with, other_operands}
 use Rattle.sink_rules.specs.Sunk.{Plan, to_itself, sunk, IsPlan, IsKept}
 use Rattle.sink_rules.proofs.Formed.{each_in, tries_so, main_tries, still_formed, still_placed, still_seated, still_keeps}
-use Rattle.sink_rules.proofs.Sizes.{sum_within, with_moves, sunk_size, few}
+use Rattle.sink_rules.proofs.Sizes.{sum_within, with_moves, sunk_size, few, few_open}
 use Rattle.sink_rules.proofs.Text as text
 
 exit_one : (b : Bool) (n : ℕ) → cond b (suc n) n ≡ cond b 1 0 + n
@@ -92,6 +92,7 @@ module _ (m : Mach) (plan : Plan) (formed : WellFormed m) (is : IsPlan m plan) w
             subst (λ (k : Mach). HasSize k (with_moves m plan is s)) (text.sunk_is_laid m plan is) (sunk_size m plan is old s h);
         carried = carried;
         few = few m plan is;
+        few_open = few_open m plan is;
       }
 
   -- A function in which registers are moved to themselves by a plan is kept.

@@ -6,7 +6,7 @@ use Rattle.mach_ir.specs.Formed.{WellFormed, AreDistinct}
 use Rattle.mach_ir.specs.Keeps.{Keeps}
 use Rattle.mach_ir.specs.Placed.{WellPlaced}
 use Rattle.mach_ir.specs.Seats.{Seated}
-use Rattle.mach_ir.specs.Sizes.{Size, HasSize}
+use Rattle.mach_ir.specs.Sizes.{Size, HasSize, OpenAtMost}
 use Rattle.mach_ir.specs.Walks.{Live, Reached, Stands, IsRegister}
 use Rattle.mach_ir.specs.declared.op.CopyKind.TheVariants as copy
 use Rattle.mach_ir.specs.declared.op.Op.{Op}
@@ -91,3 +91,5 @@ pub record IsKept (m q : Mach) (plan : Plan) : Type 0 where
   pub carried : IsCarried (copy_words * length plan.registers) m q
   -- their numbers differ, so there are no more of them than numbers
   pub few : (s : Size) → HasSize m s → length plan.registers ≤ s.registers
+  -- nor than of open registers
+  pub few_open : (k : ℕ) → OpenAtMost m k → length plan.registers ≤ k
