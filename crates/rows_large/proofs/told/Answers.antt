@@ -14,7 +14,7 @@ use Rattle.rv_pieces.specs.declared.piece.Pieces.{Pieces}
 use Rattle.rows_large.proofs.told.Goals as goal
 
 pub answer-requires-clause-can : goal.answer-requires-clause-can
-answer-requires-clause-can c =
+answer-requires-clause-can g c = λ lifetimes outlive.
     let file = file_of (typed_of c.in-Ok.checked) in
     let items : c.as_slice.result.now ≡ contents file.items =
     c.as_slice.ensures ∙ ap (λ (f : File). contents f.items) (c.file.ensures ∙ ap file_of c.typed.ensures) in

@@ -19,7 +19,7 @@ all_pieces-requires-clause-accepted g c = λ lifetimes outlive.
     (all_listed file c.as_slice.result.now c.in_ok-functions.functions.items c.as_slice-2.result.now whole c.as_slice-2.ensures.value c.in_ok-functions.ensures.trees)
 
 pub assemble-requires-clause-can : goal.assemble-requires-clause-can
-assemble-requires-clause-can g c =
+assemble-requires-clause-can g c = λ lifetimes outlive.
     let accepted = c.requires.accepted in
     let file = file_of (typed_of c.args.checked.now) in
     let whole : c.as_slice.result.now ≡ contents file.items =
