@@ -58,8 +58,8 @@ IsPassText Code tree text = text ≡ []
 abbrev pub function_text : Stage → (tree : FunctionTree) {pieces : Pieces} → IsFunctionMade tree pieces → List ℕ
 function_text Select tree of = mach_text (selected tree)
 function_text CombAlloc tree of = mach_text (combined (selected tree))
-function_text Cse tree of = mach_text of.made.is_prepared.has_slots.is_cleaned.repeated
-function_text Dead tree of = mach_text of.made.is_prepared.has_slots.dropped
+function_text Cse tree of = mach_text of.made.is_prepared.has_slots.is_readied.is_cleaned.repeated
+function_text Dead tree of = mach_text of.made.is_prepared.has_slots.is_readied.dropped
 function_text Spill tree of = mach_text of.made.is_prepared.spilled
 function_text Split tree of = mach_text of.made.prepared
 function_text Alloc tree of = mach_text of.made.mach
