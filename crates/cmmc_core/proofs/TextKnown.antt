@@ -11,7 +11,7 @@ use Rattle.cmm_tree.specs.Tree.{FileTree}
 use Rattle.correctness.specs.Bounds.{IsRoomy}
 use Rattle.image_form.specs.Tables.{Tables}
 use Rattle.layout_rules.specs.TooLarge.{first_too_large}
-use Rattle.made_functions.specs.Files.{IsMadeFor}
+use Rattle.text_commands.specs.Made.{IsMadeFor}
 use Rattle.text_commands.proofs.Passing.{made_for_once, bytes_of}
 use Rattle.cmmc_core.specs.Compile.{Reads}
 use Rattle.cmmc_core.specs.Effects.{Side, IsRead}

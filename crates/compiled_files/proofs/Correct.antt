@@ -29,7 +29,7 @@ use Rattle.lin_ir.specs.declared.lin.Lin.{Lin}
 use Rattle.lin_ir.specs.declared.lin.Line.{Line}
 use Rattle.lin_ir.specs.declared.lin.Spot.{Spot}
 use Rattle.linear_rules.proofs.Walked.{Tail, reached_tail, tail_stands}
-use Rattle.made_functions.specs.Chained.{IsChained}
+use Rattle.function_stands.specs.Made.{IsChained}
 use Rattle.mach_ir.specs.Acts.{Around}
 use Rattle.mach_ir.specs.Runs.{Place}
 use Rattle.moving_laws.specs.Values.{HasFunctions}

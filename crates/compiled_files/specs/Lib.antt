@@ -1,3 +1,4 @@
 pub mod Forward
 pub mod Image
 pub mod Stages
+pub mod Made

@@ -11,7 +11,7 @@ use Rattle.linear_pass.proofs.Once.{linear_once}
 use Rattle.mach_ir.specs.declared.mach.Mach.{Mach}
 use Rattle.mach_passes.proofs.Whole.{one_without_repeats, one_cleaned, one_with_slots, one_prepared}
 use Rattle.mach_passes.specs.Stages.{HasSlots}
-use Rattle.made_functions.specs.Files.{IsFunctionMade}
+use Rattle.file_promise.specs.Made.{IsFunctionMade}
 use Rattle.rounds_rules.specs.Rounds.{IsAllocated}
 use Rattle.rounds_rules.proofs.Once.{allocated_once}
 use Rattle.rv_pieces.specs.declared.piece.Pieces.{Pieces}

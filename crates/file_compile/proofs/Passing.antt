@@ -1,8 +1,8 @@
 -- What the passes ask of a function of an accepted file, and what they make of it.
 use Rattle.std.proofs.Common.{◌≡◌, ℕ, Bool, List, length, subst, sym}
-use Rattle.chained_functions.proofs.Chained.{within}
+use Rattle.file_promise.proofs.Bounds.{within}
 use Rattle.cmm_tree.specs.Tree.{FunctionTree}
-use Rattle.code_bounds.proofs.Bounded.{frame_fits}
+use Rattle.file_promise.proofs.Bounds.{frame_fits}
 use Rattle.emit_rules.specs.Emitted.{IsEmitted}
 use Rattle.lin_ir.specs.Descriptors.{AreExact, IsWithin, frame_points}
 use Rattle.lin_ir.specs.declared.descr.Descr.{Descr}
@@ -13,9 +13,9 @@ use Rattle.mach_ir.specs.Placed.{WellPlaced}
 use Rattle.mach_ir.specs.Text.{mach_text}
 use Rattle.mach_ir.specs.declared.mach.Mach.{Mach}
 use Rattle.mach_passes.specs.Prepared.{IsPreparable, IsPrepared}
-use Rattle.made_functions.specs.Files.{IsFunctionMade}
-use Rattle.placed_functions.specs.Placed.{IsPlacedFor}
-use Rattle.placed_functions.proofs.Placed.{selected_preparable, ready, carried, placed_for}
+use Rattle.file_promise.specs.Made.{IsFunctionMade}
+use Rattle.file_promise.proofs.Bounds.{IsPlacedFor}
+use Rattle.file_promise.proofs.Bounds.{selected_preparable, ready, carried, placed_for}
 use Rattle.places_rules.specs.Places.{ColoursLow}
 use Rattle.rounds_rules.specs.Rounds.{IsAllocatedIn, IsAllocated}
 use Rattle.rv_pieces.specs.declared.piece.Pieces.{Pieces}

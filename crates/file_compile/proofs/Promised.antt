@@ -14,8 +14,8 @@ use Rattle.file_promise.proofs.Promise as promise
 use Rattle.image_form.specs.Image.{AreTables}
 use Rattle.image_form.specs.Tables.{Tables}
 use Rattle.layout_rules.specs.TooLarge.{first_too_large}
-use Rattle.made_functions.specs.Exact.{IsExact}
-use Rattle.made_functions.specs.Files.{IsMadeFor}
+use Rattle.file_promise.specs.Made.{IsExact}
+use Rattle.file_promise.specs.Made.{IsMadeFor}
 use Rattle.stages.specs.declared.stage.Stage.{Stage}
 
 pub all_bytes : (text : List ℕ) → ((i : ℕ) → get_or text i 0 < 256) → All (λ b. b < 256) text

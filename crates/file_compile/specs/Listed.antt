@@ -14,7 +14,7 @@ use Rattle.mach_ir.specs.Text.{mach_text}
 use Rattle.mach_ir.specs.declared.mach.Mach.{Mach}
 use Rattle.mach_passes.specs.Prepared.{IsPrepared}
 use Rattle.mach_passes.specs.Stages.{HasNoRepeats, IsCleaned, HasSlots}
-use Rattle.made_functions.specs.Files.{IsFunctionMade, IsMadeFor}
+use Rattle.file_promise.specs.Made.{IsFunctionMade, IsMadeFor}
 use Rattle.rounds_rules.specs.Rounds.{IsAllocated}
 use Rattle.rv_pieces.specs.declared.piece.Pieces.{Pieces}
 use Rattle.selection_rules.specs.Select.{selected}

@@ -13,7 +13,7 @@ use comballoc::combine;
 use lin_ir::Lin;
 use linear_pass::linear;
 use mach_ir::Mach;
-use mach_passes::{prepared, with_slots, without_dead, without_repeats};
+use prepare::{prepared, with_slots, without_dead, without_repeats};
 use reg_rounds::{Allocated, allocate};
 use selection::select_function;
 use stages::Stage;

@@ -2,13 +2,13 @@
 ghost use Rattle.std.specs.Prelude.{IfOk};
 ghost use Rattle.cmm_tree.specs.View.{function_view};
 ghost use Rattle.cmm_types.specs.Typing.{IsFunctionAnnotated};
-ghost use Rattle.made_functions.specs.Files.{IsFunctionMade};
+ghost use Rattle.file_promise.specs.Made.{IsFunctionMade};
 ghost use Rattle.file_compile.specs.Accepted.{IsAcceptedFunction};
 
 use cmm_tree::Function;
 use frame_tables::descriptors;
 use linear_pass::linear;
-use mach_passes::prepared;
+use prepare::prepared;
 use reg_rounds::allocate;
 use rv_emit::emit;
 use rv_pieces::Pieces;

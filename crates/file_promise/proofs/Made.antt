@@ -7,20 +7,20 @@ use Rattle.chained_functions.proofs.Chained.{chained}
 use Rattle.cmm_front.specs.FileOf.{IsFileOf}
 use Rattle.cmm_tree.specs.Tree.{FunctionTree, FileTree, functions}
 use Rattle.cmm_types.proofs.Containing.{contains_head, contains_tail}
-use Rattle.placed_functions.proofs.Placed.{placed_for}
+use Rattle.chained_functions.proofs.Placed.{placed_for}
 use Rattle.code_bounds.proofs.Bounded.{frame_fits}
 use Rattle.code_bounds.specs.Kept.{KeepsTo}
 use Rattle.code_bounds.proofs.Few.{few}
 use Rattle.code_bounds.proofs.Keeping.{each_keeps}
 use Rattle.compiled_files.specs.Stages.{AreChained, HasChain}
-use Rattle.made_functions.specs.Exact.{IsFunctionExact}
+use Rattle.compiled_files.specs.Made.{IsFunctionExact}
 use Rattle.frame_names.specs.Names.{names_by}
 use Rattle.frame_names.proofs.Names.{exact_names}
-use Rattle.laid_files.proofs.Laid.{function_can}
+use Rattle.compiled_files.proofs.Laid.{function_can}
 use Rattle.laid_parts.proofs.Whole.{laid_out}
 use Rattle.layout_rules.specs.Conditions.{CanBeLaid, IsFunctionLaid}
-use Rattle.made_functions.specs.Chained.{IsChained}
-use Rattle.made_functions.specs.Files.{IsFunctionMade}
+use Rattle.compiled_files.specs.Made.{IsChained}
+use Rattle.compiled_files.specs.Made.{IsFunctionMade}
 use Rattle.rv_pieces.specs.declared.piece.Pieces.{Pieces}
 use Rattle.selection_accepted.proofs.Promised.{function_accepted}
 use Rattle.selection_accepted.proofs.Selecting.{definitions}

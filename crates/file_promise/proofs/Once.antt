@@ -6,7 +6,7 @@ use Rattle.image_form.specs.Tables.{Tables}
 use Rattle.layout_rules.specs.declared.form.Form.{Form}
 use Rattle.layout_rules.specs.Laid.{AreAllForms, laid_out}
 use Rattle.layout_rules.proofs.Relaxing.{forms_once}
-use Rattle.made_functions.specs.Files.{IsFunctionMade, IsMadeFor}
+use Rattle.compiled_files.specs.Made.{IsFunctionMade, IsMadeFor}
 use Rattle.made_once.proofs.Made.{made_once}
 use Rattle.rv_pieces.specs.declared.piece.Pieces.{Pieces}
 

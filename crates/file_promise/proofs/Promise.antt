@@ -12,8 +12,8 @@ use Rattle.correctness.specs.InNeed.{AsksInNeed}
 use Rattle.image_form.specs.Image.{AreTables}
 use Rattle.image_form.specs.Tables.{Tables}
 use Rattle.layout_rules.specs.TooLarge.{first_too_large}
-use Rattle.made_functions.specs.Files.{IsMadeFor}
-use Rattle.made_functions.specs.Exact.{IsExact}
+use Rattle.compiled_files.specs.Made.{IsMadeFor}
+use Rattle.compiled_files.specs.Made.{IsExact}
 use Rattle.file_promise.proofs.Bytes.{bytes_of}
 use Rattle.file_promise.proofs.Made.{are_chained, are_exact, can_be_laid, keep}
 

@@ -6,4 +6,3 @@ pub mod Repeated
 pub mod Propagated
 pub mod Dropped
 pub mod Combined
-pub mod Stages

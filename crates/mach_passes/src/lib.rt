@@ -1,14 +1,12 @@
 //! The passes over Mach between selection and register allocation, in their order (OCaml's
 //! `asmcomp/asmgen.ml`, with two more right before spilling), and what they carry from pass to pass.
+//!
+//! The crate holds definitions and laws alone.
 #![tactic(auto)]
-
-mod passes;
 
 ghost use Rattle.std.specs.Prelude.{◌≡◌};
 ghost use Rattle.mach_ir.specs.declared.mach.Mach.{Mach};
 ghost use Rattle.mach_passes.specs.Prepared.{IsPreparable, IsPrepared, IsKept};
-
-pub use passes::{prepared, with_slots, without_dead, without_repeats};
 
 /// Law: what the passes make of a function is kept.
 pub fn what_is_prepared_is_kept()

@@ -9,7 +9,7 @@ use Rattle.file_compile.proofs.Promised as promised
 use Rattle.file_compile.proofs.Promised.{roomy_fits}
 use Rattle.image_form.specs.Tables.{Tables}
 use Rattle.layout_rules.specs.TooLarge.{first_too_large}
-use Rattle.made_functions.specs.Files.{IsMadeFor}
+use Rattle.file_compile.specs.Made.{IsMadeFor}
 use Rattle.text_commands.specs.Compile.{IsOnlyMadeFor, IsTooLarge}
 
 -- what a slice holds are bytes

@@ -8,3 +8,4 @@ pub mod CheckRefusal
 pub mod Listing
 pub mod Trial
 pub mod Ready
+pub mod Made

@@ -1,5 +1,5 @@
 use Rattle.mach_passes.proofs.Whole.{propagated_formed}
-use Rattle.mach_passes.proofs.passes.common.Goals as goal
+use Rattle.prepare.proofs.passes.common.Goals as goal
 
 pub cse-requires : goal.cse-requires
 cse-requires c =

@@ -1,6 +1,6 @@
 use Rattle.std.proofs.lemmas.Result.{IfOk-weaker}
-use Rattle.mach_passes.proofs.Stages.{split_prepared}
-use Rattle.mach_passes.proofs.passes.prepared.Goals as goal
+use Rattle.prepare.proofs.Stages.{split_prepared}
+use Rattle.prepare.proofs.passes.prepared.Goals as goal
 
 pub returns : goal.returns
 returns c =

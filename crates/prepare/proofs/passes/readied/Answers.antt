@@ -1,6 +1,6 @@
-use Rattle.mach_passes.proofs.Stages.{cleaned_formed, hoisted_formed}
+use Rattle.prepare.proofs.Stages.{cleaned_formed, hoisted_formed}
 use Rattle.mach_passes.proofs.Whole.{cleaned_own}
-use Rattle.mach_passes.proofs.passes.readied.Goals as goal
+use Rattle.prepare.proofs.passes.readied.Goals as goal
 
 pub hoist-requires : goal.hoist-requires
 hoist-requires c =

@@ -1,5 +1,5 @@
-use Rattle.mach_passes.proofs.Stages.{combined_form, once_formed}
-use Rattle.mach_passes.proofs.passes.without_repeats.Goals as goal
+use Rattle.prepare.proofs.Stages.{combined_form, once_formed}
+use Rattle.prepare.proofs.passes.without_repeats.Goals as goal
 
 pub common-requires : goal.common-requires
 common-requires c = record { formed = combined_form c.args.mach c.in_ok-combined.combined c.requires c.in_ok-combined.ensures }

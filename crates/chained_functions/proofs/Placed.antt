@@ -1,0 +1,3 @@
+-- What is known of a placed function, named once more for what stands above.
+pub use Rattle.placed_functions.specs.Placed.{IsPlacedFor}
+pub use Rattle.placed_functions.proofs.Placed.{selected_preparable, ready, carried, placed_for}

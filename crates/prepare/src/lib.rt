@@ -1,0 +1,6 @@
+//! The code of the passes over Mach between selection and register allocation, in their order.
+#![tactic(auto)]
+
+mod passes;
+
+pub use passes::{prepared, with_slots, without_dead, without_repeats};
