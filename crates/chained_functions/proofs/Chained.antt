@@ -45,8 +45,8 @@ use Rattle.placed_functions.specs.Placed.{IsPlacedFor}
 use Rattle.placed_functions.proofs.Exits.{selected_exits}
 use Rattle.placed_functions.proofs.Placed.{placed_for}
 use Rattle.placed_functions.proofs.Tries.{few_nest}
-use Rattle.made_functions.specs.Chained.{IsChained}
-use Rattle.made_functions.specs.Made.{IsMadeOf}
+use Rattle.made_once.specs.Made.{IsChained}
+use Rattle.made_once.specs.Made.{IsMadeOf}
 use Rattle.chained_functions.proofs.Carried.{lowered_shallow, tidied_shallow, tidied_named, lowered_unended, tidied_unended}
 
 -- ---- how many lines

@@ -21,15 +21,15 @@ use Rattle.selection_accepted.proofs.Selecting.{definitions}
 use Rattle.selection_sizes.proofs.Selected.{selected_words, selected_points}
 use Rattle.text_sizes.proofs.Nesting.{text_nests}
 use Rattle.tidy_rules.proofs.Lowered.{lowered_regular}
-use Rattle.made_functions.specs.Made.{IsMadeOf}
-use Rattle.made_functions.specs.Bounded.{IsBoundedBy}
+use Rattle.chained_functions.specs.Made.{IsMadeOf}
+use Rattle.chained_functions.specs.Made.{IsBoundedBy}
 use Rattle.code_bounds.proofs.Lines.{function_short}
 use Rattle.code_bounds.proofs.Slots.{few_slots, frame_few}
 use Rattle.code_bounds.proofs.Tidying.{linear_words, linear_points}
-use Rattle.placed_functions.specs.Placed.{IsPlacedFor}
-use Rattle.placed_functions.proofs.Exits.{selected_exits}
-use Rattle.placed_functions.proofs.Placed.{placed_for}
-use Rattle.placed_functions.proofs.Tries.{few_nest}
+use Rattle.chained_functions.proofs.Placed.{IsPlacedFor}
+use Rattle.chained_functions.proofs.Placed.{selected_exits}
+use Rattle.chained_functions.proofs.Placed.{placed_for}
+use Rattle.chained_functions.proofs.Placed.{few_nest}
 
 module _ {defined : List ℕ → Option DefinedSymbol} {tree : FunctionTree} (accepted : IsAccepted defined tree) {q : Mach} (is : IsPlacedFor tree q) {m : Lin}
     (linear : IsLinearOf q m) where

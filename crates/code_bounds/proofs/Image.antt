@@ -17,7 +17,7 @@ use Rattle.layout_rules.specs.Forms.{branch_words, jump_words, words_of, total_w
 use Rattle.layout_rules.specs.Laid.{stub_words, row_at, rows_from, descs_in, descs_from, laid_out, AreAllForms, IsLaidOut}
 use Rattle.layout_rules.proofs.Functions.{filled}
 use Rattle.layout_rules.proofs.Rules.{all_append}
-use Rattle.made_functions.specs.Bounded.{IsBoundedBy}
+use Rattle.chained_functions.specs.Made.{IsBoundedBy}
 use Rattle.rv_pieces.specs.Named.{marks_in, has_words}
 use Rattle.rv_pieces.specs.declared.piece.Piece.{Piece}
 use Rattle.rv_pieces.specs.declared.piece.Piece.TheVariants.{Label, Branch, Jump, Descriptor}

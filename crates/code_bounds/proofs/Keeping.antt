@@ -19,15 +19,15 @@ use Rattle.lin_ir.specs.declared.lin.Lin.{Lin}
 use Rattle.mach_ir.specs.Formed.{labels_in, WellFormed}
 use Rattle.mach_ir.specs.declared.mach.Mach.{Mach}
 use Rattle.places_rules.proofs.Lists.{of_all}
-use Rattle.placed_functions.proofs.Placed.{placed_for}
+use Rattle.chained_functions.proofs.Placed.{placed_for}
 use Rattle.rv_pieces.specs.Named.{marks_in, places_in}
 use Rattle.rv_pieces.specs.declared.piece.Pieces.{Pieces}
 use Rattle.selection_promise.specs.Selects.{IsAccepted}
 use Rattle.selection_accepted.proofs.Promised.{function_accepted}
 use Rattle.selection_accepted.proofs.Selecting.{definitions}
 use Rattle.text_sizes.proofs.Nesting.{text_nests}
-use Rattle.made_functions.specs.Files.{IsFunctionMade}
-use Rattle.made_functions.specs.Made.{IsMadeOf}
+use Rattle.chained_functions.specs.Made.{IsFunctionMade}
+use Rattle.chained_functions.specs.Made.{IsMadeOf}
 use Rattle.code_bounds.specs.Kept.{KeepsTo}
 use Rattle.code_bounds.proofs.Bounded.{bounded}
 

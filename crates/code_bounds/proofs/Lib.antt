@@ -10,3 +10,4 @@ pub mod Bodies
 pub mod Data
 pub mod Calls
 pub mod Roomy
+pub mod Known

@@ -12,7 +12,7 @@ use Rattle.emit_rules.specs.Emitted.{IsEmitted}
 use Rattle.emit_rules.proofs.Once.{emitted_once}
 use Rattle.rv_pieces.specs.declared.piece.Pieces.{Pieces}
 use Rattle.made_functions.specs.Made.{IsMadeOf}
-use Rattle.mach_passes.proofs.Whole.{one_prepared}
+use Rattle.made_functions.proofs.Prepared.{one_prepared}
 use Rattle.rounds_rules.specs.Rounds.{IsAllocated}
 use Rattle.rounds_rules.proofs.Once.{allocated_once}
 use Rattle.selection_rules.specs.Select.{selected}
