@@ -60,7 +60,7 @@ use Rattle.function_stands.proofs.Acting.{some_word}
 use Rattle.function_stands.proofs.Entries.{entry_offset}
 use Rattle.function_stands.proofs.Whole.{function_stands}
 use Rattle.accepted_files.proofs.Defined.{given_data}
-use Rattle.laid_files.proofs.Has.{has_functions}
+use Rattle.function_stands.proofs.Laid.{has_functions}
 use Rattle.first_statics.proofs.First.{data_ends, first_lies, first_stands}
 use Rattle.frame_names.specs.Names.{names_by}
 use Rattle.frame_names.proofs.Names.{exact_names}

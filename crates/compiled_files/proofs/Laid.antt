@@ -1,2 +1,2 @@
 -- That what is made of a function can be laid out, named once more for what stands above.
-pub use Rattle.laid_files.proofs.Laid.{function_can}
+pub use Rattle.function_stands.proofs.Laid.{function_can}

@@ -43,7 +43,7 @@ use Rattle.emit_rules.proofs.Units.{free_is_exit, part_unless_free, falls_tests}
 use Rattle.linear_rules.proofs.Walked.{Tail, stands_tail, tail_next}
 use Rattle.mach_ir.specs.Acts.{On, row_of}
 use Rattle.mach_ir.specs.declared.op.External.{External}
-use Rattle.made_functions.specs.Chained.{IsChained}
+use Rattle.laid_files.specs.Made.{IsChained}
 use Rattle.moving_laws.specs.Values.{HasFunctions, IsKnown, function_at, value_word}
 use Rattle.rv_pieces.specs.declared.piece.Piece.{Piece}
 use Rattle.rv_pieces.specs.declared.piece.Pieces.{Pieces}

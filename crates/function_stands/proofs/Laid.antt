@@ -1,0 +1,3 @@
+-- That what is made of a function can be laid out, named once more for what stands above.
+pub use Rattle.laid_files.proofs.Has.{has_functions}
+pub use Rattle.laid_files.proofs.Laid.{function_can}
