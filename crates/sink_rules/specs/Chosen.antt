@@ -13,8 +13,8 @@ use Rattle.spill_rules.specs.Chosen.{LivesOver}
 use Rattle.sink_rules.specs.Sunk.{Plan, sunk}
 use Rattle.sink_rules.specs.Walks.{Fresh, Stale}
 
--- The straight run that starts with this code ends in a call, and does not write the register. It
--- starts there: what stands right before it is none of it.
+-- A straight run starts with this code, does not write the register, and comes to an operation, no
+-- mark (`IsSunkAt` asks that it be a call). What stands right before the run is not straight.
 pub record IsRunTo (m : Mach) (n : ℕ) (from : List Instr) (call : Instr) (after : List Instr) :
     Type 0 where
   pub run : List Instr
@@ -22,14 +22,15 @@ pub record IsRunTo (m : Mach) (n : ℕ) (from : List Instr) (call : Instr) (afte
   pub straight : AreStraight run
   pub unwritten : All (λ (j : Instr). Writes m j n → ⊥) run
   pub begins : (j : Instr) → Stands j from m.code → is_straight j.op ≡ false
-  -- a call, and no entry of a handler
+  -- an operation, and so no entry of a handler
   pub operation : Op
   pub is_call : call.op ≡ mach.Op operation
 
--- A register is moved to itself at the start of the straight run to a call that it lives over,
--- where it surely was written since the last call or entry of a handler, if no other of these that
--- it lives over may find it so, and no read may find it both so and not so. Then spilling stores it
--- there alone, each time in place of the last write before, and on no run more often.
+-- An open register is moved to itself at the start of the straight run to a call that it lives
+-- over, where it surely was written since the last call or entry of a handler, if no other of these
+-- that it lives over may find it so, and no read may find it so on one walk and not so on another.
+-- Then spilling stores it there alone, each time in place of the last write before, and on no run
+-- more often, where parameters stand at fixed places.
 pub record IsSunkAt (m : Mach) (i : Instr) (next : List Instr) (r : Reg) : Type 0 where
   pub register : IsRegister m r
   pub open_place : r.loc ≡ loc.Unset

@@ -17,9 +17,9 @@ pub data Fresh (m : Mach) (n : ℕ) : List Instr → Type 0 where
   aside : {i : Instr} {next to : List Instr} → Fresh m n (i ∷ next) → Raises m i next to →
       Fresh m n to
 
--- Some walk leads to this code from the entry, or from over a call or the entry of a handler, and
--- does not write the register: so it may hold nothing yet, or stand in its slot already. What an
--- instruction writes is not written on the way to a handler.
+-- Some walk leads to this code from the entry, where it is no parameter, or from over a call or the
+-- entry of a handler, and does not write the register: so it may hold nothing yet, or stand in its
+-- slot already. What an instruction writes is not written on the way to a handler.
 pub data Stale (m : Mach) (n : ℕ) : List Instr → Type 0 where
   at_entry : (Among n m.params → ⊥) → Stale m n m.code
   over : {i : Instr} {next to : List Instr} → Stands i next m.code →
