@@ -1,5 +1,5 @@
 -- Faults as they are found one by one, and what is reported of them.
-use Rattle.std.specs.Prelude.{Bool, true, false, ◌&&◌, ◌||◌, ◌==◌, nat_lt, Option, Some, None}
+use Rattle.std.specs.Prelude.{Bool, cond, ◌&&◌, ◌||◌, ◌==◌, nat_lt, Option, Some, None}
 use Rattle.bs_fault.specs.FaultLines.{fault_place}
 use Rattle.bs_fault.specs.Order.{fault_number, IsLeftmost}
 use Rattle.bs_fault.specs.declared.fault.Fault.{Fault}
@@ -17,8 +17,7 @@ pub data Among (f : Fault) : Faults → Type 0 where
   second : (a b : Faults) → Among f b → Among f (Both a b)
 
 abbrev pub one_if : Bool → Fault → Faults
-one_if true f = One f
-one_if false f = NoFault
+one_if stands f = cond stands (One f) NoFault
 
 abbrev pub one_of : Option Fault → Faults
 one_of None = NoFault
@@ -44,14 +43,10 @@ precedes a b =
     nat_lt (fault_place a) (fault_place b)
     || (fault_place a == fault_place b && nat_lt (fault_number a) (fault_number b))
 
-abbrev pub chosen : Bool → Fault → Fault → Fault
-chosen true a b = a
-chosen false a b = b
-
 -- the one that is reported of what was found before and a further fault
 abbrev pub noted : Fault → Option Fault → Option Fault
 noted f None = Some f
-noted f (Some found) = Some (chosen (precedes f found) f found)
+noted f (Some found) = Some (cond (precedes f found) f found)
 
 -- the same for all of these
 abbrev pub noted_all : Faults → Option Fault → Option Fault

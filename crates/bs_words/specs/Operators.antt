@@ -23,8 +23,7 @@ type_of_operator _ = ty.Int
 
 -- the value where the test holds, and else improper
 abbrev pub only_if : Bool → Kind → Value → Result Value Kind
-only_if true kind value = Ok value
-only_if false kind value = Err kind
+only_if holds kind value = cond holds (Ok value) (Err kind)
 
 -- ---- arithmetic
 

@@ -2,7 +2,8 @@
 --
 -- An address is a number of bytes. Static data begins at 0x10000000 with a built-in list of 8 zero bytes, and
 -- the lists of the file follow in order, each at the next multiple of 8.
-use Rattle.std.specs.Prelude.{ℕ, suc, ◌+◌, ◌-◌, ◌%◌, Bool, cond, ◌&&◌, ◌==◌, nat_lt, List, [], ◌∷◌, ◌++◌, Option, Some, None, map, length, pos, int_lt}
+use Rattle.std.specs.Prelude.{ℕ, suc, ◌+◌, ◌-◌, ◌%◌, Bool, cond, ◌&&◌, ◌==◌, nat_lt, List, [], ◌∷◌, ◌++◌, Option, Some, None, map, length, find, pos, int_lt}
+use Rattle.std.specs.Option.{option_map}
 use Rattle.std.specs.List.{flat_map, filter_map}
 use Rattle.std.specs.Str.{bytes_eq}
 use Rattle.bs_words.specs.Symbol.{caml_bound_error}
@@ -170,8 +171,7 @@ definitions file = defined_by_list data_start built_in ++ defined_from 0 (end_be
 
 -- the value of the first definition of a name
 abbrev pub value_among : List Definition → List ℕ → Option Value
-value_among [] name = None
-value_among (d ∷ more) name = cond (bytes_eq d.name name) (Some d.value) (value_among more name)
+value_among ds name = option_map (λ (d : Definition). d.value) (find (λ (d : Definition). bytes_eq d.name name) ds)
 
 -- what a symbol stands for: a function or an address of static data. Of a symbol that is defined twice the
 -- first definition in the text counts.

@@ -1,5 +1,5 @@
 -- The automaton of tokens: a state says what the bytes read so far may go on to.
-use Rattle.std.specs.Prelude.{ℕ, ◌+◌, Bool, true, false, ◌||◌, ◌&&◌, ◌==◌, nat_le, List, [], ◌∷◌, Option, Some, None, if◌then◌else◌}
+use Rattle.std.specs.Prelude.{ℕ, ◌+◌, Bool, true, false, cond, ◌||◌, ◌&&◌, ◌==◌, nat_le, List, [], ◌∷◌, Option, Some, None, if◌then◌else◌}
 use Rattle.std.specs.Char.{is_ascii_digit, is_ascii_hexdigit, is_ascii_alphabetic}
 use Rattle.cmm_lex.specs.declared.state.Shape.{Shape}
 use Rattle.cmm_lex.specs.declared.state.Shape.TheVariants as shape
@@ -50,8 +50,7 @@ after_decimal b =
     else Dead))))
 
 abbrev pub if_digit : Bool → NumberPart → State
-if_digit true part = Number part
-if_digit false part = Dead
+if_digit holds part = cond holds (Number part) Dead
 
 unfoldable pub after_number : NumberPart → ℕ → State
 after_number Zero b =

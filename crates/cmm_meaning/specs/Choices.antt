@@ -1,5 +1,5 @@
 -- Handlers and cases, whose bodies are ready to be evaluated in one way or another, and which of them is taken.
-use Rattle.std.specs.Prelude.{ℕ, Bool, true, false, not, cond, ◌&&◌, ◌==◌, List, [], ◌∷◌, Option, Some, None}
+use Rattle.std.specs.Prelude.{ℕ, Bool, true, false, not, cond, ◌&&◌, ◌==◌, List, [], ◌∷◌, Option, Some, None, find}
 use Rattle.cmm_tree.specs.Tree.{LabelTree, same_label, is_bare, Parameter, Index}
 
 -- A handler, ready to be entered.
@@ -10,9 +10,8 @@ pub record Ready (Body : Type 0) : Type 0 where
 
 -- the handler of a label; where it was left from a handler of the same catch, the bare one is not visible
 abbrev pub ready_for : {Body : Type 0} → Bool → LabelTree → List (Ready Body) → Option (Ready Body)
-ready_for within label [] = None
-ready_for within label (r ∷ handlers) =
-    cond (same_label label r.label && not (is_bare label && within)) (Some r) (ready_for within label handlers)
+ready_for {Body} within label handlers =
+    find (λ (r : Ready Body). same_label label r.label && not (is_bare label && within)) handlers
 
 -- A case, ready to be chosen.
 pub record Chosen (Body : Type 0) : Type 0 where

@@ -1,13 +1,8 @@
 -- The symbols that a file defines.
-use Rattle.std.specs.Prelude.{ℕ, List, [], ◌∷◌, ◌++◌, Option, Some, None, length, bytes_eq, Bool, true, false}
+use Rattle.std.specs.Prelude.{ℕ, List, [], ◌∷◌, ◌++◌, Option, Some, None, length, find, bytes_eq}
 use Rattle.std.specs.Option.{IsSome}
 use Rattle.bs_words.specs.Symbol.{caml_bound_error}
 use Rattle.cmm_tree.specs.Tree.{DatumTree, Define, DataItemTree, ItemTree, AFunction, AData, FileTree}
-
--- the first one found, or else what is found later
-abbrev pub first_found : {A : Type 0} → Bool → A → Option A → Option A
-first_found true found others = Some found
-first_found false found others = others
 
 -- A symbol that is defined: its name, the place of its string, and of a function the number of its
 -- parameters.
@@ -44,8 +39,7 @@ symbols file = built_in ∷ symbols_among file.items
 
 -- the definition of a symbol; of one that is defined twice the first counts
 abbrev pub definition_of : List DefinedSymbol → List ℕ → Option DefinedSymbol
-definition_of [] name = None
-definition_of (s ∷ rest) name = first_found (bytes_eq s.name name) s (definition_of rest name)
+definition_of symbols name = find (λ (s : DefinedSymbol). bytes_eq s.name name) symbols
 
 -- a symbol that the file defines
 abbrev pub IsDefined : FileTree → List ℕ → Type 0

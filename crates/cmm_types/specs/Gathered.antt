@@ -1,6 +1,6 @@
 -- The faults of a file, gathered node by node, and the least among them. Private contracts cite it: that it
 -- has exactly the faults of `TypeFault` is proved.
-use Rattle.std.specs.Prelude.{ℕ, Bool, true, false, not, ◌&&◌, ◌||◌, ◌==◌, List, [], ◌∷◌, ◌++◌, Option, Some, None, is_none, is_some}
+use Rattle.std.specs.Prelude.{ℕ, Bool, true, false, cond, not, ◌&&◌, ◌||◌, ◌==◌, List, [], ◌∷◌, ◌++◌, Option, Some, None, is_none, is_some}
 use Rattle.bs_words.specs.declared.types.Comp.{Comp}
 use Rattle.bs_words.specs.declared.types.Ret.{Ret}
 use Rattle.bs_words.specs.declared.types.Ret.TheVariants as ret
@@ -226,12 +226,8 @@ items_faults d [] = NoFault
 items_faults d (i ∷ items) = Both (item_faults d i) (items_faults d items)
 
 -- these symbols with a further one, if it is not among them
-abbrev pub added : Bool → List DefinedSymbol → DefinedSymbol → List DefinedSymbol
-added true known s = known
-added false known s = known ++ s ∷ []
-
 abbrev pub with_symbol : List DefinedSymbol → DefinedSymbol → List DefinedSymbol
-with_symbol known s = added (is_some (definition_of known s.name)) known s
+with_symbol known s = cond (is_some (definition_of known s.name)) known (known ++ s ∷ [])
 
 -- the first definitions among these, after those that are known
 abbrev pub with_symbols : List DefinedSymbol → List DefinedSymbol → List DefinedSymbol

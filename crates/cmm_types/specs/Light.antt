@@ -1,9 +1,9 @@
 -- Light expressions: their evaluation may wait until the operation that takes them.
-use Rattle.std.specs.Prelude.{ℕ, Bool, true, false, not, ◌&&◌, List, [], ◌∷◌, bytes_eq}
+use Rattle.std.specs.Prelude.{ℕ, Bool, true, false, not, ◌&&◌, List, Option, Some, None}
 use Rattle.bs_words.specs.declared.operators.IntOp.{IntOp}
 use Rattle.bs_words.specs.declared.operators.IntOp.TheVariants.{Add, Sub, Mul, And, Or, Xor, Shl, Shr, Sar, AddV, AddA}
 use Rattle.cmm_tree.specs.Tree.{Expression, Integer, Symbol, Name, Operator}
-use Rattle.cmm_types.specs.Types.{Scoped}
+use Rattle.cmm_types.specs.Types.{Scoped, binding_of}
 
 -- the operators of light expressions
 abbrev pub is_light_operator : IntOp → Bool
@@ -20,15 +20,13 @@ is_light_operator AddV = true
 is_light_operator AddA = true
 is_light_operator _ = false
 
-abbrev pub first_is_immutable : Bool → Bool → Bool → Bool
-first_is_immutable true mutable others = not mutable
-first_is_immutable false mutable others = others
+abbrev pub is_fixed : Option Scoped → Bool
+is_fixed None = false
+is_fixed (Some s) = not s.mutable
 
 -- a name whose innermost binding is not mutable
 abbrev pub is_immutable : List Scoped → List ℕ → Bool
-is_immutable [] name = false
-is_immutable (s ∷ rest) name =
-    first_is_immutable (bytes_eq s.name name) s.mutable (is_immutable rest name)
+is_immutable scope name = is_fixed (binding_of scope name)
 
 -- an integer, a symbol, an immutable name, or one of these operators over two light expressions
 abbrev pub is_light : List Scoped → Expression → Bool

@@ -1,16 +1,8 @@
 -- Which nodes stand in a function, and which names and labels are visible there.
-use Rattle.std.specs.Prelude.{ℕ, Bool, false, List, [], ◌∷◌, ◌++◌, Option, Some, None, length, bytes_eq}
+use Rattle.std.specs.Prelude.{ℕ, Bool, false, List, [], ◌∷◌, ◌++◌, Option, length, find}
 use Rattle.bs_words.specs.declared.types.Ty.TheVariants.{Val}
 use Rattle.cmm_tree.specs.Tree.{Expression, Float, Let, Assign, Operator, Load, Store, Alloc, App, Extcall, Checkbound, Raise, Seq, If, Switch, Catch, Exit, Try, Expressions, More, Bindings, NoBinding, Bind, Cases, Choose, Handlers, NoHandler, Handle, Parameter, FunctionTree, LabelTree, Bare, same_label}
-use Rattle.cmm_tree.specs.Symbols.{first_found}
 use Rattle.cmm_types.specs.Types.{Scoped, with_parameters, with_bindings}
-
--- ---- names
-
--- the innermost binding of a name, which stands first
-abbrev pub binding_of : List Scoped → List ℕ → Option Scoped
-binding_of [] name = None
-binding_of (s ∷ rest) name = first_found (bytes_eq s.name name) s (binding_of rest name)
 
 -- ---- labels
 
@@ -21,8 +13,7 @@ pub record Visible : Type 0 where
 
 -- the innermost handler of a label, which stands first; of handlers of one catch with one label the first
 abbrev pub handler_of : List Visible → LabelTree → Option Visible
-handler_of [] label = None
-handler_of (v ∷ rest) label = first_found (same_label v.label label) v (handler_of rest label)
+handler_of labels label = find (λ (v : Visible). same_label v.label label) labels
 
 -- the labels of these handlers: all are visible in the body of their catch
 abbrev pub labels_of : Handlers → List Visible

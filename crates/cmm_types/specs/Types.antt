@@ -1,5 +1,5 @@
 -- The type of an expression.
-use Rattle.std.specs.Prelude.{ℕ, Bool, true, false, ◌||◌, List, [], ◌∷◌, Option, Some, None, bytes_eq}
+use Rattle.std.specs.Prelude.{ℕ, Bool, true, false, cond, ◌||◌, List, [], ◌∷◌, Option, Some, None, find, bytes_eq}
 use Rattle.bs_words.specs.Fits.{type_of_comp}
 use Rattle.bs_words.specs.Memory.{type_of_chunk}
 use Rattle.bs_words.specs.Operators.{type_of_operator}
@@ -17,14 +17,18 @@ pub record Scoped : Type 0 where
   pub type : Ty
   pub mutable : Bool
 
-abbrev pub first_type : Bool → Ty → Ty → Ty
-first_type true type others = type
-first_type false type others = others
+-- the innermost binding of a name, which stands first
+abbrev pub binding_of : List Scoped → List ℕ → Option Scoped
+binding_of scope name = find (λ (s : Scoped). bytes_eq s.name name) scope
 
--- the type of a name, whose innermost binding stands first; a name that is not bound has type never
+-- the type that a binding gives; where there is none it is never
+abbrev pub type_bound_by : Option Scoped → Ty
+type_bound_by None = Never
+type_bound_by (Some s) = s.type
+
+-- the type of a name; one that is not bound has type never
 abbrev pub type_named : List Scoped → List ℕ → Ty
-type_named [] name = Never
-type_named (s ∷ rest) name = first_type (bytes_eq s.name name) s.type (type_named rest name)
+type_named scope name = type_bound_by (binding_of scope name)
 
 -- the parameters in scope, the last one innermost
 abbrev pub with_parameters : List Parameter → List Scoped → List Scoped
@@ -121,8 +125,7 @@ abbrev mutual
 
 -- what holds a float does not come back
 abbrev pub unless_float : Bool → Ty → Ty
-unless_float true type = Never
-unless_float false type = type
+unless_float float type = cond float Never type
 
 -- the type of a name that is bound to an expression of this type: its own, or the declared one
 abbrev pub type_bound : Option Declaration → Ty → Ty

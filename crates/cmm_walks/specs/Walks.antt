@@ -3,7 +3,8 @@
 -- A walk binds, uses, and passes frame points. What it binds is a name or an operand; each takes a slot of its
 -- own while it is in scope or pending, counted from 0 at the function's first parameter. An address is live at
 -- a frame point where some walk binds it, passes that point, and then uses it, with no binding between.
-use Rattle.std.specs.Prelude.{◌≡◌, ℕ, zero, suc, ◌+◌, Bool, true, false, not, ◌&&◌, List, [], ◌∷◌, ◌++◌, Option, Some, None, map, length, bytes_eq, Contains}
+use Rattle.std.specs.Prelude.{◌≡◌, ℕ, zero, suc, ◌+◌, Bool, true, false, not, ◌&&◌, cond, List, [], ◌∷◌, ◌++◌, Option, Some, None, map, length, find, bytes_eq, Contains}
+use Rattle.std.specs.Option.{option_map}
 use Rattle.bs_words.specs.Fits.{type_of_comp}
 use Rattle.bs_words.specs.declared.types.Ty.{Ty}
 use Rattle.bs_words.specs.declared.types.Ty.TheVariants as ty
@@ -37,14 +38,13 @@ pub record Slotted : Type 0 where
 abbrev pub names : List Slotted → List Scoped
 names scope = map (λ (s : Slotted). s.scoped) scope
 
-abbrev pub first_slot : Bool → ℕ → Option ℕ → Option ℕ
-first_slot true slot others = Some slot
-first_slot false slot others = others
+-- the innermost binding of a name, which stands first
+abbrev pub slotted_as : List Slotted → List ℕ → Option Slotted
+slotted_as scope name = find (λ (s : Slotted). bytes_eq s.scoped.name name) scope
 
 -- the slot of a name: that of its innermost binding
 abbrev pub slot_of : List Slotted → List ℕ → Option ℕ
-slot_of [] name = None
-slot_of (s ∷ rest) name = first_slot (bytes_eq s.scoped.name name) s.slot (slot_of rest name)
+slot_of scope name = option_map (λ (s : Slotted). s.slot) (slotted_as scope name)
 
 abbrev pub slotted_parameter : ℕ → Parameter → Slotted
 slotted_parameter slot p =
@@ -80,14 +80,6 @@ pub data Task : Type 0 where
   Handles : (scope : List Slotted) (slot : ℕ) (name_at : ℕ) (name : List ℕ) (handler : Expression)
       → Task
 
-abbrev pub first_tasks : Bool → List Task → List Task → List Task
-first_tasks true tasks others = tasks
-first_tasks false tasks others = others
-
-abbrev pub first_found : Bool → List Task → Option (List Task) → Option (List Task)
-first_found true tasks others = Some tasks
-first_found false tasks others = others
-
 -- an operand is evaluated, with the slots from `free` on, and its value is bound to its own slot
 abbrev pub operand : List Slotted → ℕ → ℕ → Expression → List Task
 operand scope free slot e =
@@ -109,14 +101,14 @@ count (More e rest) = suc (count rest)
 abbrev pub waiting : List Slotted → ℕ → ℕ → Expressions → List Task
 waiting scope free slot NoMore = []
 waiting scope free slot (More e rest) =
-    waiting scope free (suc slot) rest ++ first_tasks (is_light_address (names scope) e) []
+    waiting scope free (suc slot) rest ++ cond (is_light_address (names scope) e) []
     (operand scope free slot e)
 
 -- and then the light addresses, right to left
 abbrev pub filled : List Slotted → ℕ → ℕ → Expressions → List Task
 filled scope free slot NoMore = []
 filled scope free slot (More e rest) =
-    filled scope free (suc slot) rest ++ first_tasks (is_light_address (names scope) e)
+    filled scope free (suc slot) rest ++ cond (is_light_address (names scope) e)
     (operand scope free slot e) []
 
 abbrev pub all_operands : List Slotted → ℕ → Expressions → List Task
@@ -155,8 +147,7 @@ bodies (Choose indexes body rest) = body ∷ bodies rest
 -- after the operands of a call: an app and a frame call are a frame point, at their parenthesis, and may raise
 -- there; another external call is none, and does not
 abbrev pub called : Bool → ℕ → List Task
-called true at = Does (Passes at) ∷ MayRaise ∷ []
-called false at = []
+called passes at = cond passes (Does (Passes at) ∷ MayRaise ∷ []) []
 
 -- an app and a frame call use their operands before their frame point, an alloc after it; a light address of an
 -- alloc is evaluated after it, too
@@ -229,10 +220,10 @@ abbrev pub handler_for : LabelTree
     → Option (List Task)
 handler_for label scope slot in_handler all behind NoHandler = None
 handler_for label scope slot in_handler all behind (Handle at own params body rest) =
-    first_found (same_label label own && not (is_bare label && in_handler))
-    (parameters_bound slot params
+    cond (same_label label own && not (is_bare label && in_handler))
+    (Some (parameters_bound slot params
     ++ (Evaluates (with_slots slot params scope) (slot + length params) body
-    ∷ Catches scope slot true all ∷ behind))
+    ∷ Catches scope slot true all ∷ behind)))
     (handler_for label scope slot in_handler all behind rest)
 
 -- where an exit leads, if a handler of its label is visible
