@@ -1,10 +1,10 @@
 -- What is noted one by one is the leftmost.
-use Rattle.std.proofs.Common.{◌≡◌, Bool, true, false, ◌&&◌, ◌==◌, nat_lt, Option, Some, None, ◌⊎◌, inl, inr, refl, sym, arith, subst}
+use Rattle.std.proofs.Common.{◌≡◌, Bool, true, false, cond, ◌&&◌, ◌==◌, nat_lt, Option, Some, None, ◌⊎◌, inl, inr, refl, sym, arith, subst}
 use Rattle.std.proofs.lemmas.Bool.{ltb-true, ltb-false, eqb-true, or_cases, or_parts, and_parts, and_cases, eqb-false}
 use Rattle.bs_fault.specs.FaultLines.{fault_place}
 use Rattle.bs_fault.specs.declared.fault.Fault.{Fault}
 use Rattle.bs_fault.specs.Order.{fault_number, Precedes}
-use Rattle.bs_fault.specs.Reported.{Faults, NoFault, One, Both, Among, here, first, second, IsReported, precedes, chosen, noted, noted_all}
+use Rattle.bs_fault.specs.Reported.{Faults, NoFault, One, Both, Among, here, first, second, IsReported, precedes, noted, noted_all}
 
 precedes-trans : (a b c : Fault) → Precedes a b → Precedes b c → Precedes a c
 precedes-trans a b c (inl x) (inl y) = inl (omega arith)
@@ -58,7 +58,7 @@ best-same P Q to from (Some reported) h = record { is = to reported h.is; before
 abbrev pub With : (Fault → Type 0) → Fault → Fault → Type 0
 With P f = λ g. P g ⊎ (g ≡ f)
 
-noted-chosen : (P : Fault → Type 0) (f reported : Fault) → Best P reported → (b : Bool) → precedes f reported ≡ b → Best (With P f) (chosen b f reported)
+noted-chosen : (P : Fault → Type 0) (f reported : Fault) → Best P reported → (b : Bool) → precedes f reported ≡ b → Best (With P f) (cond b f reported)
 noted-chosen P f reported h true e =
     record {
       is = inr refl;

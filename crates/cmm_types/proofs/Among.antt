@@ -1,10 +1,10 @@
 -- The faults that are gathered, and the one that is told of them.
-use Rattle.std.proofs.Common.{◌≡◌, ◌<◌, ◌≤◌, Bool, true, false, Option, Some, None, ◌⊎◌, inl, inr, refl, arith}
+use Rattle.std.proofs.Common.{◌≡◌, ◌<◌, ◌≤◌, Bool, true, false, cond, Option, Some, None, ◌⊎◌, inl, inr, refl, arith}
 use Rattle.std.proofs.lemmas.Bool.Decides.{nat_tests}
 use Rattle.bs_fault.specs.FaultLines.{fault_place}
 use Rattle.bs_fault.specs.declared.fault.Fault.{Fault}
 use Rattle.bs_fault.specs.Order.{fault_number, Precedes}
-use Rattle.bs_fault.specs.Reported.{Faults, NoFault, One, Both, one_if, precedes, chosen, noted, noted_all}
+use Rattle.bs_fault.specs.Reported.{Faults, NoFault, One, Both, one_if, precedes, noted, noted_all}
 
 pub data Among (told : Fault) : Faults → Type 0 where
   here : Among told (One told)
@@ -57,14 +57,14 @@ noted-new : (f : Fault) (found : Option Fault) → ToldBy (noted f found) f
 noted-new f None = record { told = f; is = refl; no_later = AtMost-same f }
 noted-new f (Some g) = go (precedes f g) refl
   where
-    go : (b : Bool) → precedes f g ≡ b → ToldBy (Some (chosen b f g)) f
+    go : (b : Bool) → precedes f g ≡ b → ToldBy (Some (cond b f g)) f
     go true e = record { told = f; is = refl; no_later = AtMost-same f }
     go false e = record { told = g; is = refl; no_later = precedes-false f g e }
 
 noted-old : (f g : Fault) → ToldBy (noted f (Some g)) g
 noted-old f g = go (precedes f g) refl
   where
-    go : (b : Bool) → precedes f g ≡ b → ToldBy (Some (chosen b f g)) g
+    go : (b : Bool) → precedes f g ≡ b → ToldBy (Some (cond b f g)) g
     go true e = record { told = f; is = refl; no_later = precedes-true f g e }
     go false e = record { told = g; is = refl; no_later = AtMost-same g }
 
@@ -108,7 +108,7 @@ noted_all-from (One g) None f e = inr (go e)
     go e = let same : f ≡ g = cc in rw same here
 noted_all-from (One g) (Some h) f e = go (precedes g h) e
   where
-    go : (b : Bool) → Some (chosen b g h) ≡ Some f → (Some h ≡ Some f) ⊎ Among f (One g)
+    go : (b : Bool) → Some (cond b g h) ≡ Some f → (Some h ≡ Some f) ⊎ Among f (One g)
     go true e = let same : f ≡ g = cc in inr (rw same here)
     go false e = inl e
 noted_all-from (Both a b) found f e = later (noted_all-from a found f) (noted_all-from b (noted_all a found) f e)

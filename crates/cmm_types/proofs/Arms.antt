@@ -21,7 +21,8 @@ use Rattle.bs_fault.specs.Reported.{noted_all}
 use Rattle.cmm_tree.specs.Rows.{row_of, bindings_of, cases_of, handlers_of}
 use Rattle.cmm_types.specs.Annotated.{IsAnnotated, PartsTyped}
 use Rattle.cmm_types.specs.Lists.{AreAnnotated, AreBindingsAnnotated, AreCasesAnnotated, AreHandlersAnnotated}
-use Rattle.cmm_types.proofs.Views.{seq_view, exit_view, alloc_view, float_view, extcall_view, app_view, let_view, switch_view, catch_view, let_typed}
+use Rattle.cmm_tree.proofs.Rows.{seq_view, exit_view, alloc_view, float_view, extcall_view, app_view, let_view, switch_view, catch_view}
+use Rattle.cmm_types.proofs.Views.{let_typed}
 use Rattle.cmm_types.proofs.Leaving.{leave_bindings, leave_parameters, leave_front}
 
 -- ---- what is said of a form, by its view

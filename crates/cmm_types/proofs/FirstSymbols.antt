@@ -1,24 +1,18 @@
 -- The first definitions of symbols: a look-up among them finds what a look-up among all finds, and those
 -- that are left out are defined before.
-use Rattle.std.proofs.Common.{◌≡◌, ℕ, Bool, true, false, List, [], ◌∷◌, ◌++◌, append_assoc, Option, Some, None, is_some, bytes_eq, refl, ap, sym, ◌∙◌, subst, arith}
+use Rattle.std.proofs.Common.{◌≡◌, ℕ, Bool, true, false, cond, List, [], ◌∷◌, ◌++◌, append_assoc, Option, Some, None, is_some, bytes_eq, refl, ap, sym, ◌∙◌, subst, arith}
+use Rattle.std.specs.Option.{option_or}
+use Rattle.std.proofs.lemmas.List.{append-nil}
+use Rattle.std.proofs.lemmas.List.Folds.{find-append}
 use Rattle.std.proofs.lemmas.Slice.Eq.{bytes_eq-Decides}
 use Rattle.bs_fault.specs.declared.fault.Fault.{Fault}
 use Rattle.bs_fault.specs.declared.fault.Fault.TheVariants as fault
-use Rattle.cmm_tree.specs.Symbols.{first_found, DefinedSymbol, definition_of}
-use Rattle.cmm_types.specs.Gathered.{added, with_symbol, with_symbols, symbol_faults}
+use Rattle.cmm_tree.specs.Symbols.{DefinedSymbol, definition_of}
+use Rattle.cmm_types.specs.Gathered.{with_symbol, with_symbols, symbol_faults}
 use Rattle.cmm_types.proofs.Among.{Among, first, second, one_if-from, one_if-among}
 
-abbrev or_else : {A : Type 0} → Option A → Option A → Option A
-or_else (Some x) other = Some x
-or_else None other = other
-
-or_else-first_found : {A : Type 0} (b : Bool) (x : A) (o p : Option A) → first_found b x (or_else o p) ≡ or_else (first_found b x o) p
-or_else-first_found true x o p = refl
-or_else-first_found false x o p = refl
-
-definition_of-append : (a b : List DefinedSymbol) (name : List ℕ) → definition_of (a ++ b) name ≡ or_else (definition_of a name) (definition_of b name)
-definition_of-append [] b name = refl
-definition_of-append (s ∷ a) b name = ap (λ (o : Option DefinedSymbol). first_found (bytes_eq s.name name) s o) (definition_of-append a b name) ∙ or_else-first_found (bytes_eq s.name name) s (definition_of a name) (definition_of b name)
+definition_of-append : (a b : List DefinedSymbol) (name : List ℕ) → definition_of (a ++ b) name ≡ option_or (definition_of a name) (definition_of b name)
+definition_of-append a b name = find-append (λ (s : DefinedSymbol). bytes_eq s.name name) a b
 
 -- the same look-ups
 pub Agree : List DefinedSymbol → List DefinedSymbol → Type 0
@@ -32,7 +26,7 @@ pub agree-at : (a b : List DefinedSymbol) → Agree a b → (name : List ℕ) �
 unfolding Agree
 agree-at a b f = f
 
-known_already : (o : Option DefinedSymbol) (b : Bool) (s : DefinedSymbol) → (b ≡ true → is_some o ≡ true) → o ≡ or_else o (first_found b s None)
+known_already : (o : Option DefinedSymbol) (b : Bool) (s : DefinedSymbol) → (b ≡ true → is_some o ≡ true) → o ≡ option_or o (cond b (Some s) None)
 known_already (Some x) b s k = refl
 known_already None true s k = absurd (never (k refl))
   where
@@ -49,21 +43,17 @@ with_symbol-agrees known before s same =
     found : (name : List ℕ) → bytes_eq s.name name ≡ true → s.name ≡ name
     found name e = grind (arith, bytes_eq-Decides)
 
-    each : (name : List ℕ) (b : Bool) → is_some (definition_of known s.name) ≡ b → definition_of (added b known s) name ≡ or_else (definition_of before name) (definition_of (s ∷ []) name)
+    each : (name : List ℕ) (b : Bool) → is_some (definition_of known s.name) ≡ b → definition_of (cond b known (known ++ s ∷ [])) name ≡ option_or (definition_of before name) (definition_of (s ∷ []) name)
     each name true e =
         agree-at known before same name
         ∙ known_already (definition_of before name) (bytes_eq s.name name) s
         (λ t. ap is_some (sym (agree-at known before same name)) ∙ ap (λ (n : List ℕ). is_some (definition_of known n)) (sym (found name t)) ∙ e)
     each name false e =
         definition_of-append known (s ∷ []) name
-        ∙ ap (λ (o : Option DefinedSymbol). or_else o (definition_of (s ∷ []) name)) (agree-at known before same name)
+        ∙ ap (λ (o : Option DefinedSymbol). option_or o (definition_of (s ∷ []) name)) (agree-at known before same name)
 
 pub with_symbols-agrees : (known before rest : List DefinedSymbol) → Agree known before → Agree (with_symbols known rest) (before ++ rest)
-with_symbols-agrees known before [] same = agree-from _ _ (λ name. agree-at known before same name ∙ ap (λ (l : List DefinedSymbol). definition_of l name) (sym (append_nil before)))
-  where
-    append_nil : (l : List DefinedSymbol) → l ++ [] ≡ l
-    append_nil [] = refl
-    append_nil (x ∷ l) = ap (λ (m : List DefinedSymbol). x ∷ m) (append_nil l)
+with_symbols-agrees known before [] same = agree-from _ _ (λ name. agree-at known before same name ∙ ap (λ (l : List DefinedSymbol). definition_of l name) (sym (append-nil before)))
 with_symbols-agrees known before (s ∷ rest) same =
     let P : List DefinedSymbol → Type 0 = λ l. Agree (with_symbols (with_symbol known s) rest) l in
     subst P (append_assoc before (s ∷ []) rest) (with_symbols-agrees (with_symbol known s) (before ++ s ∷ []) rest (with_symbol-agrees known before s same))
@@ -78,7 +68,7 @@ twice_below known before [] [] behind s e same is d = cc
 twice_below known before [] (x ∷ early) behind s e same is d = cc
 twice_below known before (y ∷ rest) [] behind s e same is d =
     let alike : y ≡ s = cc in
-    let none : before ++ [] ≡ before = append_nil before in
+    let none : before ++ [] ≡ before = append-nil before in
     let there : is_some (definition_of known y.name) ≡ true =
     ap (λ (n : DefinedSymbol). is_some (definition_of known n.name)) alike
     ∙ ap is_some (agree-at known before same s.name)
@@ -87,10 +77,6 @@ twice_below known before (y ∷ rest) [] behind s e same is d =
     in
     let P : DefinedSymbol → Type 0 = λ n. Among (fault.DuplicateSymbol n.at) (symbol_faults known (y ∷ rest)) in
     subst P alike (first (one_if-among _ _ there))
-  where
-    append_nil : (l : List DefinedSymbol) → l ++ [] ≡ l
-    append_nil [] = refl
-    append_nil (x ∷ l) = ap (λ (m : List DefinedSymbol). x ∷ m) (append_nil l)
 twice_below known before (y ∷ rest) (x ∷ early) behind s e same is d =
     let alike : x ≡ y = cc in
     let after : rest ≡ early ++ s ∷ behind = cc in
@@ -126,13 +112,9 @@ twice-from known before (s ∷ rest) told same (first m) =
       symbol = s;
       earlier = f.symbol;
       split = refl;
-      found = ap (λ (l : List DefinedSymbol). definition_of l s.name) (append_nil before) ∙ sym (agree-at known before same s.name) ∙ f.is;
+      found = ap (λ (l : List DefinedSymbol). definition_of l s.name) (append-nil before) ∙ sym (agree-at known before same s.name) ∙ f.is;
       is = both.1;
     }
-  where
-    append_nil : (l : List DefinedSymbol) → l ++ [] ≡ l
-    append_nil [] = refl
-    append_nil (x ∷ l) = ap (λ (m : List DefinedSymbol). x ∷ m) (append_nil l)
 twice-from known before (s ∷ rest) told same (second m) =
     let t = twice-from (with_symbol known s) (before ++ s ∷ []) rest told (with_symbol-agrees known before s same) m in
     record {
@@ -147,14 +129,10 @@ twice-from known before (s ∷ rest) told same (second m) =
 
 -- where none is defined twice the first definitions are all
 pub with_symbols-all : (known rest : List DefinedSymbol) → ((told : Fault) → ¬ Among told (symbol_faults known rest)) → with_symbols known rest ≡ known ++ rest
-with_symbols-all known [] none = sym (append_nil known)
-  where
-    append_nil : (l : List DefinedSymbol) → l ++ [] ≡ l
-    append_nil [] = refl
-    append_nil (x ∷ l) = ap (λ (m : List DefinedSymbol). x ∷ m) (append_nil l)
+with_symbols-all known [] none = sym (append-nil known)
 with_symbols-all known (s ∷ rest) none =
     each (is_some (definition_of known s.name)) refl (with_symbols-all (with_symbol known s) rest (λ told m. none told (second m)))
   where
     each : (b : Bool) → is_some (definition_of known s.name) ≡ b → with_symbols (with_symbol known s) rest ≡ with_symbol known s ++ rest → with_symbols (with_symbol known s) rest ≡ known ++ (s ∷ rest)
     each true e h = absurd (none (fault.DuplicateSymbol s.at) (first (one_if-among _ _ e)))
-    each false e h = h ∙ ap (λ (b : Bool). added b known s ++ rest) e ∙ append_assoc known (s ∷ []) rest
+    each false e h = h ∙ ap (λ (b : Bool). cond b known (known ++ s ∷ []) ++ rest) e ∙ append_assoc known (s ∷ []) rest

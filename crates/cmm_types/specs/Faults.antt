@@ -9,8 +9,8 @@ use Rattle.bs_fault.specs.declared.fault.Fault.TheVariants as fault
 use Rattle.cmm_tree.specs.Tree.{Expression, Symbol, Name, Float, Let, Assign, Alloc, App, Extcall, Catch, Exit, Expressions, NoMore, More, Bindings, Bind, Declaration, Handlers, NoHandler, Handle, Parameter, FunctionTree, LabelTree, DataItemTree, DataListTree, FileTree, functions, data_lists, same_label}
 use Rattle.cmm_tree.specs.Tree as tree
 use Rattle.cmm_tree.specs.Place.{place_of}
-use Rattle.cmm_types.specs.Types.{Scoped, type_of, body_type}
-use Rattle.cmm_types.specs.Standing.{Visible, Stands, Takes, InBindings, InRow, InHandlers, binding_of, handler_of}
+use Rattle.cmm_types.specs.Types.{Scoped, binding_of, type_of, body_type}
+use Rattle.cmm_types.specs.Standing.{Visible, Stands, Takes, InBindings, InRow, InHandlers, handler_of}
 use Rattle.cmm_tree.specs.Symbols.{DefinedSymbol, symbols, definition_of}
 
 -- the number of expressions in a row

@@ -12,8 +12,8 @@ use Rattle.bs_fault.specs.declared.fault.Fault.TheVariants as fault
 use Rattle.cmm_tree.specs.Tree.{Expression, Integer, Pointer, Symbol, Name, Nothing, Float, Let, Assign, Operator, Load, Store, Alloc, App, Extcall, Checkbound, Raise, Seq, If, Switch, Catch, Exit, Try, Expressions, NoMore, More, Bindings, NoBinding, Bind, Declaration, Cases, NoCase, Choose, Handlers, NoHandler, Handle, Parameter, FunctionTree, LabelTree, DatumTree, DataItemTree, DataListTree, ItemTree, AFunction, AData, FileTree, same_label}
 use Rattle.cmm_tree.specs.Tree as tree
 use Rattle.cmm_tree.specs.Place.{place_of}
-use Rattle.cmm_types.specs.Types.{Scoped, is_float, with_parameters, with_bindings, type_of, body_type}
-use Rattle.cmm_types.specs.Standing.{Visible, binding_of, handler_of, labels_of, lasting_labels_of}
+use Rattle.cmm_types.specs.Types.{Scoped, binding_of, is_float, with_parameters, with_bindings, type_of, body_type}
+use Rattle.cmm_types.specs.Standing.{Visible, handler_of, labels_of, lasting_labels_of}
 use Rattle.cmm_tree.specs.Symbols.{DefinedSymbol, built_in, definition_of, symbols_among}
 use Rattle.cmm_types.specs.Faults.{row_length, is_header}
 use Rattle.cmm_types.specs.declared.role.Role.{Role}

@@ -2,7 +2,7 @@
 ghost use Rattle.std.specs.Prelude.{◌≡◌, ◌-◌, length, [], ◌∷◌, drop, map, reverse, OnOk, OnErr};
 ghost use Rattle.cmm_types.specs.Entries.{scoped_view};
 ghost use Rattle.std.specs.Option.{option_map};
-ghost use Rattle.cmm_types.specs.Standing.{binding_of};
+ghost use Rattle.cmm_types.specs.Types.{binding_of};
 ghost use Rattle.cmm_types.specs.Scopes.{scoped, meaning_of};
 
 use bs_words::{Name, Ty};

@@ -1,5 +1,5 @@
 use Rattle.std.proofs.Common.{◌≡◌, ◌≤◌, map, reverse, take, length}
-use Rattle.cmm_types.specs.Standing.{binding_of}
+use Rattle.cmm_types.specs.Types.{binding_of}
 use Rattle.cmm_types.specs.Entries.{scoped_view}
 use Rattle.cmm_types.proofs.names.innermost.Given as goal
 

@@ -12,7 +12,8 @@ use Rattle.bs_fault.specs.Reported.{noted_all}
 use Rattle.cmm_types.proofs.Loops.{Noting, last_or}
 use Rattle.cmm_types.proofs.Turns.{drop_behind, row_of-set, annotated-set, row_turn, row_float_turn, last_turn, last_is, cases_of-set, cases-set, cases_turn, cases_float_turn, cases_join_turn, handlers_of-set, handlers-set, handlers_turn, handlers_float_turn, handlers_join_turn, bindings_of-set, bindings-set, names-set, names_turn, bindings_turn, bindings_float_turn, or_false, join_never, handler_typed, with_binding-same}
 use Rattle.cmm_tree.specs.View.{form_view}
-use Rattle.cmm_types.proofs.Views.{seq_view, exit_view, alloc_view, float_view, extcall_view, app_view, let_view, switch_view, catch_view, seq_typed, float_typed, exit_typed, alloc_typed, extcall_typed, app_typed, switch_typed, catch_typed}
+use Rattle.cmm_tree.proofs.Rows.{seq_view, exit_view, alloc_view, float_view, extcall_view, app_view, let_view, switch_view, catch_view}
+use Rattle.cmm_types.proofs.Views.{seq_typed, float_typed, exit_typed, alloc_typed, extcall_typed, app_typed, switch_typed, catch_typed}
 use Rattle.cmm_types.proofs.Arms.{told, plain_by, float_by, row_same, bindings_same, cases_same, handlers_same, lent_same, float_kept, alloc_kept, seq_kept, exit_kept, extcall_kept, app_kept, switch_kept, let_kept, catch_kept, left_bindings, left_parameters, left_labels, annotated_in, cases_in_scope, handlers_in_scope, one_in, let_annotated}
 use Rattle.cmm_types.proofs.Told.{count_is, float_found, alloc_found, exit_found, app_found, extcall_found, switch_found, let_found, catch_found, app_float}
 use Rattle.cmm_types.specs.Standing.{labels_of}
