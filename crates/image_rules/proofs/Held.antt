@@ -18,6 +18,7 @@ use Rattle.cmm_tree.specs.declared.expr.Handler.{Handler}
 use Rattle.cmm_tree.specs.declared.expr.Label.{Label}
 use Rattle.cmm_tree.specs.declared.file.Item.{Item}
 use Rattle.cmm_tree.specs.declared.file.Item.TheVariants as item
+use Rattle.cmm_tree.proofs.Rows.{row_in, bindings_in, cases_in, handlers_in}
 use Rattle.cmm_types.specs.Annotated.{PartsTyped, RowTyped, BindingsTyped, CasesTyped, HandlersTyped}
 use Rattle.cmm_types.specs.Types.{Scoped, with_parameters, with_bindings}
 use Rattle.cmm_types.specs.Typing.{AreItemsAnnotated}
@@ -120,22 +121,6 @@ handlers_among n (form.more_of-Handler at label params body_at body_ty body rest
     ap (λ (es : List External). calls_held body ++ es) (handlers_among _ rest)
 
 -- ---- forms with rows, by the lists that the code holds
-
-abbrev row_in : Form → (n : Count) × form.Row_of-Expr n
-row_in (form.Seq' _ row) = (_, row)
-row_in _ = (_, form.end_of-Expr)
-
-abbrev bindings_in : Form → (n : Count) × form.Row_of-Binding n
-bindings_in (form.Let' _ row p at ty f) = (_, row)
-bindings_in _ = (_, form.end_of-Binding)
-
-abbrev cases_in : Form → (n : Count) × form.Row_of-Case n
-cases_in (form.Switch' size_at size p at ty f _ row) = (_, row)
-cases_in _ = (_, form.end_of-Case)
-
-abbrev handlers_in : Form → (n : Count) × form.Row_of-Handler n
-handlers_in (form.Catch' p at ty f _ row) = (_, row)
-handlers_in _ = (_, form.end_of-Handler)
 
 row_of_vec : (v : Vec Expr Global) → row_held (row_in (form.Seq v)).1 ≡ calls_among v.items
 row_of_vec v = row_among (row_in (form.Seq v)).0 (row_in (form.Seq v)).1 ∙ ap calls_among (form.items_hidden-the_row-Expr-0 v)
