@@ -1,84 +1,125 @@
 -- Looking names up, one definition after the other.
-use Rattle.std.proofs.Common.{◌≡◌, ◌∙◌, ℕ, Bool, true, false, cond, List, [], ◌∷◌, ◌++◌, Option, Some, None, Bor, bytes_eq, is_some, map, ◌+◌, refl, ap, sym, subst}
+use Rattle.std.proofs.Common.{◌≡◌, ◌∙◌, ℕ, Bool, true, false, cond, List, [], ◌∷◌, ◌++◌, Option, Some, None, Bor, bytes_eq, is_some, option_map, map, ◌+◌, refl, ap, sym, subst}
 use Rattle.std.specs.BTreeMap as tree
 use Rattle.std.specs.Map.{update, lookup}
-use Rattle.std.specs.Option.{option_to_list}
+use Rattle.std.specs.Option.{IfSome, option_or, option_to_list}
 use Rattle.std.specs.Cmp.Lexicographic.{slice_cmp}
 use Rattle.std.specs.Ordering.{nat_cmp}
-use Rattle.std.specs.List.{cons_option}
+use Rattle.std.specs.List.{AllByRecursion, cons_option, find}
+use Rattle.std.proofs.lemmas.List.Folds.{find-append}
 use Rattle.std.proofs.lemmas.Slice.Eq.{bytes_eq-Decides}
 use Rattle.bs_words.specs.declared.values.Value.{Value}
 use Rattle.cmm_tree.specs.Tree.{DataItemTree}
 use Rattle.cmm_data.specs.declared.symbols.SymbolTable.{SymbolTable}
 use Rattle.cmm_data.specs.Placement.{Definition, value_among, symbol_at, size_at, definition_of_data, defined_at, DataSymbolTree, symbols_among, items_from}
-use Rattle.cmm_data.specs.Symbols.{value_in, or_else, Adds}
+use Rattle.cmm_data.specs.Symbols.{value_in, Adds}
 
-pub or_else-none : (a : Option Value) → or_else a None ≡ a
-or_else-none None = refl
-or_else-none (Some v) = refl
+pub option_or-none : (a : Option Value) → option_or a None ≡ a
+option_or-none None = refl
+option_or-none (Some v) = refl
 
-pub or_else-assoc : (a b c : Option Value) → or_else (or_else a b) c ≡ or_else a (or_else b c)
-or_else-assoc None b c = refl
-or_else-assoc (Some v) b c = refl
+pub option_or-assoc : (a b c : Option Value) → option_or (option_or a b) c ≡ option_or a (option_or b c)
+option_or-assoc None b c = refl
+option_or-assoc (Some v) b c = refl
 
-or_else-known : (a b : Option Value) → is_some a ≡ true → a ≡ or_else a b
-or_else-known None b h = absurd (cc)
-or_else-known (Some v) b h = refl
+option_or-known : (a b : Option Value) → is_some a ≡ true → a ≡ option_or a b
+option_or-known None b h = absurd (cc)
+option_or-known (Some v) b h = refl
 
-or_else-unknown : (a b : Option Value) → is_some a ≡ false → b ≡ or_else a b
-or_else-unknown None b h = refl
-or_else-unknown (Some v) b h = absurd (cc)
+option_or-unknown : (a b : Option Value) → is_some a ≡ false → b ≡ option_or a b
+option_or-unknown None b h = refl
+option_or-unknown (Some v) b h = absurd (cc)
 
-chosen : (test : Bool) (d : Definition) (rest later : Option Value) →
-    cond test (Some d.value) (or_else rest later) ≡ or_else (cond test (Some d.value) rest) later
-chosen true d rest later = refl
-chosen false d rest later = refl
+-- ---- the first definition of a name
+
+value_of-cond : (b : Bool) (d : Definition) (rest : Option Definition) →
+    option_map (λ (d : Definition). d.value) (cond b (Some d) rest) ≡ cond b (Some d.value) (option_map (λ (d : Definition). d.value) rest)
+value_of-cond true d rest = refl
+value_of-cond false d rest = refl
+
+value_of-or : (a b : Option Definition) →
+    option_map (λ (d : Definition). d.value) (option_or a b) ≡ option_or (option_map (λ (d : Definition). d.value) a) (option_map (λ (d : Definition). d.value) b)
+value_of-or None b = refl
+value_of-or (Some d) b = refl
+
+-- it is the first of these, or it is found among the others
+pub value_among-more : (d : Definition) (ds : List Definition) (name : List ℕ) →
+    value_among (d ∷ ds) name ≡ cond (bytes_eq d.name name) (Some d.value) (value_among ds name)
+value_among-more d ds name = value_of-cond (bytes_eq d.name name) d (find (λ (d : Definition). bytes_eq d.name name) ds)
 
 pub value_among-append : (xs ys : List Definition) (name : List ℕ) →
-    value_among (xs ++ ys) name ≡ or_else (value_among xs name) (value_among ys name)
-value_among-append [] ys name = refl
-value_among-append (x ∷ xs) ys name =
-    ap (cond (bytes_eq x.name name) (Some x.value)) (value_among-append xs ys name)
-    ∙ chosen (bytes_eq x.name name) x (value_among xs name) (value_among ys name)
+    value_among (xs ++ ys) name ≡ option_or (value_among xs name) (value_among ys name)
+value_among-append xs ys name =
+    ap (option_map (λ (d : Definition). d.value)) (find-append (λ (d : Definition). bytes_eq d.name name) xs ys)
+    ∙ value_of-or (find (λ (d : Definition). bytes_eq d.name name) xs) (find (λ (d : Definition). bytes_eq d.name name) ys)
+
+-- what holds of the value of each definition holds of the one that is found
+pub value_among-all : (P : Value → Type 0) (ds : List Definition) (name : List ℕ) →
+    AllByRecursion (λ (d : Definition). P d.value) ds → IfSome (value_among ds name) P
+value_among-all P [] name all = tt
+value_among-all P (d ∷ ds) name all =
+    let Q : Option Value → Type 0 = λ o. IfSome o P in
+    subst Q (sym (value_among-more d ds name)) (by (bytes_eq d.name name) (value_among-all P ds name all.1))
+  where
+    by : (b : Bool) → IfSome (value_among ds name) P → IfSome (cond b (Some d.value) (value_among ds name)) P
+    by true later = all.0
+    by false later = later
+
+pub value_among-from : (P : Value → Type 0) (ds : List Definition) (name : List ℕ) (v : Value) →
+    AllByRecursion (λ (d : Definition). P d.value) ds → value_among ds name ≡ Some v → P v
+value_among-from P ds name v all e =
+    let Q : Option Value → Type 0 = λ o. IfSome o P in
+    subst Q e (value_among-all P ds name all)
+
+-- ---- what is added to a table
 
 -- a name that has a value keeps it
 known-stays : (f : List ℕ → Option Value) (name : List ℕ) (value : Value) (q : List ℕ) (test : Bool) →
-    bytes_eq name q ≡ test → is_some (f name) ≡ true → f q ≡ or_else (f q) (cond test (Some value) None)
+    bytes_eq name q ≡ test → is_some (f name) ≡ true → f q ≡ option_or (f q) (cond test (Some value) None)
 known-stays f name value q true same h =
     let e : name ≡ q = (bytes_eq-Decides name q).0 same in
-    or_else-known (f q) (Some value) (subst (λ (n : List ℕ). is_some (f n) ≡ true) e h)
-known-stays f name value q false differs h = sym (or_else-none (f q))
+    option_or-known (f q) (Some value) (subst (λ (n : List ℕ). is_some (f n) ≡ true) e h)
+known-stays f name value q false differs h = sym (option_or-none (f q))
 
 -- one that has none gets this value
 unknown-gets : (f : List ℕ → Option Value) (name : List ℕ) (value : Value) (q : List ℕ) (test : Bool) →
-    bytes_eq name q ≡ test → is_some (f name) ≡ false → cond test (Some value) (f q) ≡ or_else (f q) (cond test (Some value) None)
+    bytes_eq name q ≡ test → is_some (f name) ≡ false → cond test (Some value) (f q) ≡ option_or (f q) (cond test (Some value) None)
 unknown-gets f name value q true same h =
     let e : name ≡ q = (bytes_eq-Decides name q).0 same in
-    or_else-unknown (f q) (Some value) (subst (λ (n : List ℕ). is_some (f n) ≡ false) e h)
-unknown-gets f name value q false differs h = sym (or_else-none (f q))
+    option_or-unknown (f q) (Some value) (subst (λ (n : List ℕ). is_some (f n) ≡ false) e h)
+unknown-gets f name value q false differs h = sym (option_or-none (f q))
 
 pub adds-known : (table : SymbolTable) (name : List ℕ) (value : Value) →
     is_some (value_in table name) ≡ true → Adds table table (record { name = name; value = value } ∷ [])
 adds-known table name value h =
-    record { each = λ q. known-stays (value_in table) name value q (bytes_eq name q) refl h }
+    let d : Definition = record { name = name; value = value } in
+    record {
+      each = λ q.
+          known-stays (value_in table) name value q (bytes_eq name q) refl h ∙ ap (option_or (value_in table q)) (sym (value_among-more d [] q));
+    }
 
 pub adds-unknown : (old new : SymbolTable) (name : List ℕ) (value : Value) →
     is_some (value_in old name) ≡ false →
     ((q : List ℕ) → value_in new q ≡ update bytes_eq (value_in old) name (Some value) q) →
     Adds old new (record { name = name; value = value } ∷ [])
 adds-unknown old new name value h updates =
-    record { each = λ q. updates q ∙ unknown-gets (value_in old) name value q (bytes_eq name q) refl h }
+    let d : Definition = record { name = name; value = value } in
+    record {
+      each = λ q.
+          updates q
+          ∙ (unknown-gets (value_in old) name value q (bytes_eq name q) refl h ∙ ap (option_or (value_in old q)) (sym (value_among-more d [] q)));
+    }
 
 pub adds-none : (table : SymbolTable) → Adds table table []
-adds-none table = record { each = λ q. sym (or_else-none (value_in table q)) }
+adds-none table = record { each = λ q. sym (option_or-none (value_in table q)) }
 
 -- what is added, and what is defined later
 pub adds-later : (old new : SymbolTable) (defined later : List Definition) → Adds old new defined → (name : List ℕ) →
-    or_else (value_in old name) (value_among (defined ++ later) name) ≡ or_else (value_in new name) (value_among later name)
+    option_or (value_in old name) (value_among (defined ++ later) name) ≡ option_or (value_in new name) (value_among later name)
 adds-later old new defined later adds name =
-    ap (or_else (value_in old name)) (value_among-append defined later name)
-    ∙ sym (or_else-assoc (value_in old name) (value_among defined name) (value_among later name))
-    ∙ ap (λ (v : Option Value). or_else v (value_among later name)) (sym (adds.each name))
+    ap (option_or (value_in old name)) (value_among-append defined later name)
+    ∙ sym (option_or-assoc (value_in old name) (value_among defined name) (value_among later name))
+    ∙ ap (λ (v : Option Value). option_or v (value_among later name)) (sym (adds.each name))
 
 consed : (s : Option DataSymbolTree) (more : List DataSymbolTree) →
     map definition_of_data (cons_option s more) ≡ map definition_of_data (option_to_list s) ++ map definition_of_data more

@@ -1,5 +1,6 @@
 -- What the code's table of symbols has.
-use Rattle.std.specs.Prelude.{◌≡◌, ℕ, List, Option, Some, None}
+use Rattle.std.specs.Prelude.{◌≡◌, ℕ, List, Option}
+use Rattle.std.specs.Option.{option_or}
 use Rattle.std.specs.BTreeMap as tree
 use Rattle.std.specs.Cmp.Lexicographic.{slice_cmp}
 use Rattle.std.specs.Ordering.{nat_cmp}
@@ -12,13 +13,9 @@ use Rattle.cmm_data.specs.Placement.{Definition, value_among, value_of_symbol}
 abbrev pub value_in : SymbolTable → List ℕ → Option Value
 value_in table name = tree.get_by (λ k. slice_cmp nat_cmp name k.now) table.values
 
-abbrev pub or_else : Option Value → Option Value → Option Value
-or_else None later = later
-or_else (Some value) later = Some value
-
 -- The table has these definitions after those that it had: the first one of a name counts.
 pub record Adds (old new : SymbolTable) (defined : List Definition) : Type 0 where
-  pub each : (name : List ℕ) → value_in new name ≡ or_else (value_in old name) (value_among defined name)
+  pub each : (name : List ℕ) → value_in new name ≡ option_or (value_in old name) (value_among defined name)
 
 -- The table has the value of every symbol of the file.
 pub record IsTableOf (file : FileTree) (table : SymbolTable) : Type 0 where

@@ -243,10 +243,6 @@ bindings_float_turn xs i x float held lt at is =
 
 -- ---- where a loop ends
 
-pub or_false : (b : Bool) → (b || false) ≡ b
-or_false true = refl
-or_false false = refl
-
 pub join_never : (t : Ty) → join t Never ≡ t
 join_never Never = refl
 join_never NoValue = refl

@@ -158,7 +158,22 @@ impl Checker {
                     float: seen.float,
                 })
             }
-            _ => unreachable!(),
+            Form::Integer(_)
+            | Form::Pointer(_)
+            | Form::Symbol(_)
+            | Form::Name(_)
+            | Form::Nothing
+            | Form::Float { .. }
+            | Form::Let(_, _)
+            | Form::Alloc { .. }
+            | Form::App { .. }
+            | Form::Extcall { .. }
+            | Form::Seq(_)
+            | Form::If(_, _, _)
+            | Form::Switch { .. }
+            | Form::Catch(_, _)
+            | Form::Exit { .. }
+            | Form::Try { .. } => unreachable!(),
         }
     }
 
@@ -224,7 +239,24 @@ impl Checker {
                     float: passed.float,
                 })
             }
-            _ => unreachable!(),
+            Form::Integer(_)
+            | Form::Pointer(_)
+            | Form::Symbol(_)
+            | Form::Name(_)
+            | Form::Nothing
+            | Form::Let(_, _)
+            | Form::Assign { .. }
+            | Form::Operator(_, _, _)
+            | Form::Load(_, _)
+            | Form::Store(_, _, _)
+            | Form::App { .. }
+            | Form::Extcall { .. }
+            | Form::Checkbound(_, _)
+            | Form::Raise(_)
+            | Form::If(_, _, _)
+            | Form::Switch { .. }
+            | Form::Catch(_, _)
+            | Form::Try { .. } => unreachable!(),
         }
     }
 
@@ -279,7 +311,26 @@ impl Checker {
                     float: either(passed.float, is_float_ret(*given)),
                 })
             }
-            _ => unreachable!(),
+            Form::Integer(_)
+            | Form::Pointer(_)
+            | Form::Symbol(_)
+            | Form::Name(_)
+            | Form::Nothing
+            | Form::Float { .. }
+            | Form::Let(_, _)
+            | Form::Assign { .. }
+            | Form::Operator(_, _, _)
+            | Form::Load(_, _)
+            | Form::Store(_, _, _)
+            | Form::Alloc { .. }
+            | Form::Checkbound(_, _)
+            | Form::Raise(_)
+            | Form::Seq(_)
+            | Form::If(_, _, _)
+            | Form::Switch { .. }
+            | Form::Catch(_, _)
+            | Form::Exit { .. }
+            | Form::Try { .. } => unreachable!(),
         }
     }
 
@@ -327,7 +378,26 @@ impl Checker {
                     float: either(chosen.float, seen.float),
                 })
             }
-            _ => unreachable!(),
+            Form::Integer(_)
+            | Form::Pointer(_)
+            | Form::Symbol(_)
+            | Form::Name(_)
+            | Form::Nothing
+            | Form::Float { .. }
+            | Form::Let(_, _)
+            | Form::Assign { .. }
+            | Form::Operator(_, _, _)
+            | Form::Load(_, _)
+            | Form::Store(_, _, _)
+            | Form::Alloc { .. }
+            | Form::App { .. }
+            | Form::Extcall { .. }
+            | Form::Checkbound(_, _)
+            | Form::Raise(_)
+            | Form::Seq(_)
+            | Form::Catch(_, _)
+            | Form::Exit { .. }
+            | Form::Try { .. } => unreachable!(),
         }
     }
 
@@ -397,7 +467,25 @@ impl Checker {
                     float: either(tried.float, handled.float),
                 })
             }
-            _ => unreachable!(),
+            Form::Integer(_)
+            | Form::Pointer(_)
+            | Form::Symbol(_)
+            | Form::Name(_)
+            | Form::Nothing
+            | Form::Float { .. }
+            | Form::Assign { .. }
+            | Form::Operator(_, _, _)
+            | Form::Load(_, _)
+            | Form::Store(_, _, _)
+            | Form::Alloc { .. }
+            | Form::App { .. }
+            | Form::Extcall { .. }
+            | Form::Checkbound(_, _)
+            | Form::Raise(_)
+            | Form::Seq(_)
+            | Form::If(_, _, _)
+            | Form::Switch { .. }
+            | Form::Exit { .. } => unreachable!(),
         }
     }
 
@@ -422,7 +510,23 @@ impl Checker {
             }
             Form::Name(name) => Seen::plain(self.note_name(name, at)),
             Form::Nothing => Seen::plain(Ty::NoValue),
-            _ => unreachable!(),
+            Form::Float { .. }
+            | Form::Let(_, _)
+            | Form::Assign { .. }
+            | Form::Operator(_, _, _)
+            | Form::Load(_, _)
+            | Form::Store(_, _, _)
+            | Form::Alloc { .. }
+            | Form::App { .. }
+            | Form::Extcall { .. }
+            | Form::Checkbound(_, _)
+            | Form::Raise(_)
+            | Form::Seq(_)
+            | Form::If(_, _, _)
+            | Form::Switch { .. }
+            | Form::Catch(_, _)
+            | Form::Exit { .. }
+            | Form::Try { .. } => unreachable!(),
         }
     }
 

@@ -1,4 +1,5 @@
 use Rattle.std.proofs.Common.{◌≡◌, ◌∙◌, ◌+◌, suc, refl, ap, sym, arith, List, [], ◌∷◌, drop, map, None, Option}
+use Rattle.std.specs.Option.{option_or}
 use Rattle.bs_words.specs.declared.values.Value.{Value}
 use Rattle.bs_words.specs.declared.values.Value.TheVariants as value
 use Rattle.cmm_tree.specs.Tree.{ItemTree, AFunction, AData, data_among}
@@ -6,7 +7,7 @@ use Rattle.cmm_tree.specs.View.{item_view, function_view, data_list_view}
 use Rattle.cmm_data.specs.Placement.{Definition, start_behind, items_from, end_behind, lists_behind, items_of_lists, defined_from, defined_by_list, value_among}
 use Rattle.bs_words.specs.Symbol.{caml_bound_error}
 use Rattle.cmm_data.specs.Faults.{first_fault}
-use Rattle.cmm_data.specs.Symbols.{value_in, or_else, Adds}
+use Rattle.cmm_data.specs.Symbols.{value_in, Adds}
 use Rattle.cmm_data.proofs.Items.{map_drop-cons}
 use Rattle.cmm_data.proofs.Walk.{sound-list}
 use Rattle.cmm_data.proofs.Table.{adds-later, value_in-empty}
@@ -21,11 +22,11 @@ loop-item-init c =
       faultless = rw c.as_slice-item-items.ensures c.requires;
       has = λ name.
           let rest = defined_from 0 268435464 (map item_view c.args.file.now.items.items.items) in
-          let whole : or_else (value_in (record { values = c.new.result }) name) (value_among (record { name = caml_bound_error; value = value.Word 268435456 } ∷ rest) name)
-          ≡ or_else (value_in c.define.new.self name) (value_among rest name) =
+          let whole : option_or (value_in (record { values = c.new.result }) name) (value_among (record { name = caml_bound_error; value = value.Word 268435456 } ∷ rest) name)
+          ≡ option_or (value_in c.define.new.self name) (value_among rest name) =
           adds-later (record { values = c.new.result }) c.define.new.self (record { name = caml_bound_error; value = value.Word 268435456 } ∷ []) rest first name in
           let none : value_in (record { values = c.new.result }) name ≡ None = value_in-empty (record { values = c.new.result }) c.new.ensures.empty name in
-          sym (ap (λ (v : Option Value). or_else v (value_among (record { name = caml_bound_error; value = value.Word 268435456 } ∷ rest) name)) none)
+          sym (ap (λ (v : Option Value). option_or v (value_among (record { name = caml_bound_error; value = value.Word 268435456 } ∷ rest) name)) none)
           ∙ whole
           ∙ rw c.as_slice-item-items.ensures refl;
     }
@@ -66,11 +67,11 @@ loop-item-preserved c = elim c.match-item.branch [
             ∙ c.loop-item.invariant.faultless;
         has = λ name.
             c.loop-item.invariant.has name
-            ∙ ap (λ (l : List ItemTree). or_else (value_in c.loop-item.table name) (value_among (defined_from c.loop-item.functions c.loop-item.end l) name)) here
+            ∙ ap (λ (l : List ItemTree). option_or (value_in c.loop-item.table name) (value_among (defined_from c.loop-item.functions c.loop-item.end l) name)) here
             ∙ adds-later c.loop-item.table w.define-in-Function.new.self (d ∷ []) (defined_from (suc c.loop-item.functions) c.loop-item.end rest) adds name
-            ∙ ap (λ n. or_else (value_in w.define-in-Function.new.self name) (value_among (defined_from n c.loop-item.end rest) name)) next
-            ∙ ap (λ e. or_else (value_in w.define-in-Function.new.self name) (value_among (defined_from c.match-item.functions e rest) name)) stays
-            ∙ ap (λ t. or_else (value_in t name) (value_among (defined_from c.match-item.functions c.match-item.end rest) name)) (sym w.table-is);
+            ∙ ap (λ n. option_or (value_in w.define-in-Function.new.self name) (value_among (defined_from n c.loop-item.end rest) name)) next
+            ∙ ap (λ e. option_or (value_in w.define-in-Function.new.self name) (value_among (defined_from c.match-item.functions e rest) name)) stays
+            ∙ ap (λ t. option_or (value_in t name) (value_among (defined_from c.match-item.functions c.match-item.end rest) name)) (sym w.table-is);
       }
   | in-Data+in_ok-end-in-Data w ↦
       let k = c.loop-item.item-index in
@@ -91,10 +92,10 @@ loop-item-preserved c = elim c.match-item.branch [
         faultless = sym (ap (λ e. first_fault (items_of_lists (lists_behind e (data_among rest)))) behind) ∙ sound.1;
         has = λ name.
             c.loop-item.invariant.has name
-            ∙ ap (λ (l : List ItemTree). or_else (value_in c.loop-item.table name) (value_among (defined_from c.loop-item.functions c.loop-item.end l) name)) here
+            ∙ ap (λ (l : List ItemTree). option_or (value_in c.loop-item.table name) (value_among (defined_from c.loop-item.functions c.loop-item.end l) name)) here
             ∙ adds-later c.loop-item.table w.define_items.new.self (defined_by_list c.loop-item.end d) (defined_from c.loop-item.functions (end_behind c.loop-item.end d) rest) adds name
-            ∙ ap (λ n. or_else (value_in w.define_items.new.self name) (value_among (defined_from n (end_behind c.loop-item.end d) rest) name)) (sym w.functions-is)
-            ∙ ap (λ e. or_else (value_in w.define_items.new.self name) (value_among (defined_from c.match-item.functions e rest) name)) behind
-            ∙ ap (λ t. or_else (value_in t name) (value_among (defined_from c.match-item.functions c.match-item.end rest) name)) (sym w.table-is);
+            ∙ ap (λ n. option_or (value_in w.define_items.new.self name) (value_among (defined_from n (end_behind c.loop-item.end d) rest) name)) (sym w.functions-is)
+            ∙ ap (λ e. option_or (value_in w.define_items.new.self name) (value_among (defined_from c.match-item.functions e rest) name)) behind
+            ∙ ap (λ t. option_or (value_in t name) (value_among (defined_from c.match-item.functions c.match-item.end rest) name)) (sym w.table-is);
       }
 ]

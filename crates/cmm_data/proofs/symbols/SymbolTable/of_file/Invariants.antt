@@ -1,10 +1,11 @@
 use Rattle.std.proofs.Common.{◌≡◌, ◌+◌, ◌≤◌, ℕ, List, drop, map, None}
+use Rattle.std.specs.Option.{option_or}
 use Rattle.bs_words.specs.Fits.{data_limit, data_start}
 use Rattle.cmm_tree.specs.Tree.{data_among}
 use Rattle.cmm_tree.specs.View.{item_view, file_view}
 use Rattle.cmm_data.specs.Placement.{lists_behind, items_of_lists, defined_from, value_among, value_of_symbol}
 use Rattle.cmm_data.specs.Faults.{first_fault}
-use Rattle.cmm_data.specs.Symbols.{value_in, or_else}
+use Rattle.cmm_data.specs.Symbols.{value_in}
 use Rattle.cmm_data.proofs.symbols.SymbolTable.of_file.Given as goal
 
 -- the table has what the items before define; those that are left have no fault
@@ -15,5 +16,5 @@ invariant-loop-item l =
       faultless : first_fault (items_of_lists (lists_behind l.end (data_among (map item_view (drop l.item-index l.item-items))))) ≡ None;
       has : (name : List ℕ) →
           value_of_symbol (file_view l.file) name
-          ≡ or_else (value_in l.table name) (value_among (defined_from l.functions l.end (map item_view (drop l.item-index l.item-items))) name);
+          ≡ option_or (value_in l.table name) (value_among (defined_from l.functions l.end (map item_view (drop l.item-index l.item-items))) name);
     }

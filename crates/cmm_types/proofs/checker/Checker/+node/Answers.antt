@@ -1,4 +1,5 @@
 use Rattle.std.proofs.Common.{◌≡◌, ◌≢◌, ◌+◌, ◌<◌, ◌||◌, drop, get_or, set, length, refl, ap, sym, subst, ◌∙◌, arith, length-set, get_or-set_other, vec_len}
+use Rattle.std.proofs.Math.Bool.{or-false}
 use Rattle.std.proofs.lemmas.List.{at_drop_all, take_all}
 use Rattle.cmm_types.specs.Types.{with_bindings, with_parameters, type_without_float, type_of_last, row_holds_float, bindings_hold_float, cases_hold_float, handlers_hold_float, type_of_cases, type_of_handlers, join}
 use Rattle.cmm_tree.specs.Symbols.{definition_of}
@@ -10,7 +11,7 @@ use Rattle.cmm_types.specs.Lists.{AreAnnotated, AreBindingsAnnotated, AreCasesAn
 use Rattle.cmm_types.specs.Gathered.{row_faults, bindings_faults, cases_faults, handlers_faults}
 use Rattle.bs_fault.specs.Reported.{noted_all}
 use Rattle.cmm_types.proofs.Loops.{Noting, last_or}
-use Rattle.cmm_types.proofs.Turns.{drop_behind, row_of-set, annotated-set, row_turn, row_float_turn, last_turn, last_is, cases_of-set, cases-set, cases_turn, cases_float_turn, cases_join_turn, handlers_of-set, handlers-set, handlers_turn, handlers_float_turn, handlers_join_turn, bindings_of-set, bindings-set, names-set, names_turn, bindings_turn, bindings_float_turn, or_false, join_never, handler_typed, with_binding-same}
+use Rattle.cmm_types.proofs.Turns.{drop_behind, row_of-set, annotated-set, row_turn, row_float_turn, last_turn, last_is, cases_of-set, cases-set, cases_turn, cases_float_turn, cases_join_turn, handlers_of-set, handlers-set, handlers_turn, handlers_float_turn, handlers_join_turn, bindings_of-set, bindings-set, names-set, names_turn, bindings_turn, bindings_float_turn, join_never, handler_typed, with_binding-same}
 use Rattle.cmm_tree.specs.View.{form_view}
 use Rattle.cmm_tree.proofs.Rows.{seq_view, exit_view, alloc_view, float_view, extcall_view, app_view, let_view, switch_view, catch_view}
 use Rattle.cmm_types.proofs.Views.{seq_typed, float_typed, exit_typed, alloc_typed, extcall_typed, app_typed, switch_typed, catch_typed}
@@ -73,7 +74,7 @@ operands-returns-clause-found t c =
 
 pub operands-returns-clause-float : goal.operands-returns-clause-float
 operands-returns-clause-float t c =
-    sym (or_false c.loop-index.float)
+    sym (or-false c.loop-index.float)
     ∙ sym (at_drop_all (λ k. c.loop-index.float || row_holds_float (row_of k)) c.loop-index.exprs c.loop-index.index (omega arith))
     ∙ c.loop-index.invariant.float
 
@@ -135,7 +136,7 @@ visit_cases-returns-clause-found t c =
 
 pub visit_cases-returns-clause-float : goal.visit_cases-returns-clause-float
 visit_cases-returns-clause-float t c =
-    sym (or_false c.loop-index.float)
+    sym (or-false c.loop-index.float)
     ∙ sym (at_drop_all (λ k. c.loop-index.float || cases_hold_float (cases_of k)) c.loop-index.cases c.loop-index.index (omega arith))
     ∙ c.loop-index.invariant.float
 
@@ -197,7 +198,7 @@ visit_handlers-returns-clause-found t c =
 
 pub visit_handlers-returns-clause-float : goal.visit_handlers-returns-clause-float
 visit_handlers-returns-clause-float t c =
-    sym (or_false c.loop-index.float)
+    sym (or-false c.loop-index.float)
     ∙ sym (at_drop_all (λ k. c.loop-index.float || handlers_hold_float (handlers_of k)) c.loop-index.handlers c.loop-index.index (omega arith))
     ∙ c.loop-index.invariant.float
 
@@ -267,7 +268,7 @@ bind_all-returns-clause-found t c =
 
 pub bind_all-returns-clause-float : goal.bind_all-returns-clause-float
 bind_all-returns-clause-float t c =
-    sym (or_false c.loop-index.float)
+    sym (or-false c.loop-index.float)
     ∙ sym (at_drop_all (λ k. c.loop-index.float || bindings_hold_float (bindings_of k)) c.loop-index.bindings c.loop-index.index (omega arith))
     ∙ c.loop-index.invariant.float
 
