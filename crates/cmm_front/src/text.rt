@@ -1,7 +1,6 @@
 //! Texts.
 ghost use Rattle.std.specs.Prelude.{IfOk, IfErr};
-ghost use Rattle.cmm_front.specs.FileOf.{IsFileOf, IsErrorOf, tree_of, HoldsTypes, HoldsSymbols, HasPlace};
-ghost use Rattle.cmm_walks.specs.Checked.{typed_of};
+ghost use Rattle.cmm_front.specs.FileOf.{IsFileOf, IsErrorOf, HasPlace};
 
 use bs_fault::FrontError;
 use cmm_reader::read_file;
@@ -20,10 +19,8 @@ use std::alloc::Global;
 /// `Fault` exactly where the text has a fault, with that fault, and `OutOfMemory` where memory ran out
 /// before that is known.
 pub fn front(alloc: Global, text: &[u8]) -> Result<Checked, FrontError>
-    ensures file { IfOk result (λ checked. IsFileOf text.now (tree_of (typed_of checked))) }
-    ensures typed { IfOk result (λ checked. HoldsTypes (typed_of checked)) }
-    ensures symbols { IfOk result (λ checked. HoldsSymbols (typed_of checked)) }
-    ensures placed { IfOk result (λ checked. HasPlace (typed_of checked)) }
+    ensures file { IfOk result (IsFileOf text.now) }
+    ensures placed { IfOk result HasPlace }
     ensures fault { IfErr result (IsErrorOf text.now) }
 {
     let file = read_file(alloc, text)?;

@@ -5,16 +5,13 @@ use Rattle.bs_fault.specs.declared.fault.FrontError.{FrontError}
 use Rattle.bs_fault.specs.declared.fault.FrontError.TheVariants as error
 use Rattle.cmm_tree.specs.Tree.{FileTree}
 use Rattle.cmm_tree.specs.View.{params_view}
-use Rattle.cmm_tree.specs.declared.file.File.{File}
 use Rattle.cmm_tree.specs.declared.file.Function.{Function}
 use Rattle.cmm_tree.specs.declared.file.Item.{Item}
 use Rattle.cmm_tree.specs.declared.file.Item.TheVariants as item
 use Rattle.cmm_types.specs.Types.{with_parameters}
-use Rattle.cmm_tree.specs.Symbols.{DefinedSymbol}
 use Rattle.bs_fault.specs.Order.{IsLeftmost}
 use Rattle.cmm_types.specs.Annotated.{IsAnnotated}
 use Rattle.cmm_types.specs.Faults.{TypeFault}
-use Rattle.cmm_types.specs.declared.typed.Typed.{Typed}
 
 -- the body of a function and all below it hold their types, in the scope of the parameters
 abbrev pub IsFunctionAnnotated : Function → Type 0
@@ -27,12 +24,6 @@ IsItemAnnotated (item.Data d) = Unit {0}
 abbrev pub AreItemsAnnotated : List Item → Type 0
 AreItemsAnnotated [] = Unit {0}
 AreItemsAnnotated (i ∷ items) = IsItemAnnotated i × AreItemsAnnotated items
-
-abbrev pub file_of : Typed → File
-file_of typed = typed.file
-
-abbrev pub symbols_of : Typed → List DefinedSymbol
-symbols_of typed = typed.symbols
 
 -- the fault of the error is the one that is reported; want of memory says nothing of the file
 abbrev pub IsFaultTold : FileTree → FrontError → Type 0
