@@ -1,10 +1,12 @@
 -- What a file that is typed holds.
-use Rattle.std.specs.Prelude.{List, [], ◌∷◌}
+use Rattle.std.specs.Prelude.{◌≡◌, List, [], ◌∷◌}
 use Rattle.bs_words.specs.Contents.{contents}
 use Rattle.bs_fault.specs.declared.fault.FrontError.{FrontError}
 use Rattle.bs_fault.specs.declared.fault.FrontError.TheVariants as error
+use Rattle.cmm_tree.specs.Symbols.{DefinedSymbol, symbols}
 use Rattle.cmm_tree.specs.Tree.{FileTree}
-use Rattle.cmm_tree.specs.View.{params_view}
+use Rattle.cmm_tree.specs.View.{file_view, params_view}
+use Rattle.cmm_tree.specs.declared.file.File.{File}
 use Rattle.cmm_tree.specs.declared.file.Function.{Function}
 use Rattle.cmm_tree.specs.declared.file.Item.{Item}
 use Rattle.cmm_tree.specs.declared.file.Item.TheVariants as item
@@ -24,6 +26,12 @@ IsItemAnnotated (item.Data d) = Unit {0}
 abbrev pub AreItemsAnnotated : List Item → Type 0
 AreItemsAnnotated [] = Unit {0}
 AreItemsAnnotated (i ∷ items) = IsItemAnnotated i × AreItemsAnnotated items
+
+-- What is true of each typed file: each node of its functions holds its type, and its symbols are those of its text, in the
+-- order of their definitions.
+pub record IsTyped (file : File) (known : List DefinedSymbol) : Type 0 where
+  pub annotated : AreItemsAnnotated (contents file.items)
+  pub in_order : known ≡ symbols (file_view file)
 
 -- the fault of the error is the one that is reported; want of memory says nothing of the file
 abbrev pub IsFaultTold : FileTree → FrontError → Type 0

@@ -21,8 +21,7 @@ use cmm_tree::{DataItem, Datum, File, Function, Item};
 use std::alloc::{AllocError, Global};
 use std::marker::Model;
 
-/// A file whose nodes hold their types, with its symbols in the order of their definitions. Contracts see the tree of
-/// the file.
+/// A file whose nodes hold their types, with its symbols in the order of their definitions. Contracts see the file.
 #[derive(Drop)]
 pub struct Typed {
     file: File,
@@ -30,34 +29,44 @@ pub struct Typed {
 }
 
 impl Model for Typed {
-    ghost use Rattle.cmm_tree.specs.Tree.{FileTree};
+    ghost use Rattle.std.specs.Coded.{codes};
+    ghost use Rattle.cmm_tree.specs.contracts.file.File as row;
+    ghost use Rattle.cmm_tree.specs.declared.file.File.{File};
+    ghost use Rattle.cmm_types.specs.Typing.{IsTyped};
 
-    ghost Value = { FileTree };
+    ghost Value = { File };
 
-    ghost use Rattle.std.specs.Prelude.{◌≡◌, ◌×◌};
-    ghost use Rattle.bs_words.specs.Contents.{contents};
-    ghost use Rattle.cmm_tree.specs.Symbols.{symbols};
-    ghost use Rattle.cmm_tree.specs.View.{file_view};
-    ghost use Rattle.cmm_types.specs.Typing.{AreItemsAnnotated};
+    ghost coded = { Prim.hlevel (codes, row.the_row.coded) };
 
-    ghost view = { λ typed. file_view typed.file };
+    ghost view = { λ typed. typed.file };
 
-    ghost invariant = { λ typed. AreItemsAnnotated (contents typed.file.items)
-        × (typed.symbols ≡ symbols (file_view typed.file)) };
+    ghost invariant = { λ typed. IsTyped typed.file typed.symbols };
 }
 
 impl Typed {
+    /// What is known of a file, as one.
+    fn of(file: File, known: Symbols) -> Typed
+        requires typed { AreItemsAnnotated (contents file.items) }
+        requires symbols { known ≡ symbols (file_view file) }
+        ensures { result ≡ file }
+    {
+        Typed {
+            file,
+            symbols: known,
+        }
+    }
+
     /// The file.
     pub fn file(&self) -> &File
-        ensures tree { file_view result.now ≡ self.now }
-        ensures typed { AreItemsAnnotated (contents result.now.items) }
+        ensures same { result.now ≡ self.now }
+        ensures typed { AreItemsAnnotated (contents self.now.items) }
     {
         &self.file
     }
 
     /// Its symbols, first the built-in data and then those that the file defines, in order.
     pub fn symbols(&self) -> &Symbols
-        ensures { result.now ≡ symbols self.now }
+        ensures { result.now ≡ symbols (file_view self.now) }
     {
         &self.symbols
     }
@@ -66,7 +75,7 @@ impl Typed {
 /// Gives each node its type. It answers the leftmost fault of types and symbols, F11 to F19 and F21, if
 /// there is one; of those on one place the one with the lowest number.
 pub fn check_types(alloc: Global, file: File) -> Result<Typed, FrontError>
-    ensures same { IfOk result (λ typed. typed ≡ file_view file) }
+    ensures same { IfOk result (λ typed. file_view typed ≡ file_view file) }
     ensures faultless { IfOk result (λ _. (told : Fault) → ¬ TypeFault (file_view file) told) }
     ensures fault { IfErr result (IsFaultTold (file_view file)) }
 {
@@ -83,10 +92,7 @@ pub fn check_types(alloc: Global, file: File) -> Result<Typed, FrontError>
         Some(told) => Err(FrontError::Fault(told)),
         None => {
             let items = List::from_vec(items);
-            Ok(Typed {
-                file: File { items },
-                symbols,
-            })
+            Ok(Typed::of(File { items }, symbols))
         }
     }
 }

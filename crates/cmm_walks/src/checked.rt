@@ -1,5 +1,6 @@
 //! Files that are checked whole.
 ghost use Rattle.std.specs.Prelude.{◌≡◌, ℕ, IfOk, IfErr};
+ghost use Rattle.cmm_tree.specs.View.{file_view};
 ghost use Rattle.cmm_walks.specs.AddrLive.{IsLive};
 ghost use Rattle.cmm_walks.specs.Refusal.{IsRefusal};
 
@@ -9,24 +10,29 @@ use cmm_types::Typed;
 use std::alloc::Global;
 use std::marker::Model;
 
-/// A typed file in which no address is used after a frame point that it was bound before. Contracts see the tree of
-/// the file.
+/// A typed file in which no address is used after a frame point that it was bound before. Contracts see the
+/// file.
 #[derive(Drop)]
 pub struct Checked {
     typed: Typed,
 }
 
 impl Model for Checked {
-    ghost use Rattle.cmm_tree.specs.Tree.{FileTree};
-
-    ghost Value = { FileTree };
-
     ghost use Rattle.std.specs.Prelude.{ℕ};
+    ghost use Rattle.std.specs.Coded.{codes};
+    ghost use Rattle.cmm_tree.specs.View.{file_view};
+    ghost use Rattle.cmm_tree.specs.contracts.file.File as row;
+    ghost use Rattle.cmm_tree.specs.declared.file.File.{File};
     ghost use Rattle.cmm_walks.specs.AddrLive.{IsLive};
+
+    ghost Value = { File };
+
+    ghost coded = { Prim.hlevel (codes, row.the_row.coded) };
 
     ghost view = { λ checked. checked.typed };
 
-    ghost invariant = { λ checked. (bound point used : ℕ) → ¬ IsLive checked.typed bound point used };
+    ghost invariant = { λ checked. (bound point used : ℕ) →
+        ¬ IsLive (file_view checked.typed) bound point used };
 }
 
 impl Checked {
@@ -47,8 +53,8 @@ impl Checked {
 pub fn check_addresses(alloc: Global, typed: Typed) -> Result<Checked, FrontError>
     ensures same { IfOk result (λ checked. checked ≡ typed) }
     ensures settled { IfOk result (λ _. (bound point used : ℕ) →
-        ¬ IsLive typed bound point used) }
-    ensures fault { IfErr result (IsRefusal typed) }
+        ¬ IsLive (file_view typed) bound point used) }
+    ensures fault { IfErr result (IsRefusal (file_view typed)) }
 {
     check_file(alloc, typed.file())?;
     Ok(Checked { typed })
