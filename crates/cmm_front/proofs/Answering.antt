@@ -6,6 +6,8 @@ use Rattle.bs_fault.specs.declared.fault.FrontError.{FrontError}
 use Rattle.bs_fault.specs.declared.fault.FrontError.TheVariants as error
 use Rattle.cmm_data.specs.Faults.{data_fault_of}
 use Rattle.cmm_tree.specs.Tree.{FileTree}
+use Rattle.cmm_tree.specs.View.{file_view}
+use Rattle.cmm_tree.specs.declared.file.File.{File}
 use Rattle.cmm_types.specs.Faults.{TypeFault}
 use Rattle.cmm_walks.specs.AddrLive.{IsLive}
 use Rattle.cmm_types.specs.Typing.{IsFaultTold}
@@ -33,7 +35,7 @@ read_same text file other same h = subst (λ (v : FileTree). ReadsAs text (Ok v)
 pub typed_same : (file other : FileTree) → other ≡ file → ((told : Fault) → ¬ TypeFault file told) → (told : Fault) → ¬ TypeFault other told
 typed_same file other same h told = λ is. h told (subst (λ (v : FileTree). TypeFault v told) same is)
 
-pub checked_told : (text : List ℕ) (file : FileTree) (r : Result FileTree FrontError)
+pub checked_told : (text : List ℕ) (file : FileTree) (r : Result File FrontError)
     → ReadsAs text (Ok file)
     → ((told : Fault) → ¬ TypeFault file told)
     → IfErr r (IsRefusal file)
@@ -41,20 +43,20 @@ pub checked_told : (text : List ℕ) (file : FileTree) (r : Result FileTree Fron
 checked_told text file (Ok checked) read typed h = tt
 checked_told text file (Err e) read typed h = unsettled_told text file e read typed h
 
-pub checked_file : (text : List ℕ) (typed : FileTree) (r : Result FileTree FrontError)
-    → ReadsAs text (Ok typed)
-    → ((told : Fault) → ¬ TypeFault typed told)
-    → IfOk r (λ (checked : FileTree). checked ≡ typed)
-    → IfOk r (λ (checked : FileTree). (bound point used : ℕ) → ¬ IsLive typed bound point used)
-    → IfOk r (IsFileOf text)
+pub checked_file : (text : List ℕ) (typed : File) (r : Result File FrontError)
+    → ReadsAs text (Ok (file_view typed))
+    → ((told : Fault) → ¬ TypeFault (file_view typed) told)
+    → IfOk r (λ (checked : File). checked ≡ typed)
+    → IfOk r (λ (checked : File). (bound point used : ℕ) → ¬ IsLive (file_view typed) bound point used)
+    → IfOk r (λ (checked : File). IsFileOf text (file_view checked))
 checked_file text typed (Ok checked) read faultless same settled =
-    let whole : IsFileOf text typed = record { read = read; typed = faultless; settled = settled } in
-    subst (IsFileOf text) (sym same) whole
+    let whole : IsFileOf text (file_view typed) = record { read = read; typed = faultless; settled = settled } in
+    subst (λ (f : File). IsFileOf text (file_view f)) (sym same) whole
 checked_file text typed (Err e) read faultless same settled = tt
 
-pub checked_placed : (typed : FileTree) (r : Result FileTree FrontError)
-    → data_fault_of typed ≡ None
-    → IfOk r (λ (checked : FileTree). checked ≡ typed)
-    → IfOk r HasPlace
-checked_placed typed (Ok checked) is same = subst HasPlace (sym same) is
+pub checked_placed : (typed : File) (r : Result File FrontError)
+    → data_fault_of (file_view typed) ≡ None
+    → IfOk r (λ (checked : File). checked ≡ typed)
+    → IfOk r (λ (checked : File). HasPlace (file_view checked))
+checked_placed typed (Ok checked) is same = subst (λ (f : File). HasPlace (file_view f)) (sym same) is
 checked_placed typed (Err e) is same = tt

@@ -16,21 +16,21 @@ pub returns-clause-file : goal.returns-clause-file
 returns-clause-file c =
     let same = c.in_ok-typed.ensures.same in
     checked_file c.args.text.now c.in_ok-typed.typed c.check_addresses.result
-    (read_same c.args.text.now (file_view c.in_ok-file.file) c.in_ok-typed.typed same c.in_ok-file.ensures.read)
-    (typed_same (file_view c.in_ok-file.file) c.in_ok-typed.typed same c.in_ok-typed.ensures.faultless)
+    (read_same c.args.text.now (file_view c.in_ok-file.file) (file_view c.in_ok-typed.typed) same c.in_ok-file.ensures.read)
+    (typed_same (file_view c.in_ok-file.file) (file_view c.in_ok-typed.typed) same c.in_ok-typed.ensures.faultless)
     c.check_addresses.ensures.same c.check_addresses.ensures.settled
 
 pub returns-clause-placed : goal.returns-clause-placed
 returns-clause-placed c =
     let same = c.in_ok-typed.ensures.same in
     checked_placed c.in_ok-typed.typed c.check_addresses.result
-    (is_placed c.args.text.now c.in_ok-typed.typed (read_same c.args.text.now (file_view c.in_ok-file.file) c.in_ok-typed.typed same c.in_ok-file.ensures.read))
+    (is_placed c.args.text.now (file_view c.in_ok-typed.typed) (read_same c.args.text.now (file_view c.in_ok-file.file) (file_view c.in_ok-typed.typed) same c.in_ok-file.ensures.read))
     c.check_addresses.ensures.same
 
 pub returns-clause-fault : goal.returns-clause-fault
 returns-clause-fault c =
     let same = c.in_ok-typed.ensures.same in
-    checked_told c.args.text.now c.in_ok-typed.typed c.check_addresses.result
-    (read_same c.args.text.now (file_view c.in_ok-file.file) c.in_ok-typed.typed same c.in_ok-file.ensures.read)
-    (typed_same (file_view c.in_ok-file.file) c.in_ok-typed.typed same c.in_ok-typed.ensures.faultless)
+    checked_told c.args.text.now (file_view c.in_ok-typed.typed) c.check_addresses.result
+    (read_same c.args.text.now (file_view c.in_ok-file.file) (file_view c.in_ok-typed.typed) same c.in_ok-file.ensures.read)
+    (typed_same (file_view c.in_ok-file.file) (file_view c.in_ok-typed.typed) same c.in_ok-typed.ensures.faultless)
     c.check_addresses.ensures.fault
