@@ -5,7 +5,6 @@ ghost use Rattle.bs_fault.specs.declared.large.Large.{Large};
 ghost use Rattle.bs_words.specs.Contents.{contents};
 ghost use Rattle.cmm_data.specs.Map.{IsMapOf};
 ghost use Rattle.cmm_tree.specs.View.{file_view};
-ghost use Rattle.cmm_types.specs.Typing.{AreItemsAnnotated, file_of};
 ghost use Rattle.image_form.specs.Image.{IsImage};
 ghost use Rattle.image_form.specs.Tables.{Tables, tables, ext};
 ghost use Rattle.layout_rules.specs.Conditions.{CanBeLaid};
@@ -78,17 +77,16 @@ pub fn assemble<'a, R: Threads + Sync>(
     jobs: u32,
 ) -> Result<Image, BuildError>
     requires jobs { 1 ≤ jobs }
-    requires typed { AreItemsAnnotated (contents (file_of typed.now).items) }
-    requires placed { IsMapOf (file_view (file_of typed.now)) placed.now }
-    requires can { CanBeLaid (file_view (file_of typed.now)) pieces.now }
+    requires placed { IsMapOf (file_view typed.now) placed.now }
+    requires can { CanBeLaid (file_view typed.now) pieces.now }
     ensures laid { IfOk result (λ image.
-        IsLaidOut (file_view (file_of typed.now)) pieces.now (tables image)) }
+        IsLaidOut (file_view typed.now) pieces.now (tables image)) }
     ensures is_image { IfOk result IsImage }
     ensures fits { IfOk result (λ image. first_too_large (tables image) ≡ None) }
     ensures large { (large : Large)
         → result ≡ Err (BuildError.TooLarge large)
         → (t : Tables)
-        × (IsLaidOut (file_view (file_of typed.now)) pieces.now t
+        × (IsLaidOut (file_view typed.now) pieces.now t
         × (first_too_large t ≡ Some large)) }
 {
     let file = typed.file();

@@ -1,22 +1,18 @@
 -- What each step of the front tells of a text.
-use Rattle.std.proofs.Common.{◌≡◌, ℕ, List, None, Result, Ok, Err, IfOk, IfErr, sym, subst, ap, ◌∙◌}
+use Rattle.std.proofs.Common.{◌≡◌, ℕ, List, None, Result, Ok, Err, IfOk, IfErr, sym, subst}
 use Rattle.bs_fault.specs.declared.fault.Fault.{Fault}
 use Rattle.bs_fault.specs.declared.fault.Fault.TheVariants.{AddrLive}
 use Rattle.bs_fault.specs.declared.fault.FrontError.{FrontError}
 use Rattle.bs_fault.specs.declared.fault.FrontError.TheVariants as error
-use Rattle.bs_words.specs.Contents.{contents}
 use Rattle.cmm_data.specs.Faults.{data_fault_of}
-use Rattle.cmm_tree.specs.Symbols.{symbols}
 use Rattle.cmm_tree.specs.Tree.{FileTree}
 use Rattle.cmm_tree.specs.View.{file_view}
+use Rattle.cmm_tree.specs.declared.file.File.{File}
 use Rattle.cmm_types.specs.Faults.{TypeFault}
 use Rattle.cmm_walks.specs.AddrLive.{IsLive}
-use Rattle.cmm_types.specs.Typing.{IsFaultTold, AreItemsAnnotated, file_of, symbols_of}
-use Rattle.cmm_types.specs.declared.typed.Typed.{Typed}
-use Rattle.cmm_walks.specs.Checked.{typed_of}
+use Rattle.cmm_types.specs.Typing.{IsFaultTold}
 use Rattle.cmm_walks.specs.Refusal.{IsRefusal}
-use Rattle.cmm_walks.specs.declared.checked.Checked.{Checked}
-use Rattle.cmm_front.specs.FileOf.{IsFileOf, unread, untyped, unsettled, IsErrorOf, HoldsSymbols}
+use Rattle.cmm_front.specs.FileOf.{IsFileOf, unread, untyped, unsettled, IsErrorOf, HasPlace}
 use Rattle.cmm_reader.specs.Text.{ReadsAs, IsRefused}
 
 pub unread_told : (text : List ℕ) (e : FrontError) → IsRefused text e → IsErrorOf text e
@@ -39,7 +35,7 @@ read_same text file other same h = subst (λ (v : FileTree). ReadsAs text (Ok v)
 pub typed_same : (file other : FileTree) → other ≡ file → ((told : Fault) → ¬ TypeFault file told) → (told : Fault) → ¬ TypeFault other told
 typed_same file other same h told = λ is. h told (subst (λ (v : FileTree). TypeFault v told) same is)
 
-pub checked_told : (text : List ℕ) (file : FileTree) (r : Result Checked FrontError)
+pub checked_told : (text : List ℕ) (file : FileTree) (r : Result File FrontError)
     → ReadsAs text (Ok file)
     → ((told : Fault) → ¬ TypeFault file told)
     → IfErr r (IsRefusal file)
@@ -47,35 +43,20 @@ pub checked_told : (text : List ℕ) (file : FileTree) (r : Result Checked Front
 checked_told text file (Ok checked) read typed h = tt
 checked_told text file (Err e) read typed h = unsettled_told text file e read typed h
 
-pub checked_file : (text : List ℕ) (typed : Typed) (r : Result Checked FrontError)
-    → ReadsAs text (Ok (file_view (file_of typed)))
-    → ((told : Fault) → ¬ TypeFault (file_view (file_of typed)) told)
-    → IfOk r (λ (checked : Checked). typed_of checked ≡ typed)
-    → IfOk r (λ (checked : Checked). (bound point used : ℕ) → ¬ IsLive (file_view (file_of typed)) bound point used)
-    → IfOk r (λ (checked : Checked). IsFileOf text (file_view (file_of (typed_of checked))))
+pub checked_file : (text : List ℕ) (typed : File) (r : Result File FrontError)
+    → ReadsAs text (Ok (file_view typed))
+    → ((told : Fault) → ¬ TypeFault (file_view typed) told)
+    → IfOk r (λ (checked : File). checked ≡ typed)
+    → IfOk r (λ (checked : File). (bound point used : ℕ) → ¬ IsLive (file_view typed) bound point used)
+    → IfOk r (λ (checked : File). IsFileOf text (file_view checked))
 checked_file text typed (Ok checked) read faultless same settled =
-    let whole : IsFileOf text (file_view (file_of typed)) = record { read = read; typed = faultless; settled = settled } in
-    subst (λ (v : Typed). IsFileOf text (file_view (file_of v))) (sym same) whole
+    let whole : IsFileOf text (file_view typed) = record { read = read; typed = faultless; settled = settled } in
+    subst (λ (f : File). IsFileOf text (file_view f)) (sym same) whole
 checked_file text typed (Err e) read faultless same settled = tt
 
-pub checked_annotated : (typed : Typed) (r : Result Checked FrontError)
-    → AreItemsAnnotated (contents (file_of typed).items)
-    → IfOk r (λ (checked : Checked). typed_of checked ≡ typed)
-    → IfOk r (λ (checked : Checked). AreItemsAnnotated (contents (file_of (typed_of checked)).items))
-checked_annotated typed (Ok checked) is same = subst (λ (v : Typed). AreItemsAnnotated (contents (file_of v).items)) (sym same) is
-checked_annotated typed (Err e) is same = tt
-
-pub checked_placed : (typed : Typed) (r : Result Checked FrontError)
-    → data_fault_of (file_view (file_of typed)) ≡ None
-    → IfOk r (λ (checked : Checked). typed_of checked ≡ typed)
-    → IfOk r (λ (checked : Checked). data_fault_of (file_view (file_of (typed_of checked))) ≡ None)
-checked_placed typed (Ok checked) is same = subst (λ (v : Typed). data_fault_of (file_view (file_of v)) ≡ None) (sym same) is
+pub checked_placed : (typed : File) (r : Result File FrontError)
+    → data_fault_of (file_view typed) ≡ None
+    → IfOk r (λ (checked : File). checked ≡ typed)
+    → IfOk r (λ (checked : File). HasPlace (file_view checked))
+checked_placed typed (Ok checked) is same = subst (λ (f : File). HasPlace (file_view f)) (sym same) is
 checked_placed typed (Err e) is same = tt
-
-pub checked_symbols : (file : FileTree) (typed : Typed) (r : Result Checked FrontError)
-    → file_view (file_of typed) ≡ file
-    → symbols_of typed ≡ symbols file
-    → IfOk r (λ (checked : Checked). typed_of checked ≡ typed)
-    → IfOk r (λ (checked : Checked). HoldsSymbols (typed_of checked))
-checked_symbols file typed (Ok checked) view are same = subst HoldsSymbols (sym same) (are ∙ ap symbols (sym view))
-checked_symbols file typed (Err e) view are same = tt

@@ -1,18 +1,13 @@
 -- The file of a text, or its fault.
 use Rattle.std.specs.Prelude.{◌≡◌, ℕ, List, Ok, Err, None}
-use Rattle.bs_words.specs.Contents.{contents}
 use Rattle.bs_fault.specs.declared.fault.Fault.{Fault}
 use Rattle.bs_fault.specs.declared.fault.Fault.TheVariants.{AddrLive}
 use Rattle.bs_fault.specs.declared.fault.FrontError.{FrontError}
 use Rattle.bs_fault.specs.declared.fault.FrontError.TheVariants as error
 use Rattle.cmm_data.specs.Faults.{data_fault_of}
-use Rattle.cmm_tree.specs.Symbols.{symbols}
 use Rattle.cmm_tree.specs.Tree.{FileTree}
-use Rattle.cmm_tree.specs.View.{file_view}
 use Rattle.cmm_types.specs.Faults.{TypeFault}
 use Rattle.bs_fault.specs.Order.{IsLeftmost}
-use Rattle.cmm_types.specs.Typing.{AreItemsAnnotated, file_of, symbols_of}
-use Rattle.cmm_types.specs.declared.typed.Typed.{Typed}
 use Rattle.cmm_walks.specs.AddrLive.{IsLive, IsToldLive}
 use Rattle.cmm_reader.specs.Text.{ReadsAs}
 
@@ -42,18 +37,6 @@ abbrev pub IsErrorOf : List ℕ → FrontError → Type 0
 IsErrorOf text (error.Fault told) = HasFault text told
 IsErrorOf text error.OutOfMemory = Unit {0}
 
--- the tree of the file
-abbrev pub tree_of : Typed → FileTree
-tree_of typed = file_view (file_of typed)
-
--- each node of the functions holds its type
-abbrev pub HoldsTypes : Typed → Type 0
-HoldsTypes typed = AreItemsAnnotated (contents (file_of typed).items)
-
--- the symbols are those of the file, in the order of their definitions
-abbrev pub HoldsSymbols : Typed → Type 0
-HoldsSymbols typed = symbols_of typed ≡ symbols (tree_of typed)
-
 -- the static data has a place
-abbrev pub HasPlace : Typed → Type 0
-HasPlace typed = data_fault_of (tree_of typed) ≡ None
+abbrev pub HasPlace : FileTree → Type 0
+HasPlace file = data_fault_of file ≡ None

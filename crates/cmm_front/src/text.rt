@@ -1,7 +1,7 @@
 //! Texts.
 ghost use Rattle.std.specs.Prelude.{IfOk, IfErr};
-ghost use Rattle.cmm_front.specs.FileOf.{IsFileOf, IsErrorOf, tree_of, HoldsTypes, HoldsSymbols, HasPlace};
-ghost use Rattle.cmm_walks.specs.Checked.{typed_of};
+ghost use Rattle.cmm_front.specs.FileOf.{IsFileOf, IsErrorOf, HasPlace};
+ghost use Rattle.cmm_tree.specs.View.{file_view};
 
 use bs_fault::FrontError;
 use cmm_reader::read_file;
@@ -9,8 +9,7 @@ use cmm_types::check_types;
 use cmm_walks::{Checked, check_addresses};
 use std::alloc::Global;
 
-/// The file of a text, with the type of each node and the symbols in the order of their definitions. All
-/// faults but the image's size are looked for, and its static data has a place.
+/// The file of a text, checked. All faults but the image's size are looked for, and its static data has a place.
 ///
 /// One fault is reported of a text that has any: what reading reports; else the leftmost fault of types or
 /// symbols; else the first use of an address after a frame point that it was bound before.
@@ -20,10 +19,8 @@ use std::alloc::Global;
 /// `Fault` exactly where the text has a fault, with that fault, and `OutOfMemory` where memory ran out
 /// before that is known.
 pub fn front(alloc: Global, text: &[u8]) -> Result<Checked, FrontError>
-    ensures file { IfOk result (λ checked. IsFileOf text.now (tree_of (typed_of checked))) }
-    ensures typed { IfOk result (λ checked. HoldsTypes (typed_of checked)) }
-    ensures symbols { IfOk result (λ checked. HoldsSymbols (typed_of checked)) }
-    ensures placed { IfOk result (λ checked. HasPlace (typed_of checked)) }
+    ensures file { IfOk result (λ checked. IsFileOf text.now (file_view checked)) }
+    ensures placed { IfOk result (λ checked. HasPlace (file_view checked)) }
     ensures fault { IfErr result (IsErrorOf text.now) }
 {
     let file = read_file(alloc, text)?;

@@ -7,7 +7,7 @@ ghost use Rattle.cmm_tree.specs.Symbols.{symbols, definition_of};
 ghost use Rattle.cmm_types.specs.Faults.{TypeFault};
 ghost use Rattle.cmm_types.specs.Gathered.{function_faults, datum_faults, data_faults, item_faults, items_faults};
 ghost use Rattle.bs_fault.specs.Reported.{noted_all};
-ghost use Rattle.cmm_types.specs.Typing.{IsFunctionAnnotated, IsItemAnnotated, AreItemsAnnotated, IsFaultTold, file_of, symbols_of};
+ghost use Rattle.cmm_types.specs.Typing.{IsFunctionAnnotated, IsItemAnnotated, AreItemsAnnotated, IsFaultTold};
 
 use crate::checker::Checker;
 use crate::gathering::gather;
@@ -19,26 +19,54 @@ use bs_fault::{Fault, FrontError};
 use bs_words::List;
 use cmm_tree::{DataItem, Datum, File, Function, Item};
 use std::alloc::{AllocError, Global};
+use std::marker::Model;
 
-/// A file without a fault of types or symbols. Each node of its functions holds its type, and its symbols
-/// stand in the order of their definitions.
+/// A file whose nodes hold their types, with its symbols in the order of their definitions. Contracts see the file.
 #[derive(Drop)]
 pub struct Typed {
     file: File,
     symbols: Symbols,
 }
 
+impl Model for Typed {
+    ghost use Rattle.std.specs.Coded.{codes};
+    ghost use Rattle.cmm_tree.specs.contracts.file.File as row;
+    ghost use Rattle.cmm_tree.specs.declared.file.File.{File};
+    ghost use Rattle.cmm_types.specs.Typing.{IsTyped};
+
+    ghost Value = { File };
+
+    ghost coded = { Prim.hlevel (codes, row.the_row.coded) };
+
+    ghost view = { λ typed. typed.file };
+
+    ghost invariant = { λ typed. IsTyped typed.file typed.symbols };
+}
+
 impl Typed {
+    /// What is known of a file, as one.
+    fn of(file: File, known: Symbols) -> Typed
+        requires typed { AreItemsAnnotated (contents file.items) }
+        requires symbols { known ≡ symbols (file_view file) }
+        ensures { result ≡ file }
+    {
+        Typed {
+            file,
+            symbols: known,
+        }
+    }
+
     /// The file.
     pub fn file(&self) -> &File
-        ensures { result.now ≡ file_of self.now }
+        ensures same { result.now ≡ self.now }
+        ensures typed { AreItemsAnnotated (contents self.now.items) }
     {
         &self.file
     }
 
     /// Its symbols, first the built-in data and then those that the file defines, in order.
     pub fn symbols(&self) -> &Symbols
-        ensures { result.now ≡ symbols_of self.now }
+        ensures { result.now ≡ symbols (file_view self.now) }
     {
         &self.symbols
     }
@@ -47,10 +75,8 @@ impl Typed {
 /// Gives each node its type. It answers the leftmost fault of types and symbols, F11 to F19 and F21, if
 /// there is one; of those on one place the one with the lowest number.
 pub fn check_types(alloc: Global, file: File) -> Result<Typed, FrontError>
-    ensures same { IfOk result (λ typed. file_view (file_of typed) ≡ file_view file) }
-    ensures typed { IfOk result (λ typed. AreItemsAnnotated (contents (file_of typed).items)) }
-    ensures symbols { IfOk result (λ typed. symbols_of typed ≡ symbols (file_view file)) }
-    ensures faultless { IfOk result (λ typed. (told : Fault) → ¬ TypeFault (file_view file) told) }
+    ensures same { IfOk result (λ typed. file_view typed ≡ file_view file) }
+    ensures faultless { IfOk result (λ _. (told : Fault) → ¬ TypeFault (file_view file) told) }
     ensures fault { IfErr result (IsFaultTold (file_view file)) }
 {
     let mut items = file.items.into_vec();
@@ -66,10 +92,7 @@ pub fn check_types(alloc: Global, file: File) -> Result<Typed, FrontError>
         Some(told) => Err(FrontError::Fault(told)),
         None => {
             let items = List::from_vec(items);
-            Ok(Typed {
-                file: File { items },
-                symbols,
-            })
+            Ok(Typed::of(File { items }, symbols))
         }
     }
 }

@@ -11,4 +11,3 @@ pub mod Found
 pub mod Leaving
 pub mod Refusal
 pub mod Made
-pub mod Checked

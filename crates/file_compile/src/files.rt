@@ -3,11 +3,10 @@ ghost use Rattle.std.specs.Prelude.{◌≡◌, ◌<◌, ◌≤◌, All, length, 
 ghost use Rattle.std.specs.List.{AllZip};
 ghost use Rattle.bs_fault.specs.declared.large.Large.{Large};
 ghost use Rattle.bs_words.specs.Contents.{contents};
-ghost use Rattle.cmm_front.specs.FileOf.{HasPlace, HoldsTypes, tree_of};
+ghost use Rattle.cmm_front.specs.FileOf.{HasPlace};
 ghost use Rattle.cmm_tree.specs.Tree.{functions, functions_among};
-ghost use Rattle.cmm_tree.specs.View.{function_view, item_view};
+ghost use Rattle.cmm_tree.specs.View.{file_view, function_view, item_view};
 ghost use Rattle.cmm_types.specs.Typing.{AreItemsAnnotated, IsFunctionAnnotated};
-ghost use Rattle.cmm_walks.specs.Checked.{typed_of};
 ghost use Rattle.image_form.specs.Image.{IsImage};
 ghost use Rattle.image_form.specs.Tables.{Tables, tables};
 ghost use Rattle.layout_rules.specs.TooLarge.{first_too_large};
@@ -128,17 +127,16 @@ pub fn compile<R: Threads + Sync, G: Gate + Sync>(
 ) -> Result<Image, BuildError>
     requires some_jobs { 1 ≤ jobs }
     requires few_jobs { jobs ≤ 64 }
-    requires typed { HoldsTypes (typed_of checked.now) }
-    requires placed { HasPlace (typed_of checked.now) }
-    requires accepted { IsAcceptedFile (tree_of (typed_of checked.now)) }
+    requires placed { HasPlace (file_view checked.now) }
+    requires accepted { IsAcceptedFile (file_view checked.now) }
     ensures made { IfOk result (λ image.
-        IsMadeFor (tree_of (typed_of checked.now)) (tables image)) }
+        IsMadeFor (file_view checked.now) (tables image)) }
     ensures is_image { IfOk result IsImage }
     ensures fits { IfOk result (λ image. first_too_large (tables image) ≡ None) }
     ensures large { (large : Large)
         → result ≡ Err (BuildError.TooLarge large)
         → (t : Tables)
-        × (IsMadeFor (tree_of (typed_of checked.now)) t × (first_too_large t ≡ Some large)) }
+        × (IsMadeFor (file_view checked.now) t × (first_too_large t ≡ Some large)) }
 {
     let file = checked.typed().file();
     let functions = functions_of(alloc, file.items.as_slice())?;
@@ -164,10 +162,9 @@ fn all_texts(alloc: Global, functions: &[&Function], stage: Stage) -> Result<Lis
 
 /// The texts of the functions of a file at a stage, one after the other.
 fn functions_text(alloc: Global, checked: &Checked, stage: Stage) -> Result<List<u8>, AllocError>
-    requires typed { HoldsTypes (typed_of checked.now) }
-    requires accepted { IsAcceptedFile (tree_of (typed_of checked.now)) }
+    requires accepted { IsAcceptedFile (file_view checked.now) }
     ensures { IfOk result (λ text.
-        AreFunctionTexts stage (functions (tree_of (typed_of checked.now))) (contents text)) }
+        AreFunctionTexts stage (functions (file_view checked.now)) (contents text)) }
 {
     let functions = functions_of(alloc, checked.typed().file().items.as_slice())?;
     let text = all_texts(alloc, functions.as_slice(), stage)?;
@@ -190,17 +187,16 @@ pub fn stage<R: Threads + Sync>(
     checked: &Checked,
     stage: Stage,
 ) -> Result<List<u8>, BuildError>
-    requires typed { HoldsTypes (typed_of checked.now) }
-    requires placed { HasPlace (typed_of checked.now) }
-    requires accepted { IsAcceptedFile (tree_of (typed_of checked.now)) }
+    requires placed { HasPlace (file_view checked.now) }
+    requires accepted { IsAcceptedFile (file_view checked.now) }
     ensures text { IfOk result (λ text.
-        IsStageText (tree_of (typed_of checked.now)) stage (contents text)) }
+        IsStageText (file_view checked.now) stage (contents text)) }
     ensures of_image { (large : Large) → result ≡ Err (BuildError.TooLarge large) →
         IsOfImage stage }
     ensures large { (large : Large)
         → result ≡ Err (BuildError.TooLarge large)
         → (t : Tables)
-        × (IsMadeFor (tree_of (typed_of checked.now)) t × (first_too_large t ≡ Some large)) }
+        × (IsMadeFor (file_view checked.now) t × (first_too_large t ≡ Some large)) }
 {
     match stage {
         Stage::Select => Ok(functions_text(alloc, checked, Stage::Select)?),

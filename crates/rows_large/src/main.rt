@@ -7,10 +7,9 @@
 mod made;
 
 ghost use Rattle.std.specs.Prelude.{◌≡◌, length, map, IfOk};
-ghost use Rattle.cmm_front.specs.FileOf.{tree_of, HoldsTypes, HasPlace};
+ghost use Rattle.cmm_front.specs.FileOf.{HasPlace};
 ghost use Rattle.cmm_tree.specs.Tree.{functions_among};
-ghost use Rattle.cmm_tree.specs.View.{item_view};
-ghost use Rattle.cmm_walks.specs.Checked.{typed_of};
+ghost use Rattle.cmm_tree.specs.View.{file_view, item_view};
 ghost use Rattle.layout_rules.specs.Conditions.{CanBeLaid};
 
 use anyhow::Result;
@@ -85,9 +84,8 @@ fn answer<R: Threads + Sync>(
     checked: &Checked,
     pieces: &[Pieces],
 ) -> Result<Vec<u8>, AllocError>
-    requires typed { HoldsTypes (typed_of checked.now) }
-    requires placed { HasPlace (typed_of checked.now) }
-    requires can { CanBeLaid (tree_of (typed_of checked.now)) pieces.now }
+    requires placed { HasPlace (file_view checked.now) }
+    requires can { CanBeLaid (file_view checked.now) pieces.now }
 {
     let placed = place_data(alloc, checked.typed().file())?;
     match assemble(rt, alloc, pieces, checked.typed(), &placed, 1) {

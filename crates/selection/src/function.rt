@@ -1,10 +1,8 @@
 //! The function of a file by its number, and its Mach function.
 ghost use Rattle.std.specs.Prelude.{◌≡◌, ◌<◌, [], length, map, Some, slice_get, ⊤, IfOk, OnOk, MatchOption, option_map, option_copied};
-ghost use Rattle.bs_words.specs.Contents.{contents};
 ghost use Rattle.cmm_tree.specs.Tree.{functions, functions_among};
 ghost use Rattle.cmm_tree.specs.View.{function_view, item_view, file_view, params_view};
-ghost use Rattle.cmm_types.specs.Typing.{AreItemsAnnotated, IsFunctionAnnotated, file_of};
-ghost use Rattle.cmm_walks.specs.Checked.{typed_of};
+ghost use Rattle.cmm_types.specs.Typing.{AreItemsAnnotated, IsFunctionAnnotated};
 ghost use Rattle.selection_rules.specs.Select.{first, seats, params_from, moves_all, selected};
 ghost use Rattle.selection.specs.Whole.{numbers_in, body_code};
 
@@ -156,10 +154,9 @@ pub fn select_function(alloc: Global, function: &Function) -> Result<Mach, Alloc
 ///
 /// Where memory is used up. That a number of registers and labels passes 32 bits counts as that.
 pub fn select(alloc: Global, checked: &Checked, function: u32) -> Result<Mach, AllocError>
-    requires typed { AreItemsAnnotated (contents (file_of (typed_of checked.now)).items) }
-    requires function { function < length (functions (file_view (file_of (typed_of checked.now)))) }
-    ensures { IfOk result (λ mach. slice_get (map selected (functions (file_view (file_of
-        (typed_of checked.now))))) function ≡ Some mach) }
+    requires { function < length (functions (file_view checked.now)) }
+    ensures { IfOk result (λ mach. slice_get (map selected (functions (file_view checked.now)))
+        function ≡ Some mach) }
 {
     let items = checked.typed().file().items.as_slice();
     match function_at(items, function) {

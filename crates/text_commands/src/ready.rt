@@ -1,8 +1,8 @@
 //! A text with its image and a call of one of its functions, ready to be run by its meaning.
 ghost use Rattle.std.specs.Prelude.{◌≡◌, IfOk, IfErr};
 ghost use Rattle.cmm_eval.specs.Views.{layout_view};
-ghost use Rattle.cmm_front.specs.FileOf.{HasPlace, HoldsTypes, tree_of};
-ghost use Rattle.cmm_walks.specs.Checked.{typed_of};
+ghost use Rattle.cmm_front.specs.FileOf.{HasPlace};
+ghost use Rattle.cmm_tree.specs.View.{file_view};
 ghost use Rattle.command_line.specs.View.{check_view};
 ghost use Rattle.correctness.specs.Setting.{layout_of};
 ghost use Rattle.image_form.specs.Image.{IsImage};
@@ -48,10 +48,9 @@ pub fn made_ready<R: Threads + Sync, G: Gate + Sync>(
     gate: &G,
 ) -> Result<Ready, CheckRefusal>
     ensures ready { IfOk result (λ r.
-        IsReady (check_view check.now) text.now (tree_of (typed_of r.checked)) r.call.entry
+        IsReady (check_view check.now) text.now (file_view r.checked) r.call.entry
         r.call.args.items r.call.answers.items (tables r.image)) }
-    ensures typed { IfOk result (λ r. HoldsTypes (typed_of r.checked)) }
-    ensures placed { IfOk result (λ r. HasPlace (typed_of r.checked)) }
+    ensures placed { IfOk result (λ r. HasPlace (file_view r.checked)) }
     ensures is_image { IfOk result (λ r. IsImage r.image) }
     ensures layout { IfOk result (λ r. layout_view r.layout ≡ layout_of (tables r.image)) }
     ensures refused { IfErr result (λ r. IsCheckRefusal (check_view check.now) text.now r) }

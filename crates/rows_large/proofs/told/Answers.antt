@@ -2,27 +2,24 @@ use Rattle.std.proofs.Common.{◌≡◌, List, [], length, map, ap, ◌∙◌, a
 use Rattle.std.proofs.lemmas.List.Sums.{sum_by-cons}
 use Rattle.accepted_files.proofs.Files.{file_can}
 use Rattle.bs_words.specs.Contents.{contents}
-use Rattle.cmm_front.specs.FileOf.{tree_of}
 use Rattle.cmm_tree.specs.Tree.{functions_among}
-use Rattle.cmm_tree.specs.View.{item_view}
+use Rattle.cmm_tree.specs.View.{file_view, item_view}
 use Rattle.cmm_tree.specs.declared.file.File.{File}
 use Rattle.cmm_tree.specs.declared.file.Item.{Item}
-use Rattle.cmm_types.specs.Typing.{file_of}
-use Rattle.cmm_walks.specs.Checked.{typed_of}
 use Rattle.layout_rules.specs.Conditions.{weight_of}
 use Rattle.rv_pieces.specs.declared.piece.Pieces.{Pieces}
 use Rattle.rows_large.proofs.told.Goals as goal
 
 pub answer-requires-clause-can : goal.answer-requires-clause-can
 answer-requires-clause-can g c = λ lifetimes outlive.
-    let file = file_of (typed_of c.in-Ok.checked) in
+    let file = c.in-Ok.checked in
     let items : c.as_slice.result.now ≡ contents file.items =
-    c.as_slice.ensures ∙ ap (λ (f : File). contents f.items) (c.file.ensures ∙ ap file_of c.typed.ensures) in
+    c.as_slice.ensures ∙ ap (λ (f : File). contents f.items) (c.file.ensures.same ∙ c.typed.ensures) in
     let many = c.in_ok-count_functions.ensures ∙ ap (λ (list : List Item). length (functions_among (map item_view list))) items in
     let heavy = sum_by-cons (λ (p : Pieces). weight_of p.code) c.in_ok-pieces.pieces [] in
     record {
-      of_file = file_can c.as_bytes.result.now (tree_of (typed_of c.in-Ok.checked)) c.in-Ok.ensures.file;
+      of_file = file_can c.as_bytes.result.now (file_view c.in-Ok.checked) c.in-Ok.ensures.file;
       each_one = omega (arith, many, c.if-branch-ne1.false);
-      each = (c.in_ok-pieces.ensures.laid (tree_of (typed_of c.in-Ok.checked)), tt);
+      each = (c.in_ok-pieces.ensures.laid (file_view c.in-Ok.checked), tt);
       few = omega (arith, heavy, c.in_ok-pieces.ensures.few);
     }

@@ -28,7 +28,7 @@ returns-in-Some-clause-large g c = λ large same.
     let forms = forms_in c.in_ok-places.places in
     let t : Tables = laid_out (file_view c.file-file.result.now) ps forms in
     let found = sym (c.too_large.ensures t c.sizes.ensures) ∙ (c.in-Some.is ∙ ap Some (same_large c.in-Some.large large same)) in
-    (t, (record { forms = forms; are = c.in_ok-places.ensures.forms; is = ap (λ (f : File). laid_out (file_view f) ps forms) c.file-file.ensures }, found))
+    (t, (record { forms = forms; are = c.in_ok-places.ensures.forms; is = ap (λ (f : File). laid_out (file_view f) ps forms) c.file-file.ensures.same }, found))
 
 pub returns-clause-fits : goal.returns-clause-fits
 returns-clause-fits g c = ap first_too_large c.in_ok-image.ensures ∙ (sym (c.too_large.ensures _ c.sizes.ensures) ∙ c.in_default.is)
@@ -37,6 +37,6 @@ pub returns-clause-is_image : goal.returns-clause-is_image
 returns-clause-is_image g c =
     let ps = c.args.pieces.now in
     let forms = forms_in c.in_ok-places.places in
-    let can = subst (λ (f : File). CanBeLaid (file_view f) ps) (sym c.file-file.ensures) c.requires.can in
+    let can = subst (λ (f : File). CanBeLaid (file_view f) ps) (sym c.file-file.ensures.same) c.requires.can in
     subst AreTables (sym c.in_ok-image.ensures)
     (is_image (file_view c.file-file.result.now) ps forms can c.in_ok-places.ensures.forms (sym (c.too_large.ensures _ c.sizes.ensures) ∙ c.in_default.is))

@@ -1,8 +1,7 @@
 -- Each step reports the fault that it finds; after all of them the file is the text's.
 use Rattle.std.proofs.Common.{rules}
 use Rattle.cmm_tree.specs.View.{file_view}
-use Rattle.cmm_types.specs.Typing.{file_of}
-use Rattle.cmm_front.proofs.Answering.{unread_told, untyped_told, checked_told, checked_file, checked_annotated, checked_placed, checked_symbols, read_same, typed_same}
+use Rattle.cmm_front.proofs.Answering.{unread_told, untyped_told, checked_told, checked_file, checked_placed, read_same, typed_same}
 use Rattle.cmm_front.proofs.Readings.{is_placed}
 use Rattle.cmm_front.proofs.text.front.Goals as goal
 
@@ -17,28 +16,21 @@ pub returns-clause-file : goal.returns-clause-file
 returns-clause-file c =
     let same = c.in_ok-typed.ensures.same in
     checked_file c.args.text.now c.in_ok-typed.typed c.check_addresses.result
-    (read_same c.args.text.now (file_view c.in_ok-file.file) (file_view (file_of c.in_ok-typed.typed)) same c.in_ok-file.ensures.read)
-    (typed_same (file_view c.in_ok-file.file) (file_view (file_of c.in_ok-typed.typed)) same c.in_ok-typed.ensures.faultless)
+    (read_same c.args.text.now (file_view c.in_ok-file.file) (file_view c.in_ok-typed.typed) same c.in_ok-file.ensures.read)
+    (typed_same (file_view c.in_ok-file.file) (file_view c.in_ok-typed.typed) same c.in_ok-typed.ensures.faultless)
     c.check_addresses.ensures.same c.check_addresses.ensures.settled
-
-pub returns-clause-typed : goal.returns-clause-typed
-returns-clause-typed c = checked_annotated c.in_ok-typed.typed c.check_addresses.result c.in_ok-typed.ensures.typed c.check_addresses.ensures.same
-
-pub returns-clause-symbols : goal.returns-clause-symbols
-returns-clause-symbols c =
-    checked_symbols (file_view c.in_ok-file.file) c.in_ok-typed.typed c.check_addresses.result c.in_ok-typed.ensures.same c.in_ok-typed.ensures.symbols c.check_addresses.ensures.same
 
 pub returns-clause-placed : goal.returns-clause-placed
 returns-clause-placed c =
     let same = c.in_ok-typed.ensures.same in
     checked_placed c.in_ok-typed.typed c.check_addresses.result
-    (is_placed c.args.text.now (file_view (file_of c.in_ok-typed.typed)) (read_same c.args.text.now (file_view c.in_ok-file.file) (file_view (file_of c.in_ok-typed.typed)) same c.in_ok-file.ensures.read))
+    (is_placed c.args.text.now (file_view c.in_ok-typed.typed) (read_same c.args.text.now (file_view c.in_ok-file.file) (file_view c.in_ok-typed.typed) same c.in_ok-file.ensures.read))
     c.check_addresses.ensures.same
 
 pub returns-clause-fault : goal.returns-clause-fault
 returns-clause-fault c =
     let same = c.in_ok-typed.ensures.same in
-    checked_told c.args.text.now (file_view (file_of c.in_ok-typed.typed)) c.check_addresses.result
-    (read_same c.args.text.now (file_view c.in_ok-file.file) (file_view (file_of c.in_ok-typed.typed)) same c.in_ok-file.ensures.read)
-    (typed_same (file_view c.in_ok-file.file) (file_view (file_of c.in_ok-typed.typed)) same c.in_ok-typed.ensures.faultless)
+    checked_told c.args.text.now (file_view c.in_ok-typed.typed) c.check_addresses.result
+    (read_same c.args.text.now (file_view c.in_ok-file.file) (file_view c.in_ok-typed.typed) same c.in_ok-file.ensures.read)
+    (typed_same (file_view c.in_ok-file.file) (file_view c.in_ok-typed.typed) same c.in_ok-typed.ensures.faultless)
     c.check_addresses.ensures.fault

@@ -1,7 +1,6 @@
 use Rattle.std.proofs.Common.{sym, subst}
 use Rattle.bs_words.specs.Contents.{contents}
-use Rattle.cmm_front.specs.FileOf.{tree_of}
-use Rattle.cmm_walks.specs.Checked.{typed_of}
+use Rattle.cmm_tree.specs.View.{file_view}
 use Rattle.image_form.specs.Tables.{tables}
 use Rattle.stages.specs.declared.stage.Stage.{Stage}
 use Rattle.file_compile.specs.Listed.{IsStageText}
@@ -9,7 +8,7 @@ use Rattle.file_compile.proofs.files.stage.Goals as goal
 
 pub returns-in_ok-frames_text-in-Frames-clause-text : goal.returns-in_ok-frames_text-in-Frames-clause-text
 returns-in_ok-frames_text-in-Frames-clause-text g c =
-    let file = tree_of (typed_of c.args.checked.now) in
+    let file = file_view c.args.checked.now in
     let text = contents c.in_ok-frames_text-in-Frames.field-0 in
     subst (λ (s : Stage). IsStageText file s text) (sym c.in-Frames.is) (record {
       image = tables c.in_ok-image-in-Frames.image;
@@ -21,7 +20,7 @@ returns-in_ok-frames_text-in-Frames-clause-text g c =
 
 pub returns-in_ok-code_text-in-Code-clause-text : goal.returns-in_ok-code_text-in-Code-clause-text
 returns-in_ok-code_text-in-Code-clause-text g c =
-    let file = tree_of (typed_of c.args.checked.now) in
+    let file = file_view c.args.checked.now in
     let text = contents c.in_ok-code_text-in-Code.field-0 in
     subst (λ (s : Stage). IsStageText file s text) (sym c.in-Code.is) (record {
       image = tables c.in_ok-image-in-Code.image;

@@ -1,10 +1,8 @@
 use Rattle.std.proofs.Common.{◌≡◌, refl, ap, ◌∙◌}
 use Rattle.cmm_eval.specs.Views.{layout_view}
-use Rattle.cmm_front.specs.FileOf.{tree_of}
 use Rattle.cmm_meaning.specs.Layout.{Layout}
 use Rattle.cmm_tree.specs.Tree.{FileTree}
 use Rattle.cmm_tree.specs.View.{file_view}
-use Rattle.cmm_walks.specs.Checked.{typed_of}
 use Rattle.image_form.specs.Tables.{tables}
 use Rattle.text_commands.proofs.Passing.{only_made}
 use Rattle.text_commands.specs.Check.{told_of_run}
@@ -14,9 +12,9 @@ pub returns-in-Ok-clause-told : goal.returns-in-Ok-clause-told
 returns-in-Ok-clause-told g c =
     let r = c.in_ok-ready.ready in
     let is = c.in_ok-ready.ensures.ready in
-    let file = tree_of (typed_of r.checked) in
+    let file = file_view r.checked in
     let image = tables r.image in
-    let same : file_view c.file-file.result.now ≡ file = rw (c.file-file.ensures, c.typed.ensures) refl in
+    let same : file_view c.file-file.result.now ≡ file = rw (c.file-file.ensures.same, c.typed.ensures) refl in
     record {
       file = file;
       is_file = is.is_file;

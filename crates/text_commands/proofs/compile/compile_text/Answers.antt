@@ -1,6 +1,5 @@
 use Rattle.std.proofs.Common.{Err, ap, arith}
-use Rattle.cmm_front.specs.FileOf.{tree_of}
-use Rattle.cmm_walks.specs.Checked.{typed_of}
+use Rattle.cmm_tree.specs.View.{file_view}
 use Rattle.file_compile.proofs.Promised.{all_bytes}
 use Rattle.image_form.specs.Tables.{tables}
 use Rattle.text_commands.proofs.Listed.{image_of}
@@ -18,7 +17,7 @@ compile-requires-clause-accepted g c = λ lifetimes outlive. record {
 pub returns-in-Ok-write_image-clause-image : goal.returns-in-Ok-write_image-clause-image
 returns-in-Ok-write_image-clause-image g c =
     let text = c.args.text.now in
-    let file = tree_of (typed_of c.in-Ok.checked) in
+    let file = file_view c.in-Ok.checked in
     let image = tables c.in-Ok-compile.image in
     let bytes = all_bytes text (λ i. omega (arith, c.type_inv.text i)) in
     record {
@@ -30,6 +29,6 @@ returns-in-Ok-write_image-clause-image g c =
 pub returns-in-Err-TooLarge-clause-refused : goal.returns-in-Err-TooLarge-clause-refused
 returns-in-Err-TooLarge-clause-refused g c =
     rw c.in-Err-TooLarge.field-0-is (
-    too_large c.args.text.now (tree_of (typed_of c.in-Ok.checked)) c.in-Err-TooLarge.large c.in-Ok.ensures.file
+    too_large c.args.text.now (file_view c.in-Ok.checked) c.in-Err-TooLarge.large c.in-Ok.ensures.file
     (c.in-Err-TooLarge.ensures.large c.in-Err-TooLarge.large (ap Err c.in-Err-TooLarge.field-0-is))
     )

@@ -1,7 +1,6 @@
 use Rattle.std.proofs.Common.{Err, ap, arith}
 use Rattle.bs_words.specs.Contents.{contents}
-use Rattle.cmm_front.specs.FileOf.{tree_of}
-use Rattle.cmm_walks.specs.Checked.{typed_of}
+use Rattle.cmm_tree.specs.View.{file_view}
 use Rattle.file_compile.proofs.Promised.{all_bytes, stage_text_once}
 use Rattle.text_commands.proofs.Listed.{lists_image}
 use Rattle.text_commands.proofs.Passing.{too_large}
@@ -18,7 +17,7 @@ stage-requires-clause-accepted g c = λ lifetimes outlive. record {
 pub returns-in-Ok-stage-clause-listed : goal.returns-in-Ok-stage-clause-listed
 returns-in-Ok-stage-clause-listed g c =
     let text = c.args.text.now in
-    let file = tree_of (typed_of c.in-Ok.checked) in
+    let file = file_view c.in-Ok.checked in
     let bytes = contents c.in-Ok-stage.bytes in
     record {
       file = file;
@@ -33,6 +32,6 @@ returns-in-Ok-stage-clause-listed g c =
 pub returns-in-Err-TooLarge-clause-refused : goal.returns-in-Err-TooLarge-clause-refused
 returns-in-Err-TooLarge-clause-refused g c = (
   c.in-Err-TooLarge.ensures.of_image c.in-Err-TooLarge.large (ap Err c.in-Err-TooLarge.field-0-is),
-  too_large c.args.text.now (tree_of (typed_of c.in-Ok.checked)) c.in-Err-TooLarge.large c.in-Ok.ensures.file
+  too_large c.args.text.now (file_view c.in-Ok.checked) c.in-Err-TooLarge.large c.in-Ok.ensures.file
       (c.in-Err-TooLarge.ensures.large c.in-Err-TooLarge.large (ap Err c.in-Err-TooLarge.field-0-is)),
 )

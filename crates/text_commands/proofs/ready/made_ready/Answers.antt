@@ -1,8 +1,6 @@
 use Rattle.std.proofs.Common.{◌≡◌, Err, refl, ap, subst, arith}
-use Rattle.cmm_front.specs.FileOf.{tree_of}
 use Rattle.cmm_tree.specs.Tree.{FileTree}
 use Rattle.cmm_tree.specs.View.{file_view}
-use Rattle.cmm_walks.specs.Checked.{typed_of}
 use Rattle.command_line.specs.View.{check_view}
 use Rattle.file_compile.proofs.Promised.{all_bytes}
 use Rattle.text_commands.proofs.Compiled.{too_large_to_check}
@@ -19,9 +17,9 @@ compile-requires-clause-accepted g c = λ lifetimes outlive. record {
 
 pub returns-in-Err-TooLarge-clause-refused : goal.returns-in-Err-TooLarge-clause-refused
 returns-in-Err-TooLarge-clause-refused g c =
-    let file = tree_of (typed_of c.in-Ok.checked) in
+    let file = file_view c.in-Ok.checked in
     let call = c.in-Ok-call_of.call in
-    let same : file_view c.file.result.now ≡ file = rw (c.file.ensures, c.typed.ensures) refl in
+    let same : file_view c.file.result.now ≡ file = rw (c.file.ensures.same, c.typed.ensures) refl in
     let called : IsCall (check_view c.args.check.now) file call.entry call.args.items call.answers.items =
     subst (λ (f : FileTree). IsCall (check_view c.args.check.now) f call.entry call.args.items call.answers.items) same c.in-Ok-call_of.ensures.call in
     rw c.in-Err-TooLarge.field-0-is (too_large_to_check (check_view c.args.check.now) c.args.text.now file c.in-Err-TooLarge.large call.entry call.args.items call.answers.items c.in-Ok.ensures.file

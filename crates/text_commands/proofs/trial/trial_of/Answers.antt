@@ -1,12 +1,10 @@
 use Rattle.std.proofs.Common.{◌≡◌, refl, ap, ◌∙◌, arith}
 use Rattle.bs_words.specs.Contents.{contents}
 use Rattle.cmm_eval.specs.Views.{layout_view}
-use Rattle.cmm_front.specs.FileOf.{tree_of}
 use Rattle.cmm_meaning.specs.Layout.{Layout}
 use Rattle.cmm_meaning.specs.Run.{cmm_run}
 use Rattle.cmm_tree.specs.Tree.{FileTree}
 use Rattle.cmm_tree.specs.View.{file_view}
-use Rattle.cmm_walks.specs.Checked.{typed_of}
 use Rattle.command_line.specs.View.{check_view}
 use Rattle.file_compile.proofs.Promised.{all_bytes}
 use Rattle.image_form.specs.Tables.{tables}
@@ -19,8 +17,8 @@ returns-in-Ok-clause-told g c =
     let text = c.args.text.now in
     let r = c.in_ok-ready.ready in
     let is = c.in_ok-ready.ensures.ready in
-    let file = tree_of (typed_of r.checked) in
-    let same : file_view c.file-file.result.now ≡ file = rw (c.file-file.ensures, c.typed.ensures) refl in
+    let file = file_view r.checked in
+    let same : file_view c.file-file.result.now ≡ file = rw (c.file-file.ensures.same, c.typed.ensures) refl in
     tried (check_view c.args.check.now) text file is.is_file (all_bytes text (λ i. omega (arith, c.type_inv.text i))) (tables r.image)
     is.is_image is.made is.fits r.call.entry r.call.args.items r.call.answers.items (contents c.in-Ok.outcome) is.call
     (c.in-Ok.ensures
