@@ -6,10 +6,9 @@ use Rattle.std.proofs.lemmas.Bool.{and_parts, eqb-true}
 use Rattle.std.proofs.lemmas.List.{length-map}
 use Rattle.std.proofs.lemmas.List.Elements.{All-contains}
 use Rattle.std.proofs.lemmas.Grind.{flat_map-append}
-use Rattle.bs_fault.specs.declared.fault.Fault.{Fault}
 use Rattle.bs_fault.specs.declared.fault.Fault.TheVariants as fault
 use Rattle.bs_fault.specs.Limits.{longest_text}
-use Rattle.bs_fault.specs.Reported.{here, one_if, one_of, Faultless}
+use Rattle.bs_fault.specs.Reported.{here, one_if, Faultless}
 use Rattle.bs_words.specs.External.{External}
 use Rattle.bs_words.specs.Fits.{data_limit, data_start}
 use Rattle.bs_words.specs.Symbol.{IsSymbol, caml_bound_error}
@@ -55,6 +54,7 @@ use Rattle.accepted_files.proofs.Differ.{names, names_append, list_symbols, list
 use Rattle.accepted_files.proofs.Few.{calls_few}
 use Rattle.accepted_files.proofs.Giving.{AllInRange, IsFine, AreFine}
 use Rattle.accepted_files.proofs.Spelled.{IsNamed, items_named, symbol_is}
+use Rattle.cmm_front.proofs.Readings.{no_fault}
 
 -- ---- what was read
 
@@ -77,10 +77,6 @@ in_range_of (Some w) e = refl
 kind_in_range : (k : TokenKind) (text : List ℕ) → is_out_of_range k text ≡ false → is_integer_kind k ≡ true → IsSome (integer_value text)
 kind_in_range kind.Integer text e h = in_range_of (integer_value text) e
 kind_in_range _ text e h = absurd (let z : false ≡ true = h in cc)
-
-no_fault : (o : Option Fault) → Faultless (one_of o) → o ≡ None
-no_fault None none = refl
-no_fault (Some f) none = absurd (none f here)
 
 all_in_range : (ts : List TokenTree) → first_range ts ≡ None → AllInRange ts
 all_in_range [] e = tt

@@ -2,14 +2,14 @@
 use Rattle.std.proofs.Common.{◌≡◌, ℕ, suc, ◌<◌, Bool, true, false, cond, List, [], ◌∷◌, ◌++◌, Option, Some, None, refl, subst, arith}
 use Rattle.std.specs.Prelude.{◌==◌, ◌&&◌, nat_le}
 use Rattle.std.specs.Char.{is_ascii_digit}
-use Rattle.std.proofs.lemmas.Bool.{leb-true}
+use Rattle.std.proofs.lemmas.Bool.{leb-true, and_parts}
 use Rattle.bs_fault.specs.declared.fault.Fault.{Fault}
 use Rattle.cmm_lex.specs.Token.{TokenTree}
 use Rattle.cmm_lex.specs.Lexing.{Splits, ended, gap, token, stopped}
 use Rattle.cmm_lex.specs.Strings.{coded, is_code, escaped, unescaped, behind_backslash, string_bytes}
 use Rattle.cmm_lex.proofs.Languages.{AreBytes}
 use Rattle.cmm_lex.proofs.Scans.{AreBytes-back, AreBytes-front}
-use Rattle.cmm_tree.specs.Tree.{Expression, DatumTree, Text, Define, Byte, Half, Int, Val, Address, Skip, Align, Global, AFloat, DataItemTree, DataListTree, ItemTree, Parameter}
+use Rattle.cmm_tree.specs.Tree.{Expression, DatumTree, Text, Define, Byte, Half, Int, Val, Address, Skip, Align, Global, DataItemTree, ItemTree}
 use Rattle.cmm_tree.specs.Tree as tree
 use Rattle.cmm_grammar.specs.declared.word.DataWord.{DataWord}
 use Rattle.cmm_grammar.specs.declared.word.DataWord.TheVariants as item
@@ -20,7 +20,6 @@ use Rattle.cmm_grammar.specs.Grammar.{a_token, close, a_comp, operands, sequence
 use Rattle.cmm_grammar.specs.Spelling as spelling
 use Rattle.cmm_grammar.specs.Spelling.{Spells, AreItems, nothing, both, leaf, brackets, parenthesis, inside, inside_first, not_inside, labelled, not_labelled, one_more, present, absent, last, another, none, more}
 use Rattle.selection_accepted.proofs.Given.{Two}
-use Rattle.selection_rules.proofs.Labels.{and_right}
 
 -- ---- strings
 
@@ -40,7 +39,7 @@ bytes_if false x y p q = q
 
 coded_bytes : (a b c : ℕ) (t : Bool) → is_code a b c ≡ t → (x y : List ℕ) → AreBytes x → AreBytes y → AreBytes (cond t (coded a b c ∷ x) y)
 coded_bytes a b c true e x y p q =
-    let le = leb-true (coded a b c) 255 (and_right (is_ascii_digit c) (nat_le (coded a b c) 255) (and_right (is_ascii_digit a && is_ascii_digit b) _ e)) in
+    let le = leb-true (coded a b c) 255 (and_parts (is_ascii_digit c) (nat_le (coded a b c) 255) (and_parts (is_ascii_digit a && is_ascii_digit b) _ e).1).1 in
     (omega (arith, le), p)
 coded_bytes a b c false e x y p q = q
 
