@@ -19,8 +19,7 @@ use Rattle.selection_accepted.proofs.DataBytes.{DatumBytes, DataBytes, ItemsByte
 use Rattle.accepted_files.specs.Given.{IsGiven, AreGiven, HasGivenData}
 use Rattle.accepted_files.proofs.Differ.{names, names_append, data_names, item_names}
 use Rattle.accepted_files.proofs.Files.{read_of, lists_fine}
-use Rattle.accepted_files.proofs.Giving.{IsFine, AreFine}
-use Rattle.accepted_files.proofs.Spelled.{items_named}
+use Rattle.accepted_files.proofs.Spelled.{IsFine, AreFine, items_named}
 use Rattle.cmm_grammar.specs.Spelling.{nesting}
 use Rattle.selection_accepted.proofs.Beginning.{read_bytes}
 
@@ -117,5 +116,5 @@ pub given_data : (text : List ℕ) (file : FileTree) → IsFileOf text file → 
 given_data text file is bytes =
     let r = read_of text file is.read in
     record {
-      each = lists_given text file is (data_lists file) (λ l m. m) (lists_fine file.items (items_named nesting file.items r.tokens r.are r.in_range)) (bytes_among file.items (read_bytes text file is.read bytes));
+      each = lists_given text file is (data_lists file) (λ l m. m) (lists_fine file.items (items_named file.items r.tokens r.are r.in_range)) (bytes_among file.items (read_bytes text file is.read bytes));
     }

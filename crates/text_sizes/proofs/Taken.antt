@@ -11,8 +11,7 @@ use Rattle.cmm_grammar.specs.Spelling as spelling
 use Rattle.cmm_grammar.specs.Spelling.{Spells, nothing, both, leaf, brackets, parenthesis, inside, inside_first, not_inside, labelled, not_labelled, one_more, present, absent, last, another}
 use Rattle.text_sizes.specs.Measures.{call_bytes, datum_bytes, list_bytes}
 use Rattle.text_sizes.proofs.Bytes.{weight, weight_some, weights, weights_append}
-use Rattle.text_sizes.proofs.Given.{Two}
-use Rattle.cmm_grammar.proofs.Paid.{moved}
+use Rattle.cmm_grammar.proofs.Paid.{moved, Two}
 
 -- its calls take no more than so many bytes, and one is left
 pub record Weighed (e : Expression) (n : ℕ) : Type 0 where
