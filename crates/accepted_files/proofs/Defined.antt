@@ -8,9 +8,6 @@ use Rattle.cmm_data.specs.Placement.{DataSymbolTree, Definition, definition_of_d
 use Rattle.cmm_data.specs.Placement as placement
 use Rattle.cmm_front.specs.FileOf.{IsFileOf}
 use Rattle.cmm_lex.proofs.Languages.{AreBytes}
-use Rattle.cmm_reader.specs.Text as said
-use Rattle.cmm_reader.specs.Text.{ReadsAs}
-use Rattle.std.proofs.Common.{Ok}
 use Rattle.cmm_tree.specs.Symbols.{first_found, DefinedSymbol, data_symbols, definition_of}
 use Rattle.cmm_tree.specs.Symbols as defined
 use Rattle.cmm_tree.specs.Tree.{DatumTree, Define, Byte, Half, Int, Val, Address, Skip, Align, Text, Global, AFloat, DataItemTree, DataListTree, ItemTree, AFunction, AData, FileTree, data_among, data_lists}
@@ -18,13 +15,13 @@ use Rattle.cmm_types.specs.Faults.{unknown_address}
 use Rattle.cmm_types.specs.Gathered.{first_symbols}
 use Rattle.cmm_types.proofs.FirstSymbols.{agree-from, agree-at, with_symbols-agrees}
 use Rattle.cmm_types.proofs.Containing.{contains_head, contains_tail}
-use Rattle.selection_accepted.proofs.DataBytes.{DatumBytes, DataBytes, ItemsBytes, tokens_bytes, items_bytes}
+use Rattle.selection_accepted.proofs.DataBytes.{DatumBytes, DataBytes, ItemsBytes}
 use Rattle.accepted_files.specs.Given.{IsGiven, AreGiven, HasGivenData}
 use Rattle.accepted_files.proofs.Differ.{names, names_append, data_names, item_names}
 use Rattle.accepted_files.proofs.Files.{read_of, lists_fine}
-use Rattle.accepted_files.proofs.Giving.{IsFine, AreFine}
-use Rattle.accepted_files.proofs.Spelled.{items_named}
+use Rattle.accepted_files.proofs.Spelled.{IsFine, AreFine, items_named}
 use Rattle.cmm_grammar.specs.Spelling.{nesting}
+use Rattle.selection_accepted.proofs.Beginning.{read_bytes}
 
 -- ---- definitions have the names of the symbols
 
@@ -114,13 +111,10 @@ bytes_among [] p = tt
 bytes_among (AFunction f ∷ items) p = bytes_among items p
 bytes_among (AData d ∷ items) p = (p.0, bytes_among items p.1)
 
-read_bytes : (text : List ℕ) (file : FileTree) → ReadsAs text (Ok file) → AreBytes text → ItemsBytes file.items
-read_bytes text _ (said.file tokens items short cut are faultless) bytes = items_bytes _ items tokens are (tokens_bytes 0 text tokens None cut bytes)
-
 -- The static data of an accepted file is given.
 pub given_data : (text : List ℕ) (file : FileTree) → IsFileOf text file → AreBytes text → HasGivenData file
 given_data text file is bytes =
     let r = read_of text file is.read in
     record {
-      each = lists_given text file is (data_lists file) (λ l m. m) (lists_fine file.items (items_named nesting file.items r.tokens r.are r.in_range)) (bytes_among file.items (read_bytes text file is.read bytes));
+      each = lists_given text file is (data_lists file) (λ l m. m) (lists_fine file.items (items_named file.items r.tokens r.are r.in_range)) (bytes_among file.items (read_bytes text file is.read bytes));
     }

@@ -6,10 +6,9 @@ use Rattle.std.proofs.lemmas.Bool.{and_parts, eqb-true}
 use Rattle.std.proofs.lemmas.List.{length-map}
 use Rattle.std.proofs.lemmas.List.Elements.{All-contains}
 use Rattle.std.proofs.lemmas.Grind.{flat_map-append}
-use Rattle.bs_fault.specs.declared.fault.Fault.{Fault}
 use Rattle.bs_fault.specs.declared.fault.Fault.TheVariants as fault
 use Rattle.bs_fault.specs.Limits.{longest_text}
-use Rattle.bs_fault.specs.Reported.{here, one_if, one_of, Faultless}
+use Rattle.bs_fault.specs.Reported.{here, one_if, Faultless}
 use Rattle.bs_words.specs.External.{External}
 use Rattle.bs_words.specs.Fits.{data_limit, data_start}
 use Rattle.bs_words.specs.Symbol.{IsSymbol, caml_bound_error}
@@ -53,8 +52,9 @@ use Rattle.accepted_files.proofs.Calls.{AreLaid, laid_all, both, nothing_laid, c
 use Rattle.accepted_files.proofs.Counted.{tokens_among, items_among, AreFew, items_few}
 use Rattle.accepted_files.proofs.Differ.{names, names_append, list_symbols, list_names, data_names, function_names, all_parted, all_apart, each_apart, differ_both, differ_from}
 use Rattle.accepted_files.proofs.Few.{calls_few}
-use Rattle.accepted_files.proofs.Giving.{AllInRange, IsFine, AreFine}
-use Rattle.accepted_files.proofs.Spelled.{IsNamed, items_named, symbol_is}
+use Rattle.cmm_grammar.proofs.Giving.{AllKnown}
+use Rattle.accepted_files.proofs.Spelled.{IsInRange, IsFine, AreFine, IsNamed, items_named, symbol_is}
+use Rattle.cmm_front.proofs.Readings.{no_fault}
 
 -- ---- what was read
 
@@ -62,7 +62,7 @@ pub record Read (file : FileTree) : Type 0 where
   pub tokens : List TokenTree
   pub short : length tokens ≤ longest_text
   pub are : AreItems nesting file.items tokens
-  pub in_range : AllInRange tokens
+  pub in_range : AllKnown IsInRange tokens
 
 -- each token has a byte of its own
 rising_count : (last first : ℕ) (ts : List TokenTree) → Rising last first ts → first + length ts ≤ last
@@ -78,15 +78,11 @@ kind_in_range : (k : TokenKind) (text : List ℕ) → is_out_of_range k text ≡
 kind_in_range kind.Integer text e h = in_range_of (integer_value text) e
 kind_in_range _ text e h = absurd (let z : false ≡ true = h in cc)
 
-no_fault : (o : Option Fault) → Faultless (one_of o) → o ≡ None
-no_fault None none = refl
-no_fault (Some f) none = absurd (none f here)
-
-all_in_range : (ts : List TokenTree) → first_range ts ≡ None → AllInRange ts
+all_in_range : (ts : List TokenTree) → first_range ts ≡ None → AllKnown IsInRange ts
 all_in_range [] e = tt
 all_in_range (t ∷ ts) e = by (is_out_of_range t.kind t.text) refl e (λ e. all_in_range ts e)
   where
-    by : (b : Bool) → is_out_of_range t.kind t.text ≡ b → cond b (Some (fault.IntRange t.at)) (first_range ts) ≡ None → (first_range ts ≡ None → AllInRange ts) → AllInRange (t ∷ ts)
+    by : (b : Bool) → is_out_of_range t.kind t.text ≡ b → cond b (Some (fault.IntRange t.at)) (first_range ts) ≡ None → (first_range ts ≡ None → AllKnown IsInRange ts) → AllKnown IsInRange (t ∷ ts)
     by true is e later = absurd (let z : Some (fault.IntRange t.at) ≡ None = e in cc)
     by false is e later = (record { some = kind_in_range t.kind t.text is }, later e)
 
@@ -255,7 +251,7 @@ module _ (text : List ℕ) (file : FileTree) (is : IsFileOf text file) where
   read = read_of text file is.read
 
   named : AllByRecursion IsNamed file.items
-  named = items_named nesting file.items read.tokens read.are read.in_range
+  named = items_named file.items read.tokens read.are read.in_range
 
   covered : (f : FunctionTree) → Contains (functions file) f → IsCovered f
   covered f c = All-contains IsCovered (functions file) f (read_measured text file is.read).functions_covered c

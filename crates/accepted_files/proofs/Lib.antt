@@ -1,4 +1,3 @@
-pub mod Giving
 pub mod Spelled
 pub mod Counted
 pub mod Differ

@@ -1,5 +1,5 @@
 -- A text is read in one way.
-use Rattle.std.proofs.Common.{◌≡◌, ◌∙◌, ℕ, ◌≤◌, List, length, Option, Some, None, Result, Ok, Err, refl, sym, ap, subst, arith}
+use Rattle.std.proofs.Common.{◌≡◌, ℕ, ◌≤◌, List, length, Option, Some, None, Result, Ok, Err, refl, sym, subst}
 use Rattle.bs_fault.specs.declared.fault.Fault.{Fault}
 use Rattle.cmm_grammar.specs.Reading.{Outcome, Read, Stops, items_at}
 use Rattle.cmm_lex.specs.Lexing.{Splits, first_range}
@@ -68,7 +68,7 @@ read_of text _ file (by_tokens tokens lexing result short cut tells) same =
 pub is_read : (text : List ℕ) (file : FileTree) → ReadsAs text (Ok file) → IsRead text file
 is_read text file h = read_of text (Ok file) file (said_reading text (Ok file) h) refl
 
-no_fault : (o : Option Fault) → Faultless (one_of o) → o ≡ None
+pub no_fault : (o : Option Fault) → Faultless (one_of o) → o ≡ None
 no_fault None h = refl
 no_fault (Some f) h = absurd (h f here)
 

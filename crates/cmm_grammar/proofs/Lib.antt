@@ -15,4 +15,6 @@ pub mod Apart
 pub mod Fitting
 pub mod Measured
 pub mod Paid
+pub mod Giving
+pub mod GivingForms
 pub mod Covered

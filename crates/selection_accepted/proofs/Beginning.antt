@@ -146,7 +146,7 @@ beginning_bounded file p = record { each = each }
     each (InBlock s i) = zero_word
     each (InStatic l i) = lists_bounded (value_of_symbol file) data_start (built_in ∷ data_lists file) ((tt, (tt, tt)), lists_among file.items p) l i
 
-read_bytes : (text : List ℕ) (file : FileTree) → ReadsAs text (Ok file) → AreBytes text → ItemsBytes file.items
+pub read_bytes : (text : List ℕ) (file : FileTree) → ReadsAs text (Ok file) → AreBytes text → ItemsBytes file.items
 read_bytes text _ (said.file tokens items short cut are faultless) bytes = items_bytes _ items tokens are (tokens_bytes 0 text tokens None cut bytes)
 
 -- The memory that a run of a file that the front accepts begins with holds words.

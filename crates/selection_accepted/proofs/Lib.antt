@@ -1,4 +1,3 @@
-pub mod Given
 pub mod HaveCases
 pub mod Selecting
 pub mod Symbols

@@ -1,8 +1,7 @@
 -- The symbols of a file without a fault in its static data are words and functions: data lies below a limit.
-use Rattle.std.proofs.Common.{◌≡◌, ℕ, suc, ◌+◌, ◌≤◌, ◌<◌, ◌^◌, Bool, true, false, cond, List, [], ◌∷◌, ◌++◌, map, Option, Some, None, Ok, refl, subst, arith}
+use Rattle.std.proofs.Common.{◌≡◌, ℕ, suc, ◌+◌, ◌≤◌, ◌<◌, ◌^◌, Bool, true, false, cond, List, [], ◌∷◌, ◌++◌, map, Option, Some, None, Ok, subst, arith}
 use Rattle.std.specs.Prelude.{bytes_eq}
-use Rattle.bs_fault.specs.declared.fault.Fault.{Fault}
-use Rattle.bs_fault.specs.Reported.{here, second, one_of, Faultless}
+use Rattle.bs_fault.specs.Reported.{second}
 use Rattle.bs_words.specs.Fits.{data_limit, data_start}
 use Rattle.bs_words.specs.declared.values.Value.{Value}
 use Rattle.cmm_tree.specs.Tree.{DatumTree, Define, DataItemTree, ItemTree, AFunction, AData, FileTree, data_among, data_lists}
@@ -15,6 +14,7 @@ use Rattle.cmm_reader.specs.Text as said
 use Rattle.cmm_reader.specs.Text.{ReadsAs}
 use Rattle.cmm_front.specs.FileOf.{IsFileOf}
 use Rattle.selection_rules.specs.Bounded.{Bounded, BoundedSymbols}
+use Rattle.cmm_front.proofs.Readings.{no_fault}
 
 abbrev AllDefined : List Definition → Type 0
 AllDefined [] = Unit {0}
@@ -67,10 +67,6 @@ symbols_bounded file none c same =
     record { each = λ name v e. found_defined (definitions file) name v (all_defined file none) (subst (λ (f : List ℕ → Option Value). f name ≡ Some v) same e) }
 
 -- ---- a file that the front accepts
-
-no_fault : (o : Option Fault) → Faultless (one_of o) → o ≡ None
-no_fault None none = refl
-no_fault (Some f) none = absurd (none f here)
 
 pub read_places : (text : List ℕ) (file : FileTree) → ReadsAs text (Ok file) → data_fault_of file ≡ None
 read_places text _ (said.file tokens items short cut are faultless) = no_fault _ (λ f among. faultless f (second _ _ (second _ _ among)))

@@ -9,10 +9,9 @@ use Rattle.mach_ir.specs.Walks.{Stands, here, below}
 use Rattle.mach_ir.specs.declared.mach.Instr.{Instr}
 use Rattle.mach_ir.specs.declared.mach.Mark.TheVariants as mark
 use Rattle.mach_ir.specs.declared.mach.MachOp.TheVariants as mach
-use Rattle.selection_rules.specs.Instructions.{bare}
 use Rattle.selection_rules.specs.Instructions as emit
 use Rattle.selection_rules.specs.Select.{selected}
-use Rattle.selection_rules.proofs.Labels.{marks, no_mark_in, Distinct, cons, selected_once}
+use Rattle.selection_rules.proofs.Once.{marks, labelled, no_mark_in, Distinct, cons, selected_once}
 use Rattle.selection_rules.proofs.Parts.{Ending, all, more, ending_in, ending_next}
 use Rattle.selection_laws.specs.Fits.{FunctionFits}
 use Rattle.selection_laws.proofs.Nested.{kept_of, selected_kept, ending_of}
@@ -35,7 +34,7 @@ contained {i} {rest} all = contains_head i rest
 contained {i} (more {i = j} {code = code} e) = contains_tail j code i (contained e)
 
 -- one instruction marks a label
-same_mark : (l : ℕ) {i j : Instr} {a b code : List Instr} → Distinct code → Ending (i ∷ a) code → Ending (j ∷ b) code → marks l i.op ≡ true → marks l j.op ≡ true → i ≡ j
+same_mark : (l : ℕ) {i j : Instr} {a b code : List Instr} → Distinct labelled code → Ending (i ∷ a) code → Ending (j ∷ b) code → marks l i.op ≡ true → marks l j.op ≡ true → i ≡ j
 same_mark l d all all x y = refl
 same_mark l (cons apart d) all (more e) x y = absurd (no_mark_in e (apart l x) y)
 same_mark l (cons apart d) (more e) all x y = absurd (no_mark_in e (apart l y) x)

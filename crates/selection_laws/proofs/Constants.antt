@@ -1,7 +1,7 @@
 -- The constants of an instruction that has a form are words.
 use Rattle.std.proofs.Common.{◌≡◌, ℕ, suc, ◌<◌, ◌^◌, ◌/◌, Bool, true, false, ◌||◌, List, [], ◌∷◌, All, refl, arith, sym}
 use Rattle.std.specs.Prelude.{◌==◌, nat_le, nat_lt}
-use Rattle.std.proofs.lemmas.Bool.{ltb-true, leb-true, eqb-true, true≢false}
+use Rattle.std.proofs.lemmas.Bool.{ltb-true, leb-true, eqb-true, true≢false, and_parts}
 use Rattle.bs_words.specs.declared.operators.IntOp.{IntOp}
 use Rattle.bs_words.specs.declared.operators.IntOp.TheVariants as operator
 use Rattle.bs_words.specs.declared.types.Comp.{Comp}
@@ -16,7 +16,6 @@ use Rattle.mach_ir.specs.declared.op.Op.TheVariants as op
 use Rattle.mach_ir.specs.declared.op.Pure.TheVariants as pure
 use Rattle.mach_ir.specs.declared.op.Right.{Right}
 use Rattle.selection_rules.specs.Bounded.{BoundedHeaders, BoundedOp}
-use Rattle.selection_rules.proofs.Labels.{and_left, and_right}
 
 either_way : (w : ℕ) (a b : Bool) → (a ≡ true → w < 2 ^ 64) → (b ≡ true → w < 2 ^ 64) → a || b ≡ true → w < 2 ^ 64
 either_way w true b one other e = one refl
@@ -26,12 +25,12 @@ either_way w false b one other e = other e
 pub word_12 : (w : ℕ) → is_immediate_12 w ≡ true → w < 2 ^ 64
 word_12 w e =
     either_way w (nat_lt w 2048) _ (λ e. let less : w < 2048 = ltb-true w 2048 e in omega (arith, less))
-    (λ e. ltb-true w 0x10000000000000000 (and_right (nat_le 0xFFFFFFFFFFFFF800 w) (nat_lt w 0x10000000000000000) e)) e
+    (λ e. ltb-true w 0x10000000000000000 (and_parts (nat_le 0xFFFFFFFFFFFFF800 w) (nat_lt w 0x10000000000000000) e).1) e
 
 word_opposite : (w : ℕ) → is_opposite_immediate_12 w ≡ true → w < 2 ^ 64
 word_opposite w e =
     either_way w (nat_le w 2048) _ (λ e. let le = leb-true w 2048 e in omega (arith, le))
-    (λ e. ltb-true w 0x10000000000000000 (and_right (nat_lt 0xFFFFFFFFFFFFF800 w) (nat_lt w 0x10000000000000000) e)) e
+    (λ e. ltb-true w 0x10000000000000000 (and_parts (nat_lt 0xFFFFFFFFFFFFF800 w) (nat_lt w 0x10000000000000000) e).1) e
 
 word_amount : (w : ℕ) → nat_lt w 64 ≡ true → w < 2 ^ 64
 word_amount w e = let less : w < 64 = ltb-true w 64 e in omega (arith, less)
@@ -56,8 +55,8 @@ immediate_word operator.Mod w e = absurd (true≢false (sym e))
 
 header_word : (h cells : ℕ) → is_header h cells ≡ true → h < 2 ^ 64
 header_word h cells e =
-    let same : h / 1024 ≡ cells = eqb-true (h / 1024) cells (and_left (h / 1024 == cells) _ e) in
-    let few = leb-true cells 256 (and_left (nat_le cells 256) _ (and_right (nat_le 1 cells) _ (and_right (h / 1024 == cells) _ e))) in
+    let same : h / 1024 ≡ cells = eqb-true (h / 1024) cells (and_parts (h / 1024 == cells) _ e).0 in
+    let few = leb-true cells 256 (and_parts (nat_le cells 256) _ (and_parts (nat_le 1 cells) _ (and_parts (h / 1024 == cells) _ e).1).1).0 in
     omega (arith, same, few)
 
 headers_bounded : (blocks : List NewBlock) → All IsBlock blocks → BoundedHeaders blocks

@@ -2,7 +2,7 @@
 use Rattle.std.proofs.Common.{◌≡◌, ℕ, zero, suc, ◌+◌, ◌/◌, ◌<◌, ◌≤◌, Bool, true, false, cond, nat_le, leb-true, List, [], ◌∷◌, ◌++◌, length, drop, Option, Some, None, refl, sym, ap, ◌∙◌, subst, arith}
 use Rattle.std.specs.Prelude.{◌≢◌, ◌==◌, nat_lt, nat_eq, ◌^◌, slice_index_or}
 use Rattle.std.proofs.Math.Seq.{drop-cons}
-use Rattle.std.proofs.lemmas.Bool.{true≢false, lt-ltb}
+use Rattle.std.proofs.lemmas.Bool.{true≢false, lt-ltb, and_parts}
 use Rattle.std.proofs.lemmas.List.Elements.{All-nil, All-cons}
 use Rattle.bs_words.specs.declared.operators.IntOp.{IntOp}
 use Rattle.bs_words.specs.declared.operators.IntOp.TheVariants as operator
@@ -40,12 +40,13 @@ use Rattle.mach_ir.specs.declared.op.Op.TheVariants as op
 use Rattle.mach_ir.specs.declared.op.Right.{Right}
 use Rattle.mach_ir.specs.declared.op.Right.TheVariants as right
 use Rattle.mach_ir.specs.declared.reg.Reg.{Reg}
-use Rattle.selection_rules.proofs.Labels.{and_left, and_right}
 use Rattle.selection_rules.proofs.Commuting.{IsExponent, no_power, power, exponents}
 use Rattle.selection_laws.specs.Fits.{IsWord, NoAddress}
 use Rattle.selection_rules.specs.Instructions.{bare, right_regs}
 use Rattle.selection_rules.specs.Instructions as emit
 use Rattle.selection_rules.specs.Select.{Immediate, exponent_if, exponent_from, shift_by, immediate_if, immediate_of, commuted, right_immediate, if_commuted, left_immediate, power_of, power_shape, Shape, InRegisters, ConstantRight, ConstantLeft, PowerRight, shape, shape_of, shape_op, shape_right, shape_args, right_of, bound_test, comparison, Named, scopes, seat, seats, result_seat, callee_of, callee_regs, count_of, regs_of, comp_of}
+use Rattle.selection_rules.proofs.Rows.{row_count}
+use Rattle.std.proofs.lemmas.Option.{none-some}
 
 abbrev pub is_return : MachOp → Bool
 is_return (mach.Op (op.Leaving leaving.Return)) = true
@@ -99,18 +100,11 @@ seats_comps : (i n : ℕ) (rs : List Reg) → comps (seats i n rs) ≡ comps rs
 seats_comps i n [] = refl
 seats_comps i n (r ∷ rs) = ap (λ cs. r.comp ∷ cs) (seats_comps (suc i) (suc n) rs)
 
-pub regs_length : (env : List Named) (b : ℕ) (es : Expressions) → length (regs_of env b es) ≡ row_length es
-regs_length env b NoMore = refl
-regs_length env b (More e rest) = let others = regs_length env (suc b) rest in omega (arith, others)
-
 -- ---- immediates
-
-none_some : {A : Type 0} (x : A) → None ≡ Some x → ⊥
-none_some x e = cc
 
 exponent_below : (n k w : ℕ) (e : ℕ) → exponent_from n k w ≡ Some e → e < k + n
 unfolding exponent_from
-exponent_below zero k w e is = absurd (none_some e is)
+exponent_below zero k w e is = absurd (none-some e is)
 exponent_below (suc n) k w e is = by (nat_eq (2 ^ k) w) (exponent_below n (suc k) w e) is
   where
     same : Some k ≡ Some e → k ≡ e
@@ -206,7 +200,7 @@ comparison_tested (operator.CmpU f) r left rest is t e = subst (λ t. IsTested t
   where
     same : (t u : Test) → Some t ≡ Some u → t ≡ u
     same t u e = cc
-comparison_tested f r left rest is t e = absurd (none_some t e)
+comparison_tested f r left rest is t e = absurd (none-some t e)
 
 shape_tested : {s : Shape} {f : IntOp} {x y : Reg} → ShapeForm s f x y → (t : Test) → comparison (shape_op s f) (shape_right s) ≡ Some t → IsTested t (comps (shape_args s x y))
 shape_tested {s} {f} form t e = subst (λ cs. IsTested t cs) form.is (comparison_tested (shape_op s f) (shape_right s) form.left form.rest form.fits t e)
@@ -222,14 +216,10 @@ right_form f e y = a_register
 
 -- ---- blocks
 
-row_count : (es : Expressions) → row_length es ≡ count_of es
-row_count NoMore = refl
-row_count (More e rest) = let others = row_count rest in omega (arith, others)
-
 header_cells : (header cells : ℕ) → is_header header cells ≡ true → cells ≤ 256
 header_cells header cells e =
-    let small = and_right (nat_le 1 cells) _ (and_right (header / 1024 == cells) _ e) in
-    leb-true cells 256 (and_left (nat_le cells 256) _ small)
+    let small = (and_parts (nat_le 1 cells) _ (and_parts (header / 1024 == cells) _ e).1).1 in
+    leb-true cells 256 (and_parts (nat_le cells 256) _ small).0
 
 -- ---- arguments of external calls
 

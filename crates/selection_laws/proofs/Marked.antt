@@ -1,6 +1,6 @@
 -- Each label of selected code stands once, and is below the number of its labels. A parameter is made from no other
 -- register, and no two have one number.
-use Rattle.std.proofs.Common.{◌≡◌, ℕ, suc, ◌+◌, ◌<◌, ◌≤◌, ◌⊎◌, inl, inr, Bool, true, false, ◌||◌, List, [], ◌∷◌, ◌++◌, All, AllPairs, refl, sym, ◌∙◌, subst, arith}
+use Rattle.std.proofs.Common.{◌≡◌, ℕ, suc, ◌+◌, ◌<◌, ◌≤◌, ◌⊎◌, inl, inr, List, [], ◌∷◌, ◌++◌, All, AllPairs, refl, sym, ◌∙◌, subst, arith}
 use Rattle.std.specs.Prelude.{◌≢◌, nat_eq, length}
 use Rattle.std.proofs.lemmas.Bool.{true≢false, cases_lt, eq-eqb}
 use Rattle.std.proofs.lemmas.List.Elements.{All-nil, All-cons}
@@ -13,16 +13,13 @@ use Rattle.mach_ir.specs.declared.mach.MachOp.{MachOp}
 use Rattle.mach_ir.specs.declared.mach.MachOp.TheVariants as mach
 use Rattle.mach_ir.specs.declared.reg.Reg.{Reg}
 use Rattle.selection_rules.specs.Select.{selected, first, params_from, seats}
-use Rattle.selection_rules.proofs.Labels.{marks, NoMark, none, one, Distinct, nil, cons, selected_once, selected_below}
+use Rattle.selection_rules.proofs.Once.{marks, labelled, NoMark, none, one, Distinct, nil, cons, selected_once, selected_below}
+use Rattle.std.proofs.Math.Bool.{or-false}
 
 -- the label that an instruction marks, if it marks one
 data Marking (f : MachOp) : List ℕ → Type 0 where
   marks_none : Marking f []
   marks_one : {l : ℕ} → ((k : ℕ) → marks k f ≡ nat_eq l k) → Marking f (l ∷ [])
-
-or_none : (k : ℕ) (b : Bool) → b || false ≡ b
-or_none k true = refl
-or_none k false = refl
 
 abbrev labels_marked : MachOp → List ℕ
 labels_marked (mach.Op f) = []
@@ -33,7 +30,7 @@ marking (mach.Op f) = marks_none
 marking (mach.Mark (mark.Else l end)) = marks_one (λ k. refl)
 marking (mach.Mark (mark.Case indexes l end)) = marks_one (λ k. refl)
 marking (mach.Mark (mark.With l end)) = marks_one (λ k. refl)
-marking (mach.Mark (mark.Handler l)) = marks_one (λ k. or_none k (nat_eq l k))
+marking (mach.Mark (mark.Handler l)) = marks_one (λ k. or-false (nat_eq l k))
 marking (mach.Mark (mark.End l)) = marks_one (λ k. refl)
 marking (mach.Mark (mark.Exit l n)) = marks_none
 marking (mach.Mark (mark.If t l)) = marks_none
@@ -47,7 +44,7 @@ labels_there (mach.Op f) i is e = subst (λ g. labels_in (record { op = g; args 
 labels_there (mach.Mark f) i is e = subst (λ g. labels_in (record { op = g; args = i.args; results = i.results } ∷ is) ≡ labels_marked (mach.Mark f) ++ labels_in is) (sym e) refl
 
 -- a label of a code is one that some instruction marks
-unmarked : {l : ℕ} {code : List Instr} → NoMark l code → All (λ k. l ≢ k) (labels_in code)
+unmarked : {l : ℕ} {code : List Instr} → NoMark labelled l code → All (λ k. l ≢ k) (labels_in code)
 unmarked {l} none = All-nil (λ k. l ≢ k)
 unmarked {l} (one {i = i} {is = is} e n) = subst (All (λ k. l ≢ k)) (sym (labels_there i.op i is refl)) (by (marking i.op) (unmarked n))
   where
@@ -58,7 +55,7 @@ unmarked {l} (one {i = i} {is = is} e n) = subst (All (λ k. l ≢ k)) (sym (lab
     by marks_none others = others
     by (marks_one {l = k} same) others = All-cons (λ k. l ≢ k) k (labels_in is) (apart k same) others
 
-once : {code : List Instr} → Distinct code → AllPairs (λ k l. k ≢ l) (labels_in code)
+once : {code : List Instr} → Distinct labelled code → AllPairs (λ k l. k ≢ l) (labels_in code)
 once nil = λ i j d less within. absurd (omega arith)
 once (cons {i = i} {is = is} apart rest) = subst (AllPairs (λ k l. k ≢ l)) (sym (labels_there i.op i is refl)) (by (marking i.op) (once rest))
   where

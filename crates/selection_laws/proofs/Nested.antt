@@ -32,12 +32,12 @@ use Rattle.mach_ir.specs.declared.reg.Reg.{Reg}
 use Rattle.selection_rules.specs.Instructions.{bare}
 use Rattle.selection_rules.specs.Instructions as emit
 use Rattle.selection_rules.specs.Select.{Code, Shape, InRegisters, ConstantRight, ConstantLeft, PowerRight, rounded, power_code, operator_code, shape_of, shape_op, shape_right, shape_args, unless_left, unless_right, Named, Label, scopes, reg_of, label_of, move_from, move_to, moves_all, exit_to, ordered, only_when, from_seat, symbol_of, unless_symbol, right_of, unless_constant, bound_test, comparison, tested, select_test, is_based, select_base, call_of, callee_regs, bound_name, width, width_labels, inner_dest, inner_valued, regs_of, select, select_waiting, select_filled, select_bound, select_seq, select_cases, select_handlers, deeper, unless_bare, in_handlers, labels_from, count_cases, last_label, switch_labels, cell_stores, to_seat, selected, first, params_from, with_params, is_no_value, fresh, seats, result_seat}
-use Rattle.selection_rules.proofs.Exits.{scopes_params}
+use Rattle.selection_rules.proofs.Exits.{scopes_params, scopes_after}
 use Rattle.selection_rules.proofs.Parts.{Ending, all, more, ending_in, ending_next, Within, inside_all, inside_more, inside_in}
 use Rattle.selection_rules.proofs.Endings.{ending_select, ending_handlers, ending_cases}
-use Rattle.selection_rules.proofs.Labels.{Range, selected_labelled}
+use Rattle.selection_rules.proofs.Labels.{selected_labelled}
+use Rattle.selection_rules.proofs.Once.{Range}
 use Rattle.selection_laws.specs.Fits.{HasCase, Fits, RowFits, BindingsFit, CasesFit, HandlersFit, FunctionFits}
-use Rattle.selection_laws.proofs.Proper.{scopes_after}
 
 -- the mark of a label stands in a code, and these tries stand round the place after it
 pub record Found (l : ℕ) (ts : List ℕ) (code : List Instr) : Type 0 where

@@ -9,11 +9,10 @@ use Rattle.bs_words.specs.declared.types.Chunk.{Chunk}
 use Rattle.bs_words.specs.declared.types.Ret.{Ret}
 use Rattle.bs_words.specs.declared.types.Ret.TheVariants as ret
 use Rattle.bs_words.specs.declared.types.Ty.{Ty}
-use Rattle.cmm_tree.specs.Tree.{Parameter, FunctionTree, Expression, Integer, Pointer, Symbol, Name, Nothing, Float, Let, Assign, Operator, Load, Store, Alloc, App, Extcall, Checkbound, Raise, Seq, If, Switch, Catch, Exit, Try, Expressions, NoMore, More, Bindings, NoBinding, Bind, Cases, NoCase, Choose, Handlers, NoHandler, Handle}
+use Rattle.cmm_tree.specs.Tree.{FunctionTree, Expression, Integer, Pointer, Symbol, Name, Nothing, Float, Let, Assign, Operator, Load, Store, Alloc, App, Extcall, Checkbound, Raise, Seq, If, Switch, Catch, Exit, Try, Expressions, NoMore, More, Bindings, NoBinding, Bind, Cases, NoCase, Choose, Handlers, NoHandler, Handle}
 use Rattle.cmm_types.proofs.Containing.{contains_cases, contains_none}
-use Rattle.cmm_types.specs.Faults.{row_length}
 use Rattle.cmm_types.specs.Light.{is_light_address}
-use Rattle.cmm_types.specs.Types.{result_of, body_type, with_bindings}
+use Rattle.cmm_types.specs.Types.{result_of, body_type}
 use Rattle.cmm_meaning.specs.Evaluation.{is_left_first}
 use Rattle.mach_ir.specs.Formed.{comps, IsFormed, AreDistinct, exit_form, else_form, case_form, catch_form, with_form, try_form, leave_form, end_form}
 use Rattle.mach_ir.specs.Forms.{results_of}
@@ -27,14 +26,14 @@ use Rattle.mach_ir.specs.declared.op.Op.TheVariants as op
 use Rattle.mach_ir.specs.declared.op.Right.{Right}
 use Rattle.mach_ir.specs.declared.op.Right.TheVariants as right
 use Rattle.mach_ir.specs.declared.reg.Reg.{Reg}
-use Rattle.selection_rules.specs.Instructions.{bare}
 use Rattle.selection_rules.specs.Instructions as emit
-use Rattle.selection_rules.specs.Select.{Code, Shape, InRegisters, ConstantRight, ConstantLeft, PowerRight, rounded, power_code, operator_code, shape_of, shape_op, shape_right, shape_args, unless_left, unless_right, Named, Label, scopes, reg_of, label_of, move_from, move_to, moves_all, exit_to, ordered, only_when, from_seat, symbol_of, unless_symbol, right_of, unless_constant, bound_test, comparison, tested, select_test, is_based, select_base, call_of, tail_result, env_after, bound_name, width, regs_of, select, select_waiting, select_filled, select_bound, select_seq, select_cases, select_handlers, deeper, cell_stores, to_seat, selected, first, params_from, with_params, is_no_value, fresh, seats}
-use Rattle.selection_rules.proofs.Exits.{scopes_params}
+use Rattle.selection_rules.specs.Select.{Code, Shape, InRegisters, ConstantRight, ConstantLeft, PowerRight, rounded, power_code, operator_code, shape_of, shape_op, shape_right, shape_args, unless_left, unless_right, Named, Label, scopes, reg_of, label_of, move_from, move_to, moves_all, exit_to, ordered, only_when, from_seat, symbol_of, unless_symbol, right_of, unless_constant, bound_test, comparison, tested, select_test, is_based, select_base, call_of, tail_result, bound_name, regs_of, select, select_waiting, select_filled, select_bound, select_seq, select_cases, select_handlers, deeper, cell_stores, to_seat, selected, first, params_from, with_params, is_no_value, fresh, seats}
+use Rattle.selection_rules.proofs.Exits.{scopes_params, scopes_after, params_length}
 use Rattle.selection_laws.specs.Fits.{Fits, RowFits, BindingsFit, CasesFit, HandlersFit, FunctionFits}
 use Rattle.selection_rules.specs.Bounded.{BoundedCode}
 use Rattle.selection_laws.proofs.Constants.{formed_bounded}
-use Rattle.selection_laws.proofs.Forms.{is_return, IsProper, p_move, p_constant, p_symbol, ShortPower, short_power, short_shape, p_operator, p_shift, p_registers, p_branch, p_load, p_store, p_alloc, p_call, p_tail_call, p_external, p_checkbound, p_raise, p_handler, p_holds, p_choice, p_bare, p_return, regs_length, seats_in_order}
+use Rattle.selection_laws.proofs.Forms.{is_return, IsProper, p_move, p_constant, p_symbol, ShortPower, short_power, short_shape, p_operator, p_shift, p_registers, p_branch, p_load, p_store, p_alloc, p_call, p_tail_call, p_external, p_checkbound, p_raise, p_handler, p_holds, p_choice, p_bare, p_return, seats_in_order}
+use Rattle.selection_rules.proofs.Rows.{few_regs}
 
 pub data AllProper (given : Ret) : List Instr → Type 0 where
   none : AllProper given []
@@ -43,13 +42,6 @@ pub data AllProper (given : Ret) : List Instr → Type 0 where
 pub proper_in : {given : Ret} {code : List Instr} → AllProper given code → (i : Instr) → Contains code i → IsProper given i
 proper_in none i c = absurd (contains_none i c)
 proper_in {given} (one {i = j} {next = next} x xs) i c = ⊎_elim (λ e. subst (IsProper given) e x) (λ c. proper_in xs i c) (contains_cases j next i c)
-
-pub scopes_after : (env : List Named) (b : ℕ) (bs : Bindings) → scopes (env_after env b bs) ≡ with_bindings (scopes env) bs
-scopes_after env b NoBinding = refl
-scopes_after env b (Bind at name declared e rest) = scopes_after (bound_name env b name declared e ∷ env) (suc (b + width e)) rest
-
-few_regs : (env : List Named) (b : ℕ) (es : Expressions) → row_length es ≤ 16 → length (regs_of env b es) ≤ 16
-few_regs env b es few = let l = regs_length env b es in omega (arith, l, few)
 
 module _ (given : Ret) where
   abbrev Proper : List Instr → Type 0
@@ -262,10 +254,6 @@ selected_proper f fits =
     proper_moves result (seats 0 first params) params _
     (proper_select result env [] (not (is_no_value type)) true (fresh n type) from f.body body _
     (proper_to_seat result (fresh n type) (suc n) result _ (one (p_return (suc n) result) none)))
-
-params_length : (b : ℕ) (params : List Parameter) → length (params_from b params) ≡ length params
-params_length b [] = refl
-params_length b (p ∷ params) = let others = params_length (suc b) params in omega (arith, others)
 
 -- Each constant of the code is a word.
 pub selected_bounded : (f : FunctionTree) → FunctionFits f → BoundedCode (selected f).code

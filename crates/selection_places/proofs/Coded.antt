@@ -9,12 +9,12 @@ use Rattle.mach_ir.specs.declared.blocks.NewBlock.{NewBlock}
 use Rattle.mach_ir.specs.declared.mach.Instr.{Instr}
 use Rattle.mach_ir.specs.declared.mach.MachOp.{MachOp}
 use Rattle.mach_ir.specs.declared.mach.MachOp.TheVariants as mach
-use Rattle.mach_ir.specs.declared.op.Access.TheVariants as access
 use Rattle.mach_ir.specs.declared.op.Op.TheVariants as op
 use Rattle.mach_ir.specs.declared.reg.Reg.{Reg}
 use Rattle.selection_rules.specs.Instructions as emit
 use Rattle.selection_rules.specs.Select.{seat, seats}
 use Rattle.selection_places.proofs.Sets.{Role, Plain, New, Seated}
+use Rattle.selection_rules.proofs.Once.{is_alloc}
 
 pub data Member (r : Reg) : List Reg → Type 0 where
   first : {q : Reg} {qs : List Reg} → r ≡ q → Member r (q ∷ qs)
@@ -36,11 +36,6 @@ each_map f (one {q = q} x xs) = one (f q x) (each_map f xs)
 pub each_append : {P : Reg → Type 0} {xs ys : List Reg} → Each P xs → Each P ys → Each P (xs ++ ys)
 each_append none y = y
 each_append (one x xs) y = one x (each_append xs y)
-
--- an allocation
-abbrev pub is_alloc : MachOp → Bool
-is_alloc (mach.Op (op.Access (access.Alloc blocks))) = true
-is_alloc _ = false
 
 -- what reads or writes registers at fixed places, and is no move: calls, and what leaves the function
 abbrev pub is_heavy : MachOp → Bool

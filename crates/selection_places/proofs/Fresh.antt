@@ -20,26 +20,26 @@ use Rattle.selection_rules.specs.Select.{selected, colour_regs, seats}
 use Rattle.selection_rules.specs.Select as rules
 use Rattle.selection_places.proofs.Sets.{Role, Plain, New, Seated, Block, left, right as in_right, it, Listed}
 use Rattle.selection_places.proofs.Coded as coded
-use Rattle.selection_places.proofs.Coded.{Member, Each, none, one, each_of, each_map, is_alloc, is_heavy, Reads, reads_plain, reads_new, ReadsSeats, reads, reads_seat, Gives, gives_none, gives_one, Coded, ends, plain, fills, empties, asks, handles, allocs}
-use Rattle.selection_places.proofs.News.{makes, NoMark, Distinct, nil, cons, selected_once}
-use Rattle.selection_places.proofs.News as news
+use Rattle.selection_places.proofs.Coded.{Member, Each, none, one, each_of, each_map, is_heavy, Reads, reads_plain, reads_new, ReadsSeats, reads, reads_seat, Gives, gives_none, gives_one, Coded, ends, plain, fills, empties, asks, handles, allocs}
+use Rattle.selection_rules.proofs.Once.{is_alloc, makes, NoMark, Distinct, nil, cons, selected_makes_once}
+use Rattle.selection_rules.proofs.Once as numbers
 use Rattle.selection_places.proofs.Placed.{new_open}
 use Rattle.selection_places.proofs.Soon.{found, among_cases, killed_member}
 use Rattle.selection_places.proofs.Whole.{Whole, whole_block, params_of, HasRole, has, has_role, member_of, selected_coded, selected_origin}
 
 -- ---- one allocation for each register
 
-no_mark_at : {l : ℕ} {i : Instr} {next code : List Instr} → NoMark l code → Stands i next code → makes l i ≡ true → ⊥
-no_mark_at news.none s e = elim s [ ]
-no_mark_at (news.one free n) here e = true≢false (sym e ∙ free)
-no_mark_at (news.one free n) (below s) e = no_mark_at n s e
+no_mark_at : {l : ℕ} {i : Instr} {next code : List Instr} → NoMark makes l code → Stands i next code → makes l i ≡ true → ⊥
+no_mark_at numbers.none s e = elim s [ ]
+no_mark_at (numbers.one free n) here e = true≢false (sym e ∙ free)
+no_mark_at (numbers.one free n) (below s) e = no_mark_at n s e
 
-distinct_at : {l : ℕ} {i : Instr} {next code : List Instr} → Distinct code → Stands i next code → makes l i ≡ true → NoMark l next
+distinct_at : {l : ℕ} {i : Instr} {next code : List Instr} → Distinct makes code → Stands i next code → makes l i ≡ true → NoMark makes l next
 distinct_at nil s e = elim s [ ]
 distinct_at {l} (cons apart d) here e = apart l e
 distinct_at (cons apart d) (below s) e = distinct_at d s e
 
-one_place : (l : ℕ) {i j : Instr} {next others code : List Instr} → Distinct code → Stands i next code → Stands j others code → makes l i ≡ true →
+one_place : (l : ℕ) {i j : Instr} {next others code : List Instr} → Distinct makes code → Stands i next code → Stands j others code → makes l i ≡ true →
     makes l j ≡ true → others ≡ next
 one_place l nil s t e g = elim s [ ]
 one_place l (cons apart d) here here e g = refl
@@ -193,7 +193,7 @@ module _ (f : FunctionTree) (i : Instr) (next : List Instr) (s : Stands i next (
 
   written_once : (j : Instr) (others : List Instr) → Stands j others (selected f).code → Writes (selected f) j p.number → others ≡ next
   written_once j others t w =
-      ⊎_elim (λ a. one_place p.number (selected_once f) s t made (allocates (Whole f) _ _ _ (whole_block f) p new (selected_coded f) t a))
+      ⊎_elim (λ a. one_place p.number (selected_makes_once f) s t made (allocates (Whole f) _ _ _ (whole_block f) p new (selected_coded f) t a))
       (λ a. absurd (not_killed a))
       (among_cases j.results (killed (selected f) j) w)
     where
@@ -220,7 +220,7 @@ module _ (f : FunctionTree) (i : Instr) (next : List Instr) (s : Stands i next (
     where
       by : Member p [] ⊎ Before (Whole f) _ _ _ (whole_block f) p new j (run ++ i ∷ next) (selected f).code → ⊥
       by (inl m) = elim m [ ]
-      by (inr b) = no_mark_at (distinct_at (selected_once f) b.stands b.allocated) (stands_in run b.further) made
+      by (inr b) = no_mark_at (distinct_at (selected_makes_once f) b.stands b.allocated) (stands_in run b.further) made
 
   fresh_new : IsFresh (selected f) i next p
   fresh_new = record {

@@ -6,7 +6,6 @@ pub mod Codes
 pub mod Whole
 pub mod Soon
 pub mod Placed
-pub mod News
 pub mod Fresh
 pub mod Weights
 pub mod Small

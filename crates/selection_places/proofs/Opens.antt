@@ -16,7 +16,7 @@ use Rattle.mach_ir.specs.Sizes.{OpenAtMost}
 use Rattle.selection_rules.specs.Select.{Named, scopes, params_from, with_params, width, width_bound, width_labels, bound_name, env_after, count_of, count_cases, raised_name, is_based, selected}
 use Rattle.selection_laws.specs.Fits.{FunctionFits}
 use Rattle.selection_laws.proofs.Accepting.{left as former, right as latter}
-use Rattle.selection_places.proofs.NamedOnes.{scopes_params, scopes_after}
+use Rattle.selection_rules.proofs.Exits.{scopes_params, scopes_after}
 use Rattle.selection_places.proofs.Owned.{dropped, kept, kept_of, either, opens, base_opens, row_opens, bound_opens, seq_opens, cases_opens, handlers_opens, count_params}
 use Rattle.selection_places.proofs.Small.{selected_open}
 use Rattle.selection_places.proofs.Whole.{opens_of, moved_at, value_at, env_of}

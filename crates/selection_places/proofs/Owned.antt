@@ -18,8 +18,9 @@ use Rattle.mach_ir.specs.Placed.{colours}
 use Rattle.mach_ir.specs.Seats.{argument_places}
 use Rattle.mach_ir.specs.declared.reg.Reg.{Reg}
 use Rattle.selection_rules.specs.Select.{Named, scopes, fresh, seat, seats, result_seat, params_from, with_params, width, width_row, width_bound, width_labels, width_handlers, width_cases, count_of, count_cases, bound_name, env_after, regs_of, raised_name, is_based, base_of}
-use Rattle.selection_places.proofs.Adds.{sum_of}
 use Rattle.selection_places.proofs.Sets.{Role, Plain, New, Seated, PlaceOf, is_seated, Both, One, it, Listed, Block, block_in, block_few, block_from, block_then, block_one, no_block}
+use Rattle.selection_rules.proofs.Rows.{regs_length}
+use Rattle.selection_rules.proofs.Once.{row_sum, row_width}
 
 -- where a node of no value has a part with one, the register for that
 abbrev pub dropped : Ty → ℕ → List Reg
@@ -322,10 +323,6 @@ pub result_block : (n : ℕ) (result : Ret) → Block (Listed Seated (result_sea
 result_block n ret.Unit = block_in (no_block n) (omega arith)
 result_block n (ret.Comp c) = block_then (seat_block 0 n c) (no_block (suc n)) (omega arith) (le_refl (suc n))
 
-pub regs_length : (env : List Named) (b : ℕ) (es : Expressions) → length (regs_of env b es) ≡ count_of es
-regs_length env b NoMore = refl
-regs_length env b (More e rest) = let others = regs_length env (suc b) rest in omega (arith, others)
-
 row_seats_block : (env : List Named) (n b : ℕ) (es : Expressions) → Block (Listed Seated (seats 0 n (regs_of env b es))) n (n + count_of es) 0
 row_seats_block env n b es = let same = regs_length env b es in block_in (seats_block 0 n (regs_of env b es)) (omega (arith, same))
 
@@ -338,13 +335,6 @@ labels_block b (Handle at label params body rest) =
 either_block : {A B : Role → Reg → Type 0} {lo hi j k : ℕ} (q : Bool) → Block A lo hi j → Block B lo hi k → Block (Either q A B) lo hi (either q j k)
 either_block true a b = a
 either_block false a b = b
-
-abbrev pub row_sum : Expressions → ℕ
-row_sum es = sum_of width es
-
-pub row_width : (es : Expressions) → count_of es + row_sum es ≡ width_row es
-row_width NoMore = refl
-row_width (More e rest) = let further = row_width rest in omega (arith, further)
 
 mutual
   pub own_block : (env : List Named) (b : ℕ) (e : Expression) → Block (Own env b e) b (b + width e) (opens env b e)

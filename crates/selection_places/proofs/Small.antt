@@ -8,20 +8,21 @@ use Rattle.bs_words.specs.declared.types.Loc.TheVariants as loc
 use Rattle.bs_words.specs.declared.types.Ret.{Ret}
 use Rattle.bs_words.specs.declared.types.Ret.TheVariants as ret
 use Rattle.cmm_tree.specs.Tree.{FunctionTree, Expression, Integer, Pointer, Symbol, Name, Nothing, Float, Let, Assign, Operator, Load, Store, Alloc, App, Extcall, Checkbound, Raise, Seq, If, Switch, Catch, Exit, Try, Expressions, NoMore, More, Bindings, NoBinding, Bind, Cases, NoCase, Choose, Handlers, NoHandler, Handle}
-use Rattle.cmm_types.specs.Faults.{row_length}
 use Rattle.cmm_types.specs.Types.{Scoped, type_of, body_type, result_of}
 use Rattle.mach_ir.specs.Placed.{colours}
 use Rattle.mach_ir.specs.Sizes.{Size, HasSize, OpenAtMost}
 use Rattle.mach_ir.specs.Walks.{IsRegister}
 use Rattle.mach_ir.specs.declared.reg.Reg.{Reg}
 use Rattle.places_rules.proofs.Open.{machine_open, slot_open, machine_slot}
-use Rattle.selection_rules.specs.Select.{Named, scopes, selected, first, seat, seats, result_seat, params_from, colour_regs, regs_of, count_of, width, is_based}
-use Rattle.selection_laws.specs.Fits.{HasFew, Fits, RowFits, BindingsFit, CasesFit, HandlersFit, FunctionFits}
+use Rattle.selection_rules.specs.Select.{Named, scopes, selected, first, seat, seats, result_seat, params_from, colour_regs, regs_of, width, is_based}
+use Rattle.selection_laws.specs.Fits.{Fits, RowFits, BindingsFit, CasesFit, HandlersFit, FunctionFits}
 use Rattle.selection_places.proofs.Sets.{Role, Plain, New, Seated, IsColour, Block, is_seated, left, right as in_right, One, it, Listed}
-use Rattle.selection_places.proofs.Owned.{dropped, kept_of, Own_drop, Own, BaseOwn, RowOwn, BoundOwn, SeqOwn, CasesOwn, HandlersOwn, LabelsOwn, Either, regs_length}
+use Rattle.selection_places.proofs.Owned.{dropped, kept_of, Own_drop, Own, BaseOwn, RowOwn, BoundOwn, SeqOwn, CasesOwn, HandlersOwn, LabelsOwn, Either}
 use Rattle.selection_places.proofs.Placed.{selected_stands}
 use Rattle.selection_places.proofs.Weights.{instrs_weigh, operands_weigh, selected_weight}
-use Rattle.selection_places.proofs.Whole.{Whole, whole_block, opens_of, params_of, moved_at, env_of, params_length, HasRole, has, has_role, selected_origin}
+use Rattle.selection_places.proofs.Whole.{Whole, whole_block, opens_of, params_of, moved_at, env_of, HasRole, has, has_role, selected_origin}
+use Rattle.selection_rules.proofs.Rows.{few_regs}
+use Rattle.selection_rules.proofs.Exits.{params_length}
 
 -- ---- sizes
 
@@ -80,13 +81,6 @@ colours_fixed n [] r x e = x
 colours_fixed n (c ∷ cs) r (left (it a b)) e = machine_open (ap (λ (z : Reg). z.loc) b) e
 colours_fixed n (c ∷ cs) r (in_right x) e = colours_fixed (suc n) cs r x e
 
-row_count : (es : Expressions) → row_length es ≡ count_of es
-row_count NoMore = refl
-row_count (More e rest) = let others = row_count rest in omega (arith, others)
-
-few_regs : (env : List Named) (b : ℕ) (es : Expressions) → HasFew es → 0 + length (regs_of env b es) ≤ 16
-few_regs env b es few = let same = row_count es in let regs = regs_length env b es in omega (arith, few, same, regs)
-
 not_one : {u : Role} {q r : Reg} → is_seated u ≡ false → One u q Seated r → ⊥
 not_one e (it a b) = true≢false (ap is_seated a ∙ e)
 
@@ -130,7 +124,7 @@ mutual
   fixed env names b (App at callee arguments result result_at) fits r (in_right (in_right (left x))) u = not_listed r Plain
       (regs_of env (suc (suc b)) arguments) refl x
   fixed env names b (App at callee arguments result result_at) fits r (in_right (in_right (in_right (left x)))) u = seats_fixed 0 _
-      (regs_of env (suc (suc b)) arguments) (few_regs env (suc (suc b)) arguments fits.0) r x u
+      (regs_of env (suc (suc b)) arguments) (let few = few_regs env (suc (suc b)) arguments fits.0 in omega (arith, few)) r x u
   fixed env names b (App at callee arguments result result_at) fits r (in_right (in_right (in_right (in_right (left x))))) u = result_fixed _ result r x u
   fixed env names b (App at callee arguments result result_at) fits r (in_right (in_right (in_right (in_right (in_right (left x)))))) u =
       fixed env names _ callee (fits.1).0 r x u
@@ -140,7 +134,7 @@ mutual
       (Extcall at frame name arguments result result_at) x
   fixed env names b (Extcall at frame name arguments result result_at) fits r (in_right (left x)) u = not_listed r Plain (regs_of env (suc b) arguments) refl x
   fixed env names b (Extcall at frame name arguments result result_at) fits r (in_right (in_right (left x))) u = seats_fixed 0 _
-      (regs_of env (suc b) arguments) (few_regs env (suc b) arguments fits.0) r x u
+      (regs_of env (suc b) arguments) (let few = few_regs env (suc b) arguments fits.0 in omega (arith, few)) r x u
   fixed env names b (Extcall at frame name arguments result result_at) fits r (in_right (in_right (in_right (left x)))) u = result_fixed _ result r x u
   fixed env names b (Extcall at frame name arguments result result_at) fits r (in_right (in_right (in_right (in_right x)))) u =
       fixed_row env names _ arguments (fits.1).1 r x u

@@ -1,7 +1,7 @@
 -- Where a register with a fixed place is live in selected code: from the moves that fill such places on to what reads them.
 use Rattle.std.proofs.Common.{◌≡◌, ℕ, ◌⊎◌, inl, inr, ⊎_elim, Bool, true, false, cond, not, ◌&&◌, ◌||◌, List, [], ◌∷◌, ◌++◌, refl, sym, ap, ◌∙◌, subst}
 use Rattle.std.specs.Prelude.{◌≢◌, Contains}
-use Rattle.std.proofs.lemmas.Bool.{true≢false, eq-eqb}
+use Rattle.std.proofs.lemmas.Bool.{true≢false, eq-eqb, and_parts, not-true}
 use Rattle.bs_words.specs.declared.types.Loc.{Loc}
 use Rattle.bs_words.specs.declared.types.Loc.TheVariants as loc
 use Rattle.cmm_types.proofs.Containing.{contains_head, contains_tail}
@@ -18,7 +18,7 @@ use Rattle.selection_rules.specs.Instructions as emit
 use Rattle.selection_laws.proofs.WellFormed.{NumbersTell}
 use Rattle.selection_places.proofs.Sets.{Role, Plain, New, IsColour}
 use Rattle.selection_places.proofs.Coded as coded
-use Rattle.selection_places.proofs.Coded.{Member, Each, none, one, each_of, is_heavy, Apart, Reads, reads_plain, reads_new, ReadsSeats, reads, reads_seat, Gives, gives_none, gives_one, Coded, ends, plain, fills, empties, asks, handles, allocs}
+use Rattle.selection_places.proofs.Coded.{Member, Each, each_of, is_heavy, Apart, Reads, reads_plain, reads_new, ReadsSeats, reads, reads_seat, Gives, gives_none, gives_one, Coded, ends, plain, fills, empties, asks, handles, allocs}
 
 -- ---- what a code ends with
 
@@ -256,14 +256,6 @@ record Killed (r : Reg) (rs results : List Reg) : Type 0 where
   among : Member r rs
   elsewhere : is_at_one_of r.loc results ≡ false
 
-and_right : (a b : Bool) → a && b ≡ true → b ≡ true
-and_right true b e = e
-and_right false b e = absurd (true≢false (sym e))
-
-not_true : (b : Bool) → not b ≡ true → b ≡ false
-not_true true e = absurd (true≢false (sym e))
-not_true false e = refl
-
 killed_here : {r : Reg} (rs : List Reg) (d : Destroyed) (results : List Reg) → Member r (killed_among rs d results) → Killed r rs results
 killed_here [] d results m = elim m [ ]
 killed_here {r} (s ∷ rs) d results m = by (is_destroyed d s.loc && not (is_at_one_of s.loc results)) refl (killed_here rs d results) m
@@ -277,7 +269,7 @@ killed_here {r} (s ∷ rs) d results m = by (is_destroyed d s.loc && not (is_at_
         record {
           among = coded.first same;
           elsewhere = subst (λ (z : Reg). is_at_one_of z.loc results ≡ false) (sym same)
-              (not_true (is_at_one_of s.loc results) (and_right (is_destroyed d s.loc) (not (is_at_one_of s.loc results)) e));
+              (not-true (is_at_one_of s.loc results) (and_parts (is_destroyed d s.loc) (not (is_at_one_of s.loc results)) e).1);
         }
     by true e others (coded.later m) = more (others m)
     by false e others m = more (others m)

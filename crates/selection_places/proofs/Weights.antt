@@ -28,8 +28,10 @@ use Rattle.selection_rules.specs.Instructions as emit
 use Rattle.selection_rules.specs.Select.{Code, Shape, InRegisters, ConstantRight, ConstantLeft, PowerRight, shape_of, shape_op, shape_right, shape_args, power_code, operator_code, Named, Label, scopes, reg_of, label_of, move_from, move_to, moves_all, exit_to, only_when, from_seat, symbol_of, callee_regs, right_of, bound_test, comparison, select_test, is_based, base_of, inner_dest, seat, select_base, call_of, count_of, count_cases, regs_of, width, width_row, width_bound, width_cases, width_handlers, width_labels, select, select_waiting, select_filled, select_bound, select_seq, select_cases, select_handlers, deeper, cell_stores, returns, selected, first, is_no_value, fresh, seats, result_seat}
 use Rattle.selection_places.proofs.Adds as adds
 use Rattle.selection_places.proofs.Adds.{Adds, part, part_both, now_of, later_of, in_parts}
-use Rattle.selection_places.proofs.Owned.{row_width, regs_length}
-use Rattle.selection_places.proofs.Whole.{params_length, seats_length, moved_at, value_at, params_of, env_of}
+use Rattle.selection_rules.proofs.Once.{row_width}
+use Rattle.selection_rules.proofs.Rows.{regs_length, seats_length, result_few}
+use Rattle.selection_rules.proofs.Exits.{params_length}
+use Rattle.selection_places.proofs.Whole.{moved_at, value_at, params_of, env_of}
 
 -- instructions, operands and results together
 abbrev pub weight : List Instr → ℕ
@@ -109,10 +111,6 @@ w_checkbound (right.Constant w) x y = record { at = λ next. omega arith }
 w_given : (n : ℕ) (result : Ret) (d : Reg) → Weighs 3 (from_seat n result d)
 w_given n ret.Unit d = record { at = λ next. omega arith }
 w_given n (ret.Comp c) d = record { at = λ next. omega arith }
-
-result_few : (n : ℕ) (result : Ret) → length (result_seat n result) ≤ 1
-result_few n ret.Unit = omega arith
-result_few n (ret.Comp c) = omega arith
 
 callee_few : (o : Option (List ℕ)) (f : Reg) (rs : List Reg) → length (callee_regs o f ++ rs) ≤ suc (length rs)
 callee_few (Some name) f rs = omega arith

@@ -4,7 +4,7 @@ use Rattle.std.specs.Prelude.{Contains}
 use Rattle.bs_words.specs.declared.types.Comp.TheVariants as comp
 use Rattle.bs_words.specs.declared.types.Loc.TheVariants as loc
 use Rattle.bs_words.specs.declared.types.Ty.{Ty}
-use Rattle.cmm_tree.specs.Tree.{Parameter, FunctionTree}
+use Rattle.cmm_tree.specs.Tree.{FunctionTree}
 use Rattle.cmm_types.proofs.Containing.{contains_none, contains_cases, contains_head, contains_tail}
 use Rattle.cmm_types.specs.Types.{body_type, result_of}
 use Rattle.mach_ir.specs.Keeps.{OriginsAgree}
@@ -21,6 +21,8 @@ use Rattle.selection_places.proofs.Owned.{Own, opens, own_block, params_block, s
 use Rattle.selection_places.proofs.Coded as coded
 use Rattle.selection_places.proofs.Coded.{Member, later, Each, none, one, each_of, each_map, Reads, reads_plain, reads_new, ReadsSeats, reads, reads_seat, Gives, gives_none, gives_one, Coded, ends, plain, fills, empties, asks, handles, allocs}
 use Rattle.selection_places.proofs.Codes.{onto, no_names, no_labels, codes_select, codes_entry, codes_returns, params_env, listed, wants_any}
+use Rattle.selection_rules.proofs.Exits.{params_length}
+use Rattle.selection_rules.proofs.Rows.{seats_length}
 
 -- ---- the parts of a function
 
@@ -58,10 +60,6 @@ colours_block n (c ∷ cs) inside =
     (colours_block (suc n) cs (λ k m. inside k (contains_tail c cs k m))) (omega arith) (omega arith))
     (omega arith)
 
-pub params_length : (b : ℕ) (params : List Parameter) → length (params_from b params) ≡ length params
-params_length b [] = refl
-params_length b (p ∷ params) = let others = params_length (suc b) params in omega (arith, others)
-
 -- how many registers of a function are open
 abbrev pub opens_of : FunctionTree → ℕ
 opens_of f = 0 + (length f.params + (1 + (0 + opens (env_of f) (suc (suc (value_at f))) f.body)))
@@ -81,10 +79,6 @@ others_block f =
 
 pub whole_block : (f : FunctionTree) → Block (Whole f) 0 (selected f).labels (opens_of f)
 whole_block f = block_few (block_then (block_in (colours_block 0 colours (λ c m. m)) (omega arith)) (others_block f) (omega arith) (omega arith)) (omega arith)
-
-pub seats_length : (i n : ℕ) (rs : List Reg) → length (seats i n rs) ≡ length rs
-seats_length i n [] = refl
-seats_length i n (r ∷ rs) = let others = seats_length (suc i) (suc n) rs in omega (arith, others)
 
 -- the code has these roles among any that have those of all but the colours
 coded_in : (f : FunctionTree) (Q : Role → Reg → Type 0) → ((t : Role) (r : Reg) → Others f t r → Q t r) →

@@ -3,27 +3,27 @@ use Rattle.std.proofs.Common.{◌≡◌, ℕ, suc, ◌+◌, ◌<◌, ◌≤◌, 
 use Rattle.bs_words.specs.Fits.{fits, type_of_comp}
 use Rattle.bs_words.specs.Memory.{Memory}
 use Rattle.bs_words.specs.declared.types.Ty.{Ty}
-use Rattle.cmm_tree.specs.Tree.{same_label, LabelTree, Parameter, Exit, Expressions}
+use Rattle.cmm_tree.specs.Tree.{same_label, LabelTree, Parameter, Exit, Expressions, Bindings, NoBinding, Bind}
 use Rattle.bs_words.specs.declared.values.Value.{Value}
-use Rattle.cmm_types.specs.Types.{type_of, with_parameters}
+use Rattle.cmm_types.specs.Types.{type_of, with_parameters, with_bindings}
 use Rattle.cmm_meaning.specs.State.{Binding, Here, bound}
 use Rattle.cmm_meaning.specs.Evaluation.{scoped_parameter}
 use Rattle.meaning_laws.specs.Does.{Leaves, Does, Jumps}
-use Rattle.meaning_laws.specs.Interaction.{Part, onward, of_type, does, waiting, filled, entered}
+use Rattle.meaning_laws.specs.Interaction.{does, waiting, filled}
 use Rattle.mach_ir.specs.declared.reg.Reg.{Reg}
 use Rattle.mach_ir.specs.declared.mach.Instr.{Instr}
 use Rattle.mach_ir.specs.declared.mach.Mach.{Mach}
 use Rattle.mach_ir.specs.Runs.{Place, Continues}
 use Rattle.mach_ir.specs.Meaning.{File, put_if, put_all, wrote, after_label}
 use Rattle.mach_ir.specs.Acts.{drop_tries}
-use Rattle.selection_rules.specs.Select.{Named, Label, scopes, fresh, width, regs_of, count_of, moves_all, exit_to, label_of, params_from, with_params, select, select_filled}
+use Rattle.selection_rules.specs.Select.{Named, Label, scopes, fresh, width, regs_of, count_of, moves_all, exit_to, label_of, params_from, with_params, select, select_filled, env_after, bound_name}
 use Rattle.std.specs.Prelude.{length}
 use Rattle.selection_rules.specs.Follow.{Follows, walks, jumps, jumps_wrong}
 use Rattle.selection_rules.proofs.Files.{Under, under_more, named_under, Stands, one, stands_put}
 use Rattle.selection_rules.proofs.Parts.{Placed, placed_in, AllUnder, no_reg, a_reg, Lower, no_label, a_label, lower_more, Stable, stable_inner, new, calm, at, arrive, Level, based, calm_in, reaching_now, After, after_typed, node_follows, Ready}
 use Rattle.selection_rules.proofs.Endings.{ending_waiting}
 use Rattle.selection_rules.proofs.Leaves.{move_follows}
-use Rattle.selection_rules.proofs.Rows.{Row, Between, between_less, between_regs, Rising, between_rising, PutAll, nil, cons, AllOff, off_after, off_rest, off_first, holds_put_all, row_put, SelectedWaiting, SelectedFilled}
+use Rattle.selection_rules.proofs.Rows.{Row, Between, between_regs, Rising, between_rising, PutAll, nil, cons, AllOff, off_after, off_rest, off_first, holds_put_all, SelectedWaiting, SelectedFilled}
 use Rattle.meaning_laws.specs.Interaction as part
 use Rattle.selection_rules.proofs.Rows as rows
 use Rattle.selection_rules.specs.Instructions as emit
@@ -80,6 +80,10 @@ stands_params n (p ∷ params) (v ∷ vs) (rows.early e h row) s = stands_params
 pub scopes_params : (n : ℕ) (params : List Parameter) (env : List Named) → scopes (with_params params (params_from n params) env) ≡ with_parameters params (scopes env)
 scopes_params n [] env = refl
 scopes_params n (p ∷ params) env = scopes_params (suc n) params (record { scoped = scoped_parameter p; reg = fresh n (type_of_comp p.comp) } ∷ env)
+
+pub scopes_after : (env : List Named) (b : ℕ) (bs : Bindings) → scopes (env_after env b bs) ≡ with_bindings (scopes env) bs
+scopes_after env b NoBinding = refl
+scopes_after env b (Bind at name declared e rest) = scopes_after (bound_name env b name declared e ∷ env) (suc (b + width e)) rest
 
 pub under_with : (n i : ℕ) (params : List Parameter) {env : List Named} → 21 ≤ n → n + length params ≤ i → Under n env → Under i (with_params params (params_from n params) env)
 under_with n i [] first le u = under_more i (omega (arith, le)) u

@@ -1,6 +1,6 @@
 -- Light operands, whatever stands round the registers: their values do not hang on memory.
 use Rattle.std.proofs.Common.{◌≡◌, ℕ, suc, ◌+◌, ◌<◌, ◌≤◌, Bool, true, false, cond, ◌&&◌, List, [], ◌∷◌, Option, Some, None, Result, Ok, Err, map, refl, sym, ap, subst, arith, le_refl}
-use Rattle.std.proofs.lemmas.Bool.{true≢false}
+use Rattle.std.proofs.lemmas.Bool.{true≢false, and_parts}
 use Rattle.bs_words.specs.Fits.{fits, misfit, type_of_comp}
 use Rattle.bs_words.specs.Memory.{Memory, sizes}
 use Rattle.bs_words.specs.Operators.{apply}
@@ -32,8 +32,8 @@ use Rattle.selection_rules.proofs.Parts.{new, Stable, stable_inner, stable_same,
 use Rattle.selection_rules.proofs.Operands.{own_fits}
 use Rattle.selection_rules.proofs.Shapes.{ShapeView, in_registers, constant_right, constant_left, power_right, shape_view, Operands, both_stand, left_stands, right_stands, a_power}
 use Rattle.selection_rules.proofs.Operators.{finished, reached, Stepping, operator_follows}
-use Rattle.selection_rules.proofs.Labels.{and_left, and_right, address_is_light}
-use Rattle.selection_rules.proofs.Rows.{Row, late, early, Between, between_regs, WithRow, stable_row, Matches}
+use Rattle.selection_rules.proofs.Once.{address_is_light}
+use Rattle.selection_rules.proofs.Rows.{Row, late, early, between_regs, WithRow, stable_row, Matches}
 use Rattle.bs_words.specs.declared.types.Ty.TheVariants as ty
 use Rattle.bs_words.specs.declared.values.Value.TheVariants as value
 use Rattle.meaning_laws.specs.Interaction as part
@@ -198,7 +198,7 @@ module _ (c : Place) (m : Mach) (turns : ℕ) (ts : List ℕ) (h : Here) (memory
         step = λ v w h memory. proper (apply op (sizes memory) v w) memory (λ u. part.gives (Some u) h memory)
 
         parts : is_light (scopes env) left && is_light (scopes env) right ≡ true
-        parts = and_right (is_light_operator op) (is_light (scopes env) left && is_light (scopes env) right) light
+        parts = (and_parts (is_light_operator op) (is_light (scopes env) left && is_light (scopes env) right) light).1
 
         unnamed : (j : ℕ) → n < j → IsNamed j env → ⊥
         unnamed j le q = let small = named_under under q in omega (arith, small, le)
@@ -211,7 +211,7 @@ module _ (c : Place) (m : Mach) (turns : ℕ) (ts : List ℕ) (h : Here) (memory
         last : {r : Shape} (v w : Value) (f : File) → Stands env h.names f → P f → Operands op x y f r v w → Late c m first_state (step v w h memory kk) (Continues (now (done r) f))
         last {r = r} v w f s p read =
             subst (λ q. Late c m first_state (proper q memory (λ u. part.gives (Some u) h memory) kk) (Continues (now (done r) f)))
-            (sym (light_apply op (sizes memory) (sizes a.memory) v w (and_left (is_light_operator op) (is_light (scopes env) left && is_light (scopes env) right) light)))
+            (sym (light_apply op (sizes memory) (sizes a.memory) v w (and_parts (is_light_operator op) (is_light (scopes env) left && is_light (scopes env) right) light).0))
             (operator_follows c m (Late c m first_state) (late_stepping c m first_state) a (inner_dest T i (fresh n T)) next (λ o. proper o memory (λ u. part.gives (Some u) h memory) kk) (λ kind z. late_fails) (λ z. omega (arith, z)) read
             (λ g r o.
             result g (reached (λ g. Stands env h.names g) (λ v g s. stands_put y v (unnamed (suc (suc i)) (omega (arith, less))) s) s r)
@@ -224,7 +224,7 @@ module _ (c : Place) (m : Mach) (turns : ℕ) (ts : List ℕ) (h : Here) (memory
             subst (λ g. Late c m first_state (with_value (does (text_of c) turns g false h memory) (λ w h memory. with_value (does (text_of c) turns left false h memory) (λ v h memory. step v w h memory)) kk)
             (Continues (now (left_code r (done r)) f))) same2
             (late_constant place' w (λ w h memory. with_value (does (text_of c) turns left false h memory) (λ v h memory. step v w h memory)) kk _
-            (ll _ env labels (suc i) (suc (suc (suc i))) (done r) P (λ v h memory. step v (value.Word w) h memory) kk (and_left (is_light (scopes env) left) (is_light (scopes env) right) parts)
+            (ll _ env labels (suc i) (suc (suc (suc i))) (done r) P (λ v h memory. step v (value.Word w) h memory) kk (and_parts (is_light (scopes env) left) (is_light (scopes env) right) parts).0
             (under_more (suc i) (omega (arith, less)) under) (omega arith) (omega (arith, first, less)) (stable_inner (suc i) (suc (suc (suc i))) (omega arith) (omega arith) stable)
             f s p (λ v f s p fv hv. last v (value.Word w) f s p (left_stands z hv))))
         by true is same1 same2 (power_right z low top q) = absurd (true≢false (sym is))
@@ -232,38 +232,38 @@ module _ (c : Place) (m : Mach) (turns : ℕ) (ts : List ℕ) (h : Here) (memory
             subst (λ g. Late c m first_state (with_value (does (text_of c) turns g false h memory) (λ w h memory. with_value (does (text_of c) turns left false h memory) (λ v h memory. step v w h memory)) kk)
             (Continues (now (left_code r (done r)) f))) same2
             (late_constant place' w (λ w h memory. with_value (does (text_of c) turns left false h memory) (λ v h memory. step v w h memory)) kk _
-            (ll _ env labels (suc i) (suc (suc (suc i))) (done r) P (λ v h memory. step v (value.Word w) h memory) kk (and_left (is_light (scopes env) left) (is_light (scopes env) right) parts)
+            (ll _ env labels (suc i) (suc (suc (suc i))) (done r) P (λ v h memory. step v (value.Word w) h memory) kk (and_parts (is_light (scopes env) left) (is_light (scopes env) right) parts).0
             (under_more (suc i) (omega (arith, less)) under) (omega arith) (omega (arith, first, less)) (stable_inner (suc i) (suc (suc (suc i))) (omega arith) (omega arith) stable)
             f s p (λ v f s p fv hv. last v (value.Word w) f s p (a_power z low top whole (ap (λ g. comp_of (type_of (scopes env) g)) (sym same2)) hv))))
         by {r = r} true is same1 same2 (constant_left {place = place'} {w = w} z) =
             subst (λ g. Late c m first_state (with_value (does (text_of c) turns g false h memory) (λ v h memory. with_value (does (text_of c) turns right false h memory) (λ w h memory. step v w h memory)) kk)
             (Continues (now (right_code r (done r)) f))) same1
             (late_constant place' w (λ v h memory. with_value (does (text_of c) turns right false h memory) (λ w h memory. step v w h memory)) kk _
-            (lr _ env labels (suc (suc i)) (suc (suc (suc i)) + width left) (done r) P (λ u h memory. step (value.Word w) u h memory) kk (and_right (is_light (scopes env) left) (is_light (scopes env) right) parts)
+            (lr _ env labels (suc (suc i)) (suc (suc (suc i)) + width left) (done r) P (λ u h memory. step (value.Word w) u h memory) kk (and_parts (is_light (scopes env) left) (is_light (scopes env) right) parts).1
             (under_more (suc (suc i)) (omega (arith, less)) under) (omega arith) (omega (arith, first, less)) (stable_inner (suc (suc i)) (suc (suc (suc i)) + width left) (omega arith) (omega arith) stable)
             f s p (λ u f s p fu hu. last (value.Word w) u f s p (right_stands z hu))))
         by {r = r} false is same1 same2 (constant_left {place = place'} {w = w} z) =
             lr _ env labels (suc (suc i)) (suc (suc (suc i)) + width left) (done r) P (λ u h memory. with_value (does (text_of c) turns left false h memory) (λ v h memory. step v u h memory)) kk
-            (and_right (is_light (scopes env) left) (is_light (scopes env) right) parts)
+            (and_parts (is_light (scopes env) left) (is_light (scopes env) right) parts).1
             (under_more (suc (suc i)) (omega (arith, less)) under) (omega arith) (omega (arith, first, less)) (stable_inner (suc (suc i)) (suc (suc (suc i)) + width left) (omega arith) (omega arith) stable)
             f s p (λ u f s p fu hu.
             subst (λ g. Late c m first_state (with_value (does (text_of c) turns g false h memory) (λ v h memory. step v u h memory) kk) (Continues (now (done r) f))) same1
             (late_constant place' w (λ v h memory. step v u h memory) kk _ (last (value.Word w) u f s p (right_stands z hu))))
         by false is same1 same2 in_registers =
             lr _ env labels (suc (suc i)) (suc (suc (suc i)) + width left) (left_code InRegisters (done InRegisters)) P (λ w h memory. with_value (does (text_of c) turns left false h memory) (λ v h memory. step v w h memory)) kk
-            (and_right (is_light (scopes env) left) (is_light (scopes env) right) parts) (under_more (suc (suc i)) (omega (arith, less)) under) (omega arith) (omega (arith, first, less))
+            (and_parts (is_light (scopes env) left) (is_light (scopes env) right) parts).1 (under_more (suc (suc i)) (omega (arith, less)) under) (omega arith) (omega (arith, first, less))
             (stable_inner (suc (suc i)) (suc (suc (suc i)) + width left) (omega arith) (omega arith) stable) f s p
             (λ w f s p fw hw.
-            ll _ env labels (suc i) (suc (suc (suc i))) (done InRegisters) (Also P y w) (λ v h memory. step v w h memory) kk (and_left (is_light (scopes env) left) (is_light (scopes env) right) parts)
+            ll _ env labels (suc i) (suc (suc (suc i))) (done InRegisters) (Also P y w) (λ v h memory. step v w h memory) kk (and_parts (is_light (scopes env) left) (is_light (scopes env) right) parts).0
             (under_more (suc i) (omega (arith, less)) under) (omega arith) (omega (arith, first, less))
             (stable_and y w (omega arith) (λ z. omega (arith, z)) (unnamed (suc (suc i)) (omega (arith, less))) (omega (arith, first, less)) (stable_inner (suc i) (suc (suc (suc i))) (omega arith) (omega arith) stable))
             f s (record { rest = p; holds = hw }) (λ v f s p fv hv. last v w f s p.rest (both_stand hv p.holds)))
         by true is same1 same2 in_registers =
             ll _ env labels (suc i) (suc (suc (suc i))) (right_code InRegisters (done InRegisters)) P (λ v h memory. with_value (does (text_of c) turns right false h memory) (λ w h memory. step v w h memory)) kk
-            (and_left (is_light (scopes env) left) (is_light (scopes env) right) parts) (under_more (suc i) (omega (arith, less)) under) (omega arith) (omega (arith, first, less))
+            (and_parts (is_light (scopes env) left) (is_light (scopes env) right) parts).0 (under_more (suc i) (omega (arith, less)) under) (omega arith) (omega (arith, first, less))
             (stable_inner (suc i) (suc (suc (suc i))) (omega arith) (omega arith) stable) f s p
             (λ v f s p fv hv.
-            lr _ env labels (suc (suc i)) (suc (suc (suc i)) + width left) (done InRegisters) (Also P x v) (λ w h memory. step v w h memory) kk (and_right (is_light (scopes env) left) (is_light (scopes env) right) parts)
+            lr _ env labels (suc (suc i)) (suc (suc (suc i)) + width left) (done InRegisters) (Also P x v) (λ w h memory. step v w h memory) kk (and_parts (is_light (scopes env) left) (is_light (scopes env) right) parts).1
             (under_more (suc (suc i)) (omega (arith, less)) under) (omega arith) (omega (arith, first, less))
             (stable_and x v (omega arith) (λ z. omega (arith, z)) (unnamed (suc i) (omega (arith, less))) (omega (arith, first, less)) (stable_inner (suc (suc i)) (suc (suc (suc i)) + width left) (omega arith) (omega arith) stable))
             f s (record { rest = p; holds = hv }) (λ w f s p fw hw. last v w f s p.rest (both_stand p.holds hw)))

@@ -8,13 +8,13 @@ use Rattle.cmm_types.specs.Light.{is_light_address}
 use Rattle.cmm_types.specs.Types.{type_of}
 use Rattle.cmm_meaning.specs.State.{Here, scope}
 use Rattle.meaning_laws.specs.Does.{Leaves, Giving, Does}
-use Rattle.meaning_laws.specs.Interaction.{onward, unless_light, now_or_before, does, waiting, filled}
+use Rattle.meaning_laws.specs.Interaction.{onward, unless_light, does, waiting, filled}
 use Rattle.mach_ir.specs.declared.reg.Reg.{Reg}
 use Rattle.mach_ir.specs.declared.mach.Instr.{Instr}
 use Rattle.mach_ir.specs.declared.mach.Mach.{Mach}
 use Rattle.mach_ir.specs.Runs.{Place, Continues}
 use Rattle.mach_ir.specs.Meaning.{File, put, values, with_held}
-use Rattle.selection_rules.specs.Select.{Named, Label, scopes, fresh, width, regs_of, count_of, seat, seats, only_when, select, select_waiting, select_filled, width_row}
+use Rattle.selection_rules.specs.Select.{Named, Label, scopes, fresh, width, regs_of, count_of, seat, seats, only_when, select, select_waiting, select_filled, width_row, result_seat}
 use Rattle.selection_rules.specs.Follow.{Follows}
 use Rattle.selection_rules.proofs.Files.{Holds, put_same, holds_put, holds_survives, Survives, Under, under_more, named_under, Stands, scope_is}
 use Rattle.selection_rules.proofs.Parts.{Placed, placed_in, AllUnder, no_reg, a_reg, Lower, lower_more, Stable, stable_inner, stable_same, May, new, dest, name, at, Level, Outs}
@@ -22,6 +22,9 @@ use Rattle.selection_rules.proofs.Operands.{Selected, operand, ready_at, own_fit
 use Rattle.selection_rules.proofs.Endings.{ending_waiting, ending_filled}
 use Rattle.meaning_laws.specs.Interaction as part
 use Rattle.selection_rules.specs.Follow.{text_of}
+use Rattle.cmm_types.specs.Faults.{row_length}
+use Rattle.bs_words.specs.declared.types.Ret.{Ret}
+use Rattle.bs_words.specs.declared.types.Ret.TheVariants as ret
 
 -- values in registers, which they fit, where they do not wait
 pub data Row (end : ℕ) (f : File) : List Reg → List (Option Value) → Type 0 where
@@ -65,6 +68,13 @@ pub regs_length : (env : List Named) (b : ℕ) (es : Expressions) → length (re
 regs_length env b NoMore = refl
 regs_length env b (More e rest) = ap suc (regs_length env (suc b) rest)
 
+pub row_count : (es : Expressions) → row_length es ≡ count_of es
+row_count NoMore = refl
+row_count (More e rest) = let others = row_count rest in omega (arith, others)
+
+pub few_regs : (env : List Named) (b : ℕ) (es : Expressions) → row_length es ≤ 16 → length (regs_of env b es) ≤ 16
+few_regs env b es few = let count = row_count es in let long = regs_length env b es in omega (arith, few, count, long)
+
 pub between_regs : (env : List Named) (b i : ℕ) (es : Expressions) → b + count_of es ≤ i → Between b i (regs_of env b es)
 between_regs env b i es le = let long = regs_length env b es in between_rising i (rising_regs env b es) (omega (arith, long, le))
 
@@ -75,6 +85,10 @@ rising_seats i n (r ∷ rs) = one refl (rising_seats (suc i) (suc n) rs)
 pub seats_length : (i n : ℕ) (rs : List Reg) → length (seats i n rs) ≡ length rs
 seats_length i n [] = refl
 seats_length i n (r ∷ rs) = ap suc (seats_length (suc i) (suc n) rs)
+
+pub result_few : (n : ℕ) (result : Ret) → length (result_seat n result) ≤ 1
+result_few n ret.Unit = omega arith
+result_few n (ret.Comp c) = omega arith
 
 -- ---- writes
 

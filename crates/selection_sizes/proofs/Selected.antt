@@ -15,8 +15,9 @@ use Rattle.mach_ir.specs.declared.mach.Test.TheVariants as test
 use Rattle.mach_ir.specs.declared.reg.Reg.{Reg}
 use Rattle.selection_rules.specs.Instructions as emit
 use Rattle.selection_rules.specs.Select.{Code, shape_of, shape_op, shape_right, Named, Label, scopes, reg_of, label_of, moves_all, exit_to, symbol_of, right_of, bound_test, comparison, is_based, seat, select_base, select_test, count_of, regs_of, select, select_waiting, select_filled, select_bound, select_seq, select_cases, select_handlers, deeper, labels_from, in_handlers, unless_bare, switch_labels, returns, selected, first, is_no_value, fresh, seats}
-use Rattle.selection_places.proofs.Owned.{regs_length}
-use Rattle.selection_places.proofs.Whole.{params_length, seats_length, moved_at, value_at, params_of, env_of}
+use Rattle.selection_rules.proofs.Rows.{regs_length, seats_length}
+use Rattle.selection_rules.proofs.Exits.{params_length}
+use Rattle.selection_places.proofs.Whole.{moved_at, value_at, params_of, env_of}
 use Rattle.pass_rules.specs.Measures.{code_words, one_if, code_points}
 use Rattle.selection_places.proofs.Adds.{part_both, now_of, later_of, in_parts}
 use Rattle.selection_sizes.proofs.Sums.{most, points, some_nodes, row_points, row_most}

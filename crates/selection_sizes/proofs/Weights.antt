@@ -24,6 +24,7 @@ use Rattle.selection_rules.specs.Select.{Code, Shape, InRegisters, ConstantRight
 use Rattle.pass_rules.specs.Measures.{code_words, one_if, code_points}
 use Rattle.pass_rules.proofs.Words.{at_most_copy}
 use Rattle.selection_places.proofs.Adds.{part}
+use Rattle.selection_rules.proofs.Rows.{result_few}
 
 -- Its words, and twelve for each operand and result: a copy before each, and one after it, have as many.
 abbrev pub weight : List Instr → ℕ
@@ -188,10 +189,6 @@ w_operator (ConstantRight i) f x y d = w_up (omega arith) (omega arith) (w_pure 
 w_operator (ConstantLeft i) f x y d = w_up (omega arith) (omega arith) (w_pure _ _ d)
 
 -- ---- calls
-
-result_few : (n : ℕ) (result : Ret) → length (result_seat n result) ≤ 1
-result_few n ret.Unit = omega arith
-result_few n (ret.Comp c) = omega arith
 
 pub w_call : (tail valued : Bool) (result : Ret) (o : Option (List ℕ)) (f : Reg) (rs : List Reg) (n : ℕ) (d : Reg) → Weighs (102 + 12 * length rs) 1
     (call_of tail valued result o f rs n d)

@@ -1,7 +1,7 @@
 -- Loads, stores and tests of bounds. An address that is a sum with a short constant is not computed: its base stands
 -- in the register.
 use Rattle.std.proofs.Common.{◌≡◌, ℕ, zero, suc, ◌+◌, ◌<◌, ◌≤◌, Bool, true, false, cond, not, ◌&&◌, ⊎_elim, List, [], ◌∷◌, ◌++◌, Option, Some, None, refl, sym, ap, ◌∙◌, subst, arith, append_assoc}
-use Rattle.std.proofs.lemmas.Bool.{true≢false}
+use Rattle.std.proofs.lemmas.Bool.{true≢false, and_parts}
 use Rattle.bs_words.specs.declared.operators.IntOp.{IntOp}
 use Rattle.bs_words.specs.declared.operators.IntOp.TheVariants as operator
 use Rattle.bs_words.specs.declared.types.Chunk.{Chunk}
@@ -30,16 +30,17 @@ use Rattle.selection_rules.specs.Instructions as emit
 use Rattle.selection_rules.specs.Select.{Named, Label, scopes, reg_of, move_from, fresh, ordered, Shape, InRegisters, ConstantRight, ConstantLeft, PowerRight, shape_of, unless_left, unless_right, operator_code, power_code, rounded, right_of, unless_constant, bound_test, is_based, base_of, offset_of, inner_dest, width, select, select_base, Code}
 use Rattle.selection_rules.proofs.Parts.{Placed, placed_in, placed_next}
 use Rattle.selection_rules.proofs.Endings.{ending_select}
-use Rattle.selection_rules.proofs.Labels.{address_is_light}
+use Rattle.selection_rules.proofs.Once.{address_is_light}
 use Rattle.selection_laws.proofs.Accepting.{left, right}
 use Rattle.selection_laws.specs.Fits.{Fits}
 use Rattle.selection_walks.proofs.Phases.{Phase, Early, Bound, Passed, Off, Flies, the_same, beyond, Written, here, there, Ahead, Past, kept_on, straight, Told, skipped, quietly, any_early, Apart, Kept, kept_then, grown, bound_none, apart_binds, apart_uses}
-use Rattle.selection_walks.proofs.Situations.{hold, Low, hold_same, hold_other, hold_kept, low_none, low_more, paired_names, OutsOf, outs_kept, Sit, sit, go, quiet_sit, no_among, no_written, one_number, out, Wanted, ApartFrom, inner, inner_apart, binding, through_takes}
+use Rattle.selection_walks.proofs.Situations.{hold, hold_same, hold_other, hold_kept, low_none, paired_names, OutsOf, outs_kept, Sit, sit, go, quiet_sit, no_among, no_written, one_number, out, inner, inner_apart, through_takes}
 use Rattle.selection_walks.proofs.Floats.{has_one}
 use Rattle.selection_walks.proofs.Operands.{has_value, row_none, row_hold, row_more, Stood, Step, whole, Scene, at_more, at_hold, Claim, of_claim, operand_step}
 use Rattle.selection_walks.proofs.Finals.{IsPlain, ended, mute_sit, used_by, plain_move, Meets, calling}
 use Rattle.selection_walks.proofs.Pairs.{coded, bare_arg, two_args, left_stands, right_stands, single_stands, two_of, plain_operator}
 use Rattle.selection_walks.proofs.Names.{wanted_typed}
+use Rattle.std.proofs.lemmas.Option.{same_Some}
 
 module _ (m : Mach) (n : ℕ) (defined : List ℕ → Option DefinedSymbol) where
   -- ---- light code passes no frame point
@@ -89,14 +90,6 @@ module _ (m : Mach) (n : ℕ) (defined : List ℕ → Option DefinedSymbol) wher
   calm_from None d z = z
   calm_from (Some a) d z = calm_plain (plain_move m n a d) z
 
-  and_left : (a b : Bool) → a && b ≡ true → a ≡ true
-  and_left true b e = refl
-  and_left false b e = e
-
-  and_right : (a b : Bool) → a && b ≡ true → b ≡ true
-  and_right true b e = e
-  and_right false b e = absurd (true≢false (sym e))
-
   light_calm : {k : ℕ} (env : List Named) (labels : List Label) (valued tail : Bool) (d : Reg) (b : ℕ) (e : Expression) (next : List Instr) →
       is_light (scopes env) e ≡ true → Ahead m n k Bound (select env labels valued tail d b e next) → Ahead m n k Bound next
   light_calm env labels valued tail d b (Integer at w) next l z = calm_plain (record { on = refl; calm = refl; inside = refl; tries = λ next. refl }) z
@@ -104,15 +97,15 @@ module _ (m : Mach) (n : ℕ) (defined : List ℕ → Option DefinedSymbol) wher
   light_calm env labels valued tail d b (Name at x) next l z = calm_from (reg_of env x) _ z
   light_calm env labels valued tail d b (Operator at op a c) next l z =
       let s = shape_of op a c in
-      let lights = and_right (is_light_operator op) (is_light (scopes env) a && is_light (scopes env) c) l in
+      let lights = (and_parts (is_light_operator op) (is_light (scopes env) a && is_light (scopes env) c) l).1 in
       calm_operator s op _ _ _
       (calm_ordered (is_left_first (scopes env) a c)
       (calm_left s
       (λ next y. light_calm env labels false false (fresh (suc b) (type_of (scopes env) a)) (suc (suc (suc b))) a next
-      (and_left (is_light (scopes env) a) (is_light (scopes env) c) lights) y))
+      (and_parts (is_light (scopes env) a) (is_light (scopes env) c) lights).0 y))
       (calm_right s
       (λ next y. light_calm env labels false false (fresh (suc (suc b)) (type_of (scopes env) c)) (suc (suc (suc b)) + width a) c next
-      (and_right (is_light (scopes env) a) (is_light (scopes env) c) lights) y)) z)
+      (and_parts (is_light (scopes env) a) (is_light (scopes env) c) lights).1 y)) z)
   light_calm env labels valued tail d b (Pointer at w) next l z = absurd (true≢false (sym l))
   light_calm env labels valued tail d b (Nothing at) next l z = absurd (true≢false (sym l))
   light_calm env labels valued tail d b (Float at q es) next l z = absurd (true≢false (sym l))
@@ -379,7 +372,7 @@ module _ (m : Mach) (n : ℕ) (defined : List ℕ → Option DefinedSymbol) wher
         where
           vacant : (s : ℕ) → wy ≡ Some s → slot ≡ s → ⊥
           vacant s q h =
-              ⊎_elim (λ g. let z = Rattle.selection_walks.proofs.Situations.some_same (suc slot) s (sym (hold_same n (suc (suc b)) (suc slot) w g) ∙ q) in omega
+              ⊎_elim (λ g. let z = same_Some (suc slot) s (sym (hold_same n (suc (suc b)) (suc slot) w g) ∙ q) in omega
               (arith, z, h)) (λ g. let l = low s (sym (hold_other n (suc (suc b)) (suc slot) w g) ∙ q) in omega (arith, l, h))
               (Rattle.selection_walks.proofs.Situations.same_or n (suc (suc b)))
 
@@ -400,7 +393,7 @@ module _ (m : Mach) (n : ℕ) (defined : List ℕ → Option DefinedSymbol) wher
         where
           vacant : (s : ℕ) → wx ≡ Some s → suc slot ≡ s → ⊥
           vacant s q h =
-              ⊎_elim (λ g. let z = Rattle.selection_walks.proofs.Situations.some_same slot s (sym (hold_same n (suc b) slot w g) ∙ q) in omega (arith, z, h))
+              ⊎_elim (λ g. let z = same_Some slot s (sym (hold_same n (suc b) slot w g) ∙ q) in omega (arith, z, h))
               (λ g. let l = low s (sym (hold_other n (suc b) slot w g) ∙ q) in omega (arith, l, h))
               (Rattle.selection_walks.proofs.Situations.same_or n (suc b))
 

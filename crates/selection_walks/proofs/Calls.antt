@@ -1,6 +1,5 @@
 -- Rows of operands, and what takes them: calls, blocks and exits.
 use Rattle.std.proofs.Common.{◌≡◌, ℕ, zero, suc, ◌+◌, ◌≤◌, Bool, true, false, cond, not, List, [], ◌∷◌, ◌++◌, Option, Some, None, refl, sym, ap, ◌∙◌, subst, arith}
-use Rattle.std.specs.Prelude.{length}
 use Rattle.std.proofs.lemmas.Bool.{true≢false}
 use Rattle.bs_words.specs.declared.types.Comp.{Comp}
 use Rattle.bs_words.specs.declared.types.Ret.{Ret}
@@ -14,7 +13,7 @@ use Rattle.cmm_types.specs.Types.{Scoped, type_of}
 use Rattle.cmm_types.specs.Standing.{Visible}
 use Rattle.cmm_types.specs.Gathered.{faults_in, row_faults}
 use Rattle.cmm_types.specs.declared.role.Role.{Role}
-use Rattle.cmm_walks.specs.Walks.{Event, Binds, Uses, Passes, Task, Does, Evaluates, MayRaise, Raises, Exits, Slotted, names, is_address, takes, operand, tasks_of, all_operands, called, behind_raise, behind_exit, parameters_bound}
+use Rattle.cmm_walks.specs.Walks.{Passes, Task, Does, MayRaise, Slotted, takes, operand, tasks_of, all_operands, called, behind_raise}
 use Rattle.cmm_walks.specs.Walks as walk
 use Rattle.mach_ir.specs.Meaning.{passes_frame}
 use Rattle.mach_ir.specs.Walks.{Among, first, later, may_raise}
@@ -22,18 +21,14 @@ use Rattle.mach_ir.specs.declared.mach.Instr.{Instr}
 use Rattle.mach_ir.specs.declared.mach.Mach.{Mach}
 use Rattle.mach_ir.specs.declared.reg.Reg.{Reg}
 use Rattle.selection_rules.specs.Instructions as emit
-use Rattle.selection_rules.specs.Instructions.{bare}
 use Rattle.selection_rules.specs.Select.{Named, Label, scopes, fresh, only_when, unless_symbol, symbol_of, callee_regs, regs_of, width, seat, seats, result_seat, from_seat, moves_all, call_of, select, select_waiting, select_filled, Code}
 use Rattle.selection_laws.proofs.Accepting.{left, right}
 use Rattle.selection_laws.specs.Fits.{Fits, RowFits}
 use Rattle.selection_walks.proofs.Phases.{Phase, Flies, the_same, beyond, Told, skipped, past, quietly, Kept, kept_same, kept_then, apart_passes}
-use Rattle.selection_walks.proofs.Situations.{hold, holds, Low, hold_same, hold_other, low_none, low_more, paired_names, Landing, Outs, OutsOf, outs_kept, Sit, sit, go, weak, no_among, no_written, out, Wanted, ApartFrom, through_takes, address_of, same_or, none_some, some_same}
+use Rattle.selection_walks.proofs.Situations.{hold, Low, hold_same, low_none, paired_names, OutsOf, Sit, out, ApartFrom}
 use Rattle.selection_walks.proofs.Operands.{Takes, has_value, waited, all_held, waited_row, held_row, row_stands, Stood, hold_next, next_low, Step, joined, nothing, Scene, at_more, at_hold, Claim, row_operand, row_uncoded}
 use Rattle.selection_walks.proofs.Finals.{used_by, moves_sit, move_on, Meets, calling, leaving}
-
-seats_length : (i b : ℕ) (rs : List Reg) → length rs ≡ length (seats i b rs)
-seats_length i b [] = refl
-seats_length i b (r ∷ rs) = ap suc (seats_length (suc i) (suc b) rs)
+use Rattle.selection_rules.proofs.Rows.{seats_length}
 
 -- seats are numbered from a number on
 seats_high : {n : ℕ} (i b : ℕ) (rs : List Reg) → Among n (seats i b rs) → b ≤ n
@@ -247,7 +242,7 @@ module _ (m : Mach) (n : ℕ) (defined : List ℕ → Option DefinedSymbol) wher
       (emit.external name comps result frame (seats 0 seated (regs_of env b es)) (result_seat given result) ∷ from_seat given result d next))
       (takes at slot (walk.count es) ++ (called frame at ++ tasks))
   external_sit {w = w} {b = b} {slot = slot} {tasks = tasks} want at frame name comps result env es seated given d low ls lg unit x apart o =
-      moves_sit m n (regs_of env b es) (seats 0 seated (regs_of env b es)) _ (seats_length 0 seated (regs_of env b es))
+      moves_sit m n (regs_of env b es) (seats 0 seated (regs_of env b es)) _ (sym (seats_length 0 seated (regs_of env b es)))
       (calling m n (emit.external name comps result frame (seats 0 seated (regs_of env b es)) (result_seat given result)) refl (λ next. refl) refl
       (given_on want result given d unit x apart (λ e. low_none low (omega (arith, e, lg)))) (meets_external frame at refl refl)
       ((held_row n b slot es).kept w low) at slot (walk.count es)
@@ -265,7 +260,7 @@ module _ (m : Mach) (n : ℕ) (defined : List ℕ → Option DefinedSymbol) wher
       (call_of tail wants result o f (seats 0 seated (regs_of env (suc b) es)) given d next))
       (takes at slot (suc (walk.count es)) ++ (called true at ++ tasks))
   call_sit {k} {ts} {w} {b} {slot} {labels} {next} {tasks} want at tail wants result o f env es seated given d fb low ls lg unit x apart outs =
-      moves_sit m n regs args _ (seats_length 0 seated regs) (by tail)
+      moves_sit m n regs args _ (sym (seats_length 0 seated regs)) (by tail)
       (λ a. used_by m n (called true at ++ tasks) at slot (suc (walk.count es)) (stood_later (args_stand env es (suc b) (inner_low o) a)))
     where
       regs : List Reg

@@ -1,6 +1,6 @@
 -- Every form: what is ahead at the code of an expression is ahead where the text evaluates it.
 use Rattle.std.proofs.Common.{◌≡◌, ℕ, suc, ◌+◌, ◌%◌, ◌<◌, ◌≤◌, Bool, true, false, ◌⊎◌, inl, inr, ⊎_elim, List, [], ◌∷◌, ◌++◌, Option, Some, None, refl, sym, ap, ◌∙◌, subst, arith, append_assoc}
-use Rattle.std.specs.Prelude.{length, nat_le}
+use Rattle.std.specs.Prelude.{nat_le}
 use Rattle.std.proofs.lemmas.Bool.{true≢false}
 use Rattle.bs_words.specs.declared.operators.IntOp.{IntOp}
 use Rattle.bs_words.specs.declared.types.Comp.{Comp}
@@ -18,19 +18,18 @@ use Rattle.cmm_types.specs.Gathered.{faults_in, row_faults, bindings_faults}
 use Rattle.cmm_types.specs.Types.{binding_of, type_of, type_without_float, type_named, type_bound, type_of_result, type_of_last, with_bindings, holds_float, is_mutable}
 use Rattle.cmm_types.specs.declared.role.Role.TheVariants as role
 use Rattle.cmm_meaning.specs.Evaluation.{is_left_first, comps_of_arguments}
-use Rattle.cmm_walks.specs.Walks.{Event, Binds, Uses, Passes, Task, Does, Evaluates, Enters, MayRaise, Raises, Exits, Slotted, names, is_address, takes, operand, tasks_of, all_operands, two, called, in_order, entering, bound_at, slot_of, behind_raise, behind_exit}
+use Rattle.cmm_walks.specs.Walks.{Passes, Task, Does, Evaluates, Enters, Raises, Exits, Slotted, names, takes, all_operands, two, called, in_order, bound_at, slot_of, behind_raise, behind_exit}
 use Rattle.cmm_walks.specs.Walks as walk
 use Rattle.mach_ir.specs.declared.mach.Instr.{Instr}
 use Rattle.mach_ir.specs.declared.mach.Mach.{Mach}
 use Rattle.mach_ir.specs.declared.reg.Reg.{Reg}
 use Rattle.selection_rules.specs.Instructions as emit
-use Rattle.selection_rules.specs.Instructions.{bare}
 use Rattle.selection_rules.specs.Select.{shape_of, unless_left, unless_right, ordered, Named, Label, scopes, comp_of, fresh, reg_of, label_of, count_of, regs_of, symbol_of, seat, exit_to, inner_dest, inner_valued, bound_name, env_after, header_offset, chunk_for, width, width_bound, select, select_bound, select_seq, select_waiting, select_filled}
 use Rattle.selection_rules.proofs.Parts.{WellLabelled}
 use Rattle.selection_laws.proofs.Accepting.{left, right}
 use Rattle.selection_laws.specs.Fits.{Fits, RowFits, BindingsFit}
 use Rattle.selection_walks.proofs.Phases.{Kept, kept_same, kept_then}
-use Rattle.selection_walks.proofs.Situations.{hold, hold_same, hold_other, hold_kept, low_none, low_more, same_or, some_same, pair, paired_names, paired_more, looked, OutsOf, outs_kept, Sit, quiet_sit, no_among, one_number, out, Wanted, ApartFrom, inner, inner_apart, binding}
+use Rattle.selection_walks.proofs.Situations.{hold, hold_same, hold_other, hold_kept, low_none, low_more, same_or, pair, paired_names, paired_more, looked, OutsOf, outs_kept, Sit, quiet_sit, no_among, one_number, out, Wanted, ApartFrom, inner, inner_apart, binding}
 use Rattle.selection_walks.proofs.Floats.{has_one}
 use Rattle.selection_walks.proofs.Operands.{has_value, waited, all_held, held_row, row_stands, hold_next, Step, nothing, whole, outs_over, Scene, at_more, Claim, of_claim, count_same}
 use Rattle.selection_walks.proofs.Finals.{IsPlain, ended, used_by, outs_takes, takes_raising, takes_exiting, plain_move, moves_sit}
@@ -42,10 +41,8 @@ use Rattle.selection_walks.proofs.Branches.{Chooses, no_cases, more_cases}
 use Rattle.selection_walks.proofs.Handlers.{Handled, no_handlers, more_handlers, catch_form, try_form}
 use Rattle.selection_walks.proofs.Conditions.{Shaped, shaped, Tests, operator_test, other_test, if_form, switch_form}
 use Rattle.selection_walks.proofs.Accesses.{Bases, whole_base, sum_base, load_form, store_form, checkbound_form}
-
-regs_length : (env : List Named) (b : ℕ) (es : Expressions) → length (regs_of env b es) ≡ row_length es
-regs_length env b NoMore = refl
-regs_length env b (More e rest) = let l = regs_length env (suc b) rest in omega (arith, l)
+use Rattle.selection_rules.proofs.Rows.{regs_length, row_count}
+use Rattle.std.proofs.lemmas.Option.{same_Some}
 
 int_not : (c : Comp) → c ≡ comp.Int → c ≡ comp.Addr → ⊥
 int_not c e q = no (sym e ∙ q)
@@ -239,7 +236,7 @@ module _ (m : Mach) (n : ℕ) (defined : List ℕ → Option DefinedSymbol) wher
       by o e =
           subst (λ u. Sit m n [] k (all_held n (suc b) slot es w) ts labels (exit_to u (regs_of env (suc b) es) next)
           (takes place slot (walk.count es) ++ (Exits label ∷ tasks))) (sym e)
-          (moves_sit m n (regs_of env (suc b) es) x.t.params _ (regs_length env (suc b) es ∙ sym x.arity)
+          (moves_sit m n (regs_of env (suc b) es) x.t.params _ (regs_length env (suc b) es ∙ sym (row_count es) ∙ sym x.arity)
           (takes_sit m n place slot (walk.count es) keeps (exit_sit m n label x.t x.is y.outs))
           (λ a. used_by m n (Exits label ∷ tasks) place slot (walk.count es) (row_stands env es (suc b) slot w scene.low a)))
 
@@ -352,7 +349,7 @@ module _ (m : Mach) (n : ℕ) (defined : List ℕ → Option DefinedSymbol) wher
       back q = ⊎_elim (λ h. sym h) (λ h. let z = at.low slot (sym (hold_other n b slot w h) ∙ q) in let l = z.1 in absurd (omega (arith, l))) (same_or n b)
 
       values : (s : ℕ) → hold n b slot w ≡ Some s → (w ≡ Some s) ⊎ (slot ≤ s)
-      values s q = ⊎_elim (λ h. inr (let i = some_same slot s (sym (hold_same n b slot w h) ∙ q) in omega (arith, i))) (λ h. inl
+      values s q = ⊎_elim (λ h. inr (let i = same_Some slot s (sym (hold_same n b slot w h) ∙ q) in omega (arith, i))) (λ h. inl
           (sym (hold_other n b slot w h) ∙ q)) (same_or n b)
 
       scene : Scene m n (hold n b slot w) (suc (b + width e)) (suc slot) (x ∷ env) (bound ∷ scope) labels vis

@@ -10,7 +10,7 @@ use Rattle.cmm_tree.specs.Tree.{LabelTree, Named as named, Bare, Done, Again, sa
 use Rattle.cmm_types.specs.Standing.{Visible, labels_of, lasting_labels_of}
 use Rattle.cmm_types.specs.Gathered.{faults_in, handlers_faults}
 use Rattle.cmm_types.specs.Types.{type_of, type_without_float, type_of_handlers, with_parameters, holds_float}
-use Rattle.cmm_walks.specs.Walks.{Task, Does, Binds, Evaluates, Catches, Handles, Slotted, behind_raise, behind_exit, or_else, handler_for, parameters_bound, with_slots}
+use Rattle.cmm_walks.specs.Walks.{Task, Evaluates, Catches, Handles, Slotted, behind_exit, or_else, handler_for, parameters_bound, with_slots}
 use Rattle.cmm_walks.specs.Walks as walk
 use Rattle.mach_ir.specs.Acts.{On, drop_tries}
 use Rattle.mach_ir.specs.Meaning.{after_label, code_at, from_handler, tries_at}
@@ -26,12 +26,13 @@ use Rattle.selection_rules.proofs.Endings.{ending_select, ending_handlers}
 use Rattle.selection_laws.proofs.Accepting.{left, right}
 use Rattle.selection_laws.specs.Fits.{Fits, HandlersFit}
 use Rattle.selection_walks.proofs.Phases.{Phase, Bound, Ahead, more_steps, Marked, read_there, moved_on, marked, Told, skipped, quietly, kept_same, apart_binds}
-use Rattle.selection_walks.proofs.Situations.{hold, holds, Low, low_more, low_none, Paired, pair, paired_more, Seen, seen, unseen, Raising, untried, tried, Landing, Outs, OutsOf, outs_kept, outs_less, Sit, sit, go, sit_less, no_among, no_written, one_number, out, Wanted, ApartFrom, inner, inner_apart}
+use Rattle.selection_walks.proofs.Situations.{holds, Low, low_more, pair, paired_more, Seen, seen, unseen, tried, Landing, OutsOf, Sit, sit, go, sit_less, no_among, one_number, out, Wanted, ApartFrom, inner, inner_apart}
 use Rattle.selection_walks.proofs.Finals.{IsPlain, apart_sit, plain_move}
 use Rattle.selection_walks.proofs.Names.{inner_below, wanted_typed}
-use Rattle.selection_walks.proofs.Operands.{Row, Scene, at_row, at_more, Claim, of_claim}
+use Rattle.selection_walks.proofs.Operands.{Scene, at_more, Claim, of_claim}
 use Rattle.selection_walks.proofs.Leavings.{params_row, params_paired, takes_sit}
 use Rattle.selection_walks.proofs.Branches.{on_target, at_target, jump_sit, end_sit, past_sit, wanted_first, wanted_second}
+use Rattle.selection_rules.proofs.Exits.{params_length}
 
 -- ---- labels
 
@@ -52,10 +53,6 @@ same_bare Again (named y) e = refl
 same_bare Again Bare e = absurd (true≢false (sym e))
 same_bare Again Done e = refl
 same_bare Again Again e = refl
-
-params_length : (b : ℕ) (ps : List Parameter) → length (params_from b ps) ≡ length ps
-params_length b [] = refl
-params_length b (p ∷ ps) = ap suc (params_length (suc b) ps)
 
 pub own_seen : {labels : List Label} {vis : List Visible} (l : ℕ) (hs : Handlers) → Seen labels vis → Seen (labels_from l hs ++ labels) (labels_of hs ++ vis)
 own_seen l NoHandler s = s

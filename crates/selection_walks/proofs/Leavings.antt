@@ -11,7 +11,7 @@ use Rattle.bs_fault.specs.Reported.{Faultless, here as one_here}
 use Rattle.cmm_tree.specs.Tree.{LabelTree, Named as named, Bare, Done, Again, same_label, Parameter}
 use Rattle.cmm_types.specs.Standing.{Visible, handler_of}
 use Rattle.cmm_types.specs.Gathered.{exit_faults}
-use Rattle.cmm_walks.specs.Walks.{Event, Binds, Uses, Passes, Task, Does, Evaluates, MayRaise, Raises, Exits, Slotted, names, is_address, takes, behind_raise, behind_exit, parameters_bound, with_slots, slotted_parameter}
+use Rattle.cmm_walks.specs.Walks.{Binds, Passes, Task, Does, Raises, Exits, Slotted, takes, behind_exit, parameters_bound, with_slots}
 use Rattle.cmm_walks.specs.Walks as walk
 use Rattle.mach_ir.specs.Acts.{Target, At}
 use Rattle.mach_ir.specs.Meaning.{code_at}
@@ -26,9 +26,10 @@ use Rattle.selection_rules.specs.Instructions.{bare}
 use Rattle.selection_rules.specs.Select.{Named, Label, label_of, params_from, with_params, cell_stores}
 use Rattle.selection_rules.proofs.Parts.{Placed, placed_next}
 use Rattle.selection_walks.proofs.Phases.{Phase, Early, Bound, Passed, Off, Written, here, there, Addresses, Ahead, read_here, kept_on, wrote_it, Onward, simply, crossed, flew, onward, Marked, read_there, moved_on, marked, Told, skipped, held, past, quietly, any_early, Kept, kept_same, grown, apart_binds, apart_passes}
-use Rattle.selection_walks.proofs.Situations.{hold, holds, Low, hold_same, hold_other, hold_kept, low_none, Paired, pair, paired_more, Seen, unseen, seen, Landing, OutsOf, outs_kept, Sit, sit, go, no_among, no_written, one_number, through_takes, address_of, same_or, some_same}
-use Rattle.selection_walks.proofs.Operands.{Row, all_held, held_row, row_stands, Stood, Scene, at_more}
+use Rattle.selection_walks.proofs.Situations.{hold, holds, Low, hold_same, hold_other, hold_kept, low_none, Paired, pair, paired_more, Seen, unseen, seen, Landing, OutsOf, outs_kept, Sit, sit, go, no_among, no_written, one_number, through_takes, address_of, same_or}
+use Rattle.selection_walks.proofs.Operands.{Row, Stood}
 use Rattle.selection_walks.proofs.Finals.{IsPlain, apart_sit, mute_sit, used_by, outs_takes, move_sit, leaving}
+use Rattle.std.proofs.lemmas.Option.{same_Some}
 
 val_address : comp.Val ≡ comp.Addr → ⊥
 val_address e = cc
@@ -135,7 +136,7 @@ pub params_early : {n : ℕ} {tasks : List Task} (v w : Option ℕ) (b slot : �
 params_early v w b slot [] z t = elim z [ ]
 params_early {n} {tasks} v w b slot (p ∷ ps) (here e a) t =
     subst (λ x. Told Early v (Does (Binds slot x p.at) ∷ (parameters_bound (suc slot) ps ++ tasks))) (sym (address_of (type_of_comp p.comp) a))
-    (held (past_params (suc slot) ps (λ s q. let i = some_same slot s q in omega (arith, i))
+    (held (past_params (suc slot) ps (λ s q. let i = same_Some slot s q in omega (arith, i))
     (subst (λ o. Told Bound o tasks)
     (holds_apart (params_from (suc b) ps) (suc slot) (hold n b slot w) (λ i. let x = params_high (suc b) ps i in let l = x.0 in omega (arith, l, e)) ∙
     hold_same n b slot w (sym e)) t)))
@@ -151,7 +152,7 @@ module _ (m : Mach) (n : ℕ) where
       (params_paired ps (suc b) (suc slot) (hold n b slot w) _ _ (Rattle.selection_walks.proofs.Operands.hold_next low)
       (pair refl (omega arith) (λ e. hold_same n b slot w (sym e)) (λ e. back (hold_back e)) refl
       (paired_more (omega arith) (hold_kept slot (λ e. low_none low (omega (arith, e))))
-      (λ s e. ⊎_elim (λ q. inr (let i = some_same slot s (sym (hold_same n b slot w q) ∙ e) in omega (arith, i)))
+      (λ s e. ⊎_elim (λ q. inr (let i = same_Some slot s (sym (hold_same n b slot w q) ∙ e) in omega (arith, i)))
       (λ q. inl (sym (hold_other n b slot w q) ∙ e)) (same_or n b)) x)))
     where
       back : n ≡ b → b ≡ n

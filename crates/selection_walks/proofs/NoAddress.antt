@@ -20,7 +20,7 @@ use Rattle.mach_ir.specs.declared.mach.Instr.{Instr}
 use Rattle.mach_ir.specs.declared.mach.Mach.{Mach}
 use Rattle.mach_ir.specs.declared.reg.Reg.{Reg}
 use Rattle.selection_rules.specs.Instructions as emit
-use Rattle.selection_rules.specs.Select.{Named, Label, scopes, fresh, label_of, moves_all, params_from, with_params, seat, seats, result_seat, to_seat, returns, is_no_value, selected, select}
+use Rattle.selection_rules.specs.Select.{Named, Label, scopes, fresh, moves_all, params_from, with_params, seat, seats, returns, is_no_value, selected, select}
 use Rattle.selection_rules.specs.Select as select
 use Rattle.selection_rules.proofs.Parts.{Ending, all, more, ending_next, Placed, placed_in}
 use Rattle.selection_rules.proofs.Endings.{ending_select, ending_moves}
@@ -28,13 +28,14 @@ use Rattle.selection_rules.proofs.Labels.{selected_labelled}
 use Rattle.selection_laws.proofs.Accepting.{left, right}
 use Rattle.selection_laws.specs.Fits.{Fits, FunctionFits}
 use Rattle.selection_laws.proofs.WellFormed.{NumbersTell}
-use Rattle.selection_walks.proofs.Phases.{Phase, Early, Bound, Passed, Off, off, Turns, not_yet, stays, writes, crosses, Flies, the_same, beyond, Written, here, there, written_among, Addresses, Ahead, ends, steps, strays, Past, read_here, kept_on, wrote_it, straight, Leaving, read_last, flew_off, leaves, Told, none_passed, none_bound, LiveEarly, live_early, early_walk}
+use Rattle.selection_walks.proofs.Phases.{Phase, Early, Bound, Passed, Off, off, not_yet, stays, writes, crosses, the_same, beyond, Written, here, there, written_among, Addresses, Ahead, ends, steps, strays, Past, read_here, kept_on, wrote_it, straight, Leaving, read_last, flew_off, leaves, Told, none_passed, none_bound, LiveEarly, live_early, early_walk}
 use Rattle.selection_walks.proofs.Situations.{holds, Low, none_some, paired_more, none, unseen, untried, OutsOf, Sit, go, out, Wanted}
 use Rattle.selection_walks.proofs.Floats.{has_one}
 use Rattle.selection_walks.proofs.Operands.{Scene, of_claim}
 use Rattle.selection_walks.proofs.Leavings.{holds_apart, params_row, params_paired, params_early, past_params}
 use Rattle.selection_walks.proofs.Handlers.{scopes_with}
 use Rattle.selection_walks.proofs.Claims.{claim}
+use Rattle.selection_rules.proofs.Rows.{seats_length}
 
 -- ---- places
 
@@ -139,9 +140,6 @@ data Through (m : Mach) (n k : ℕ) (to : List Reg) (next : List Instr) : Phase 
   through : {p : Phase} → Off p (Among n to) → Ahead m n k p next → Through m n k to next p
   wrote : Written n to → Ahead m n k Bound next → Through m n k to next Early
 
-nothing_among : {n : ℕ} → Among n [] → ⊥
-nothing_among a = elim a [ ]
-
 move_through : {m : Mach} {n k : ℕ} {a d : Reg} {to : List Reg} {next : List Instr} {p : Phase} → (p ≡ Passed → n ≡ a.number → ⊥) →
     Through m n k to (emit.move a d ∷ next) p →
     Through m n k (d ∷ to) next p
@@ -153,7 +151,7 @@ move_through {m} {n} {k} {a} {d} {to} {next} np (through {p = p} o y) = by np o 
 
     one : Written n (d ∷ []) → Written n (d ∷ to)
     one (here e c) = here e c
-    one (there i) = absurd (nothing_among (written_among i))
+    one (there i) = elim (written_among i) [ ]
 
     both_off : (p : Phase) → Off p (Among n to) → Off p (Among n (d ∷ [])) → Off p (Among n (d ∷ to))
     both_off Early f g = tt
@@ -162,7 +160,7 @@ move_through {m} {n} {k} {a} {d} {to} {next} np (through {p = p} o y) = by np o 
 
     its_number : Among n (a ∷ []) → n ≡ a.number
     its_number (first e) = sym e
-    its_number (later i) = absurd (nothing_among i)
+    its_number (later i) = elim i [ ]
 
     by : {p : Phase} → (p ≡ Passed → n ≡ a.number → ⊥) → Off p (Among n to) → Past m n k (emit.move a d) next p → Through m n k (d ∷ to) next p
     by np o (read_here i) = absurd (np refl (its_number i))
@@ -175,7 +173,7 @@ move_through {m} {n} {k} {a} {d} {to} {next} np (wrote w y) = by (straight refl 
 
 moves_through : {m : Mach} {n k : ℕ} {p : Phase} (from to : List Reg) (next : List Instr) → length from ≡ length to → (p ≡ Passed → Among n from → ⊥) →
     Ahead m n k p (moves_all from to next) → Through m n k to next p
-moves_through {p = p} [] [] next e np y = through (off p nothing_among) y
+moves_through {p = p} [] [] next e np y = through (off p (λ a. elim a [ ])) y
 moves_through [] (d ∷ to) next e np y = absurd (ne e)
   where
     ne : 0 ≡ suc (length to) → ⊥
@@ -218,7 +216,7 @@ module _ (m : Mach) (n : ℕ) where
   nothing_given : {k : ℕ} {w : Option ℕ} (D : List Reg) → Sit m n D k w [] [] (emit.give_back [] ∷ []) []
   nothing_given D =
       record {
-        cont = λ placed p o y. absurd (end_leaves [] (off p nothing_among) y);
+        cont = λ placed p o y. absurd (end_leaves [] (off p (λ a. elim a [ ])) y);
         given = λ placed f y. absurd (end_bound [] y);
         outs = no_outs;
       }
@@ -263,10 +261,6 @@ has_type ty.Addr Q f e q = let z = f q in cc
 wanted_if : (want : Bool) (m : Mach) (n : ℕ) (t : Ty) → (want ≡ true → t ≡ ty.NoValue → ⊥) → Wanted m n want t
 wanted_if true m n t f = f refl
 wanted_if false m n t f = tt
-
-seats_length : (i b : ℕ) (rs : List Reg) → length (seats i b rs) ≡ length rs
-seats_length i b [] = refl
-seats_length i b (r ∷ rs) = ap suc (seats_length (suc i) (suc b) rs)
 
 not_early : Early ≡ Passed → ⊥
 not_early e = cc

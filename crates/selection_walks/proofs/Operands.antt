@@ -13,16 +13,17 @@ use Rattle.cmm_types.specs.Standing.{Visible}
 use Rattle.cmm_types.specs.Gathered.{faults_in, role_faults}
 use Rattle.cmm_types.specs.declared.role.Role.{Role}
 use Rattle.cmm_types.specs.declared.role.Role.TheVariants as role
-use Rattle.cmm_walks.specs.Walks.{Binds, Uses, Task, Does, Evaluates, Slotted, names, is_address, behind_raise, behind_exit, takes, operand, tasks_of}
+use Rattle.cmm_walks.specs.Walks.{Binds, Task, Does, Evaluates, Slotted, names, is_address, behind_raise, behind_exit, operand, tasks_of}
 use Rattle.cmm_walks.specs.Walks as walk
 use Rattle.mach_ir.specs.Walks.{Among, first, later}
 use Rattle.mach_ir.specs.declared.mach.Instr.{Instr}
 use Rattle.mach_ir.specs.declared.mach.Mach.{Mach}
 use Rattle.mach_ir.specs.declared.reg.Reg.{Reg}
-use Rattle.selection_rules.specs.Select.{Named, Label, scopes, fresh, ordered, only_when, count_of, regs_of, width, select, select_waiting, select_filled, Code}
+use Rattle.selection_rules.specs.Select.{Named, Label, scopes, fresh, count_of, regs_of, select, Code}
 use Rattle.selection_laws.specs.Fits.{Fits}
 use Rattle.selection_walks.proofs.Phases.{Told, skipped, quietly, Kept, kept_same, kept_then, apart_binds}
-use Rattle.selection_walks.proofs.Situations.{hold, Low, hold_same, hold_other, hold_low, hold_kept, low_none, low_more, same_or, some_same, none_some, Paired, paired_names, paired_more, Seen, Raising, Landing, Outs, OutsOf, outs_kept, Sit, sit, go, quiet_sit, out, Wanted, ApartFrom, binding}
+use Rattle.selection_walks.proofs.Situations.{hold, Low, hold_same, hold_other, hold_low, hold_kept, low_none, low_more, same_or, none_some, Paired, paired_names, paired_more, Seen, Raising, Landing, Outs, OutsOf, outs_kept, Sit, sit, go, quiet_sit, out, Wanted, ApartFrom, binding}
+use Rattle.std.proofs.lemmas.Option.{same_Some}
 
 -- what is taken has a value
 abbrev pub Takes : Role → Type 0
@@ -71,7 +72,7 @@ pub next_low : {n b slot : ℕ} {w : Option ℕ} → Low n w b slot → Low n w 
 next_low low = low_more (omega arith) (omega arith) low
 
 hold_values : (n b slot : ℕ) (w : Option ℕ) (s : ℕ) → hold n b slot w ≡ Some s → (w ≡ Some s) ⊎ ((slot ≡ s) × (n ≡ b))
-hold_values n b slot w s e = ⊎_elim (λ q. inr (some_same slot s (sym (hold_same n b slot w q) ∙ e), q)) (λ q. inl (sym (hold_other n b slot w q) ∙ e))
+hold_values n b slot w s e = ⊎_elim (λ q. inr (same_Some slot s (sym (hold_same n b slot w q) ∙ e), q)) (λ q. inl (sym (hold_other n b slot w q) ∙ e))
     (same_or n b)
 
 pub row_none : (n b slot : ℕ) → Row n b slot 0 (λ w. w)

@@ -9,7 +9,7 @@ use Rattle.bs_words.specs.declared.types.Ty.TheVariants as ty
 use Rattle.cmm_tree.specs.Tree.{LabelTree, Parameter}
 use Rattle.cmm_types.specs.Types.{Scoped, binding_of, type_bound_by, type_named}
 use Rattle.cmm_types.specs.Standing.{Visible}
-use Rattle.cmm_walks.specs.Walks.{Event, Binds, Uses, Passes, Task, Does, Slotted, slotted_as, slot_of, names, is_address, behind_raise, behind_exit, parameters_bound, with_slots, takes, operand}
+use Rattle.cmm_walks.specs.Walks.{Binds, Task, Does, Slotted, slotted_as, slot_of, names, is_address, behind_raise, behind_exit, parameters_bound, takes}
 use Rattle.cmm_walks.specs.Walks as walk
 use Rattle.mach_ir.specs.Meaning.{after_label, from_handler}
 use Rattle.mach_ir.specs.Walks.{Among, first, later}
@@ -19,6 +19,7 @@ use Rattle.mach_ir.specs.declared.reg.Reg.{Reg}
 use Rattle.selection_rules.specs.Select.{Named, Label, scopes, comp_of, reg_of, label_of, inner_dest, params_from}
 use Rattle.selection_rules.proofs.Parts.{Placed}
 use Rattle.selection_walks.proofs.Phases.{Phase, Early, Bound, Passed, Off, off, off_less, Written, here, there, Ahead, more_steps, Past, read_here, kept_on, wrote_it, Told, used, skipped, held, quietly, any_early, Kept, kept_then, grown, bound_none, written_among, apart_binds, apart_uses}
+use Rattle.std.proofs.lemmas.Option.{none-some, same_Some}
 
 -- ---- the slot of the register
 
@@ -44,14 +45,8 @@ hold_other n x s w f = ⊎_elim (λ e. absurd (f (sym (eqb-true x n e)))) (λ e.
 pub same_or : (n x : ℕ) → (n ≡ x) ⊎ (n ≡ x → ⊥)
 same_or n x = ⊎_elim (λ e. inl (sym (eqb-true x n e))) (λ e. inr (λ q. true≢false (sym (eq-eqb x n (sym q)) ∙ e))) (cases_Bool (nat_eq x n))
 
-pub some_same : (a b : ℕ) → Some a ≡ Some b → a ≡ b
-some_same a b e = cc
-
 pub none_some : (a : ℕ) {Q : Type 0} → None ≡ Some a → Q
-none_some a e = absurd (ne a e)
-  where
-    ne : (a : ℕ) → None ≡ Some a → ⊥
-    ne a e = cc
+none_some a e = absurd (none-some a e)
 
 pub low_none : {n : ℕ} {w : Option ℕ} {b slot : ℕ} → Low n w b slot → b ≤ n → w ≡ None
 low_none {w = None} l le = refl
@@ -64,7 +59,7 @@ pub hold_low : {n x s : ℕ} {w : Option ℕ} {b slot : ℕ} → x < b → s < s
 hold_low {n} {x} {s} {w} {b} {slot} lx ls l t e = ⊎_elim same (λ f. l t (sym (hold_other n x s w f) ∙ e)) (same_or n x)
   where
     same : n ≡ x → (n < b) × (t < slot)
-    same q = let k = some_same s t (sym (hold_same n x s w q) ∙ e) in (omega (arith, q, lx), omega (arith, k, ls))
+    same q = let k = same_Some s t (sym (hold_same n x s w q) ∙ e) in (omega (arith, q, lx), omega (arith, k, ls))
 
 pub hold_kept : {n x : ℕ} (s : ℕ) {w : Option ℕ} → (n ≡ x → w ≡ None) → Kept w (hold n x s w)
 hold_kept {n} {x} s {w} f t e = ⊎_elim (λ q. none_some t (sym (f q) ∙ e)) (λ q. hold_other n x s w q ∙ e) (same_or n x)

@@ -1,4 +1,3 @@
-pub mod Given
 pub mod Nesting
 pub mod Bytes
 pub mod Taken

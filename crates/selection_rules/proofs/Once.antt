@@ -1,7 +1,8 @@
--- Each register of a new block in selected code is that of one allocation.
-use Rattle.std.proofs.Common.{◌≡◌, ℕ, suc, ◌+◌, ◌<◌, ◌≤◌, Bool, true, false, cond, not, ◌&&◌, ◌⊎◌, inl, inr, ⊎_elim, List, [], ◌∷◌, Option, Some, None, refl, sym, ◌∙◌, arith, le_refl}
+-- Selected code gives a number once: each label is that of one mark, and the register of each new block that of one
+-- allocation.
+use Rattle.std.proofs.Common.{◌≡◌, ℕ, suc, ◌+◌, ◌<◌, ◌≤◌, Bool, true, false, cond, not, ◌&&◌, ◌||◌, ◌⊎◌, inl, inr, ⊎_elim, List, [], ◌∷◌, Option, Some, None, refl, sym, ◌∙◌, arith, le_refl}
 use Rattle.std.specs.Prelude.{nat_eq, length}
-use Rattle.std.proofs.lemmas.Bool.{true≢false, cases_Bool, eqb-true}
+use Rattle.std.proofs.lemmas.Bool.{true≢false, cases_Bool, eqb-true, and_parts, or_left, or_right}
 use Rattle.cmm_tree.specs.Tree.{FunctionTree, Expression, Integer, Pointer, Symbol, Name, Nothing, Float, Let, Assign, Operator, Load, Store, Alloc, App, Extcall, Checkbound, Raise, Seq, If, Switch, Catch, Exit, Try, Expressions, NoMore, More, Bindings, NoBinding, Bind, Cases, NoCase, Choose, Handlers, NoHandler, Handle}
 use Rattle.bs_words.specs.declared.operators.IntOp.{IntOp}
 use Rattle.bs_words.specs.declared.operators.IntOp.TheVariants.{AddA, Div}
@@ -15,11 +16,30 @@ use Rattle.mach_ir.specs.declared.mach.Test.{Test}
 use Rattle.mach_ir.specs.declared.op.Right.{Right}
 use Rattle.mach_ir.specs.declared.op.Right.TheVariants as right
 use Rattle.mach_ir.specs.declared.reg.Reg.{Reg}
+use Rattle.mach_ir.specs.declared.op.Access.TheVariants as access
+use Rattle.mach_ir.specs.declared.op.Op.TheVariants as op
+use Rattle.mach_ir.specs.declared.mach.MachOp.{MachOp}
+use Rattle.mach_ir.specs.declared.mach.MachOp.TheVariants as mach
+use Rattle.mach_ir.specs.Meaning.{has_label, is_handler_of}
+use Rattle.selection_rules.proofs.Parts.{Ending, all, more}
+use Rattle.std.proofs.Math.Bool.{or-false}
 use Rattle.mach_ir.specs.declared.mach.Instr.{Instr}
 use Rattle.selection_rules.specs.Select.{Shape, InRegisters, ConstantRight, ConstantLeft, PowerRight, shape_of, shape_op, shape_right, unless_left, unless_right, power_code, operator_code, Named, Label, scopes, fresh, reg_of, label_of, move_from, move_to, moves_all, exit_to, ordered, only_when, seats, from_seat, to_seat, first, params_from, symbol_of, unless_symbol, right_of, unless_constant, bound_test, comparison, tested, select_test, is_based, select_base, call_of, count_of, count_cases, width_cases, select_cases, cell_stores, regs_of, width, width_row, width_bound, width_labels, width_handlers, select, select_waiting, select_filled, select_bound, select_seq, select_handlers, selected, with_params, is_no_value}
 use Rattle.selection_rules.specs.Instructions as emit
-use Rattle.selection_places.proofs.Owned.{row_sum, row_width}
-use Rattle.selection_places.proofs.Coded.{is_alloc}
+
+-- ---- the numbers that an instruction gives
+
+-- the label of a mark, or of a handler
+abbrev pub marks : ℕ → MachOp → Bool
+marks l op = is_handler_of l op || has_label l op
+
+abbrev pub labelled : ℕ → Instr → Bool
+labelled l i = marks l i.op
+
+-- an allocation
+abbrev pub is_alloc : MachOp → Bool
+is_alloc (mach.Op (op.Access (access.Alloc blocks))) = true
+is_alloc _ = false
 
 abbrev writes : ℕ → List Reg → Bool
 writes l [] = false
@@ -29,23 +49,52 @@ writes l (r ∷ rs) = nat_eq r.number l
 abbrev pub makes : ℕ → Instr → Bool
 makes l i = is_alloc i.op && writes l i.results
 
-pub data NoMark (l : ℕ) : List Instr → Type 0 where
-  none : NoMark l []
-  one : {i : Instr} {is : List Instr} → makes l i ≡ false → NoMark l is → NoMark l (i ∷ is)
+-- a label, or the register of a new block: selection counts both by one number
+abbrev gives : ℕ → Instr → Bool
+gives l i = makes l i || labelled l i
 
--- no register is that of two allocations
-pub data Distinct : List Instr → Type 0 where
-  nil : Distinct []
-  cons : {i : Instr} {is : List Instr} → ((l : ℕ) → makes l i ≡ true → NoMark l is) → Distinct is → Distinct (i ∷ is)
+-- ---- once
 
--- code that allocates for registers of a set alone, each once
+-- no instruction of this code gives that number
+pub data NoMark (given : ℕ → Instr → Bool) (l : ℕ) : List Instr → Type 0 where
+  none : NoMark given l []
+  one : {i : Instr} {is : List Instr} → given l i ≡ false → NoMark given l is → NoMark given l (i ∷ is)
+
+-- no number is given twice
+pub data Distinct (given : ℕ → Instr → Bool) : List Instr → Type 0 where
+  nil : Distinct given []
+  cons : {i : Instr} {is : List Instr} → ((l : ℕ) → given l i ≡ true → NoMark given l is) → Distinct given is → Distinct given (i ∷ is)
+
+pub no_mark_in : {given : ℕ → Instr → Bool} {l : ℕ} {i : Instr} {rest code : List Instr} → Ending (i ∷ rest) code → NoMark given l code →
+    given l i ≡ true → ⊥
+no_mark_in all (one e n) m = true≢false (sym m ∙ e)
+no_mark_in (more x) (one e n) m = no_mark_in x n m
+
+-- of what gives a number, some
+module _ (every some : ℕ → Instr → Bool) (is_given : (l : ℕ) (i : Instr) → some l i ≡ true → every l i ≡ true) where
+  none_of_some : {l : ℕ} {code : List Instr} → NoMark every l code → NoMark some l code
+  none_of_some none = none
+  none_of_some {l} (one {i = i} e n) =
+      one (⊎_elim (λ s. absurd (true≢false (sym (is_given l i s) ∙ e))) (λ s. s) (cases_Bool (some l i))) (none_of_some n)
+
+  some_once : {code : List Instr} → Distinct every code → Distinct some code
+  some_once nil = nil
+  some_once (cons {i = i} apart d) = cons (λ l e. none_of_some (apart l (is_given l i e))) (some_once d)
+
+label_given : (l : ℕ) (i : Instr) → labelled l i ≡ true → gives l i ≡ true
+label_given l i = or_right (makes l i) (labelled l i)
+
+making_given : (l : ℕ) (i : Instr) → makes l i ≡ true → gives l i ≡ true
+making_given l i = or_left (makes l i) (labelled l i)
+
+-- code that gives numbers of a set alone, each once
 record Marks (In : ℕ → Type 0) (code : List Instr → List Instr) : Type 0 where
-  distinct : (next : List Instr) → Distinct next → ((l : ℕ) → In l → NoMark l next) → Distinct (code next)
-  outside : (l : ℕ) (next : List Instr) → (In l → ⊥) → NoMark l next → NoMark l (code next)
+  distinct : (next : List Instr) → Distinct gives next → ((l : ℕ) → In l → NoMark gives l next) → Distinct gives (code next)
+  outside : (l : ℕ) (next : List Instr) → (In l → ⊥) → NoMark gives l next → NoMark gives l (code next)
 
-record Range (lo hi l : ℕ) : Type 0 where
-  from : lo ≤ l
-  to : l < hi
+pub record Range (lo hi l : ℕ) : Type 0 where
+  pub from : lo ≤ l
+  pub to : l < hi
 
 wider : {A B : ℕ → Type 0} {code : List Instr → List Instr} → ((l : ℕ) → A l → B l) → Marks A code → Marks B code
 wider f m = record { distinct = λ next d c. m.distinct next d (λ l a. c l (f l a)); outside = λ l next un n. m.outside l next (λ a. un (f l a)) n }
@@ -69,7 +118,7 @@ both_in {lo} {hi} {a} {b} {c} {d} m n apart la bh lc dh =
 widen : {lo hi a b : ℕ} {x : List Instr → List Instr} → lo ≤ a → b ≤ hi → Marks (Range a b) x → Marks (Range lo hi) x
 widen la bh m = wider (λ l r. record { from = let f = r.from in omega (arith, f, la); to = let t = r.to in omega (arith, t, bh) }) m
 
--- code that allocates nothing
+-- code that gives none
 abbrev Quiet : (List Instr → List Instr) → Type 0
 Quiet code = Marks (λ l. ⊥) code
 
@@ -82,15 +131,15 @@ then_quiet m q = wider (λ l z. ⊎_elim (λ a. a) (λ n. absurd n) z) (seq m q 
 quiet_then : {A : ℕ → Type 0} {x y : List Instr → List Instr} → Quiet x → Marks A y → Marks A (λ next. x (y next))
 quiet_then q m = wider (λ l z. ⊎_elim (λ n. absurd n) (λ a. a) z) (seq q m (λ l n a. n))
 
-unmarked : (i : Instr) → ((l : ℕ) → makes l i ≡ false) → Quiet (λ next. i ∷ next)
+unmarked : (i : Instr) → ((l : ℕ) → gives l i ≡ false) → Quiet (λ next. i ∷ next)
 unmarked i no' = record { distinct = λ next d c. cons (λ l e. absurd (true≢false (sym e ∙ no' l))) d; outside = λ l next un n. one (no' l) n }
 
--- an allocation
-marked : (n : ℕ) (i : Instr) → ((l : ℕ) → makes l i ≡ nat_eq n l) → Marks (Range n (suc n)) (λ next. i ∷ next)
+-- an instruction that gives one
+marked : (n : ℕ) (i : Instr) → ((l : ℕ) → gives l i ≡ nat_eq n l) → Marks (Range n (suc n)) (λ next. i ∷ next)
 marked n i is =
     record {
       distinct = λ next d c. cons (λ l e. c l (in_range l (eqb-true n l (sym (is l) ∙ e)))) d;
-      outside = λ l next un m. one (⊎_elim (λ e. absurd (un (in_range l (eqb-true n l (sym (is l) ∙ e))))) (λ e. e) (cases_Bool (makes l i))) m;
+      outside = λ l next un m. one (⊎_elim (λ e. absurd (un (in_range l (eqb-true n l (sym (is l) ∙ e))))) (λ e. e) (cases_Bool (gives l i))) m;
     }
   where
     in_range : (l : ℕ) → n ≡ l → Range n (suc n) l
@@ -187,27 +236,19 @@ operator_quiet (ConstantLeft i) f x y d = unmarked _ (λ l. refl)
 
 -- ---- light operands
 
-and_left : (a b : Bool) → a && b ≡ true → a ≡ true
-and_left true b e = refl
-and_left false b e = e
-
-and_right : (a b : Bool) → a && b ≡ true → b ≡ true
-and_right true b e = e
-and_right false b e = absurd (true≢false (sym e))
-
 light_quiet : (env : List Named) (labels : List Label) (valued tail : Bool) (d : Reg) (b : ℕ) (e : Expression) → is_light (scopes env) e ≡ true → Quiet
     (select env labels valued tail d b e)
 light_quiet env labels valued tail d b (Integer at w) light = unmarked _ (λ l. refl)
 light_quiet env labels valued tail d b (Symbol at w) light = unmarked _ (λ l. refl)
 light_quiet env labels valued tail d b (Name at x) light = from_quiet (reg_of env x) _
 light_quiet env labels valued tail d b (Operator at op left right) light =
-    let both = and_right (is_light_operator op) (is_light (scopes env) left && is_light (scopes env) right) light in
+    let both = (and_parts (is_light_operator op) (is_light (scopes env) left && is_light (scopes env) right) light).1 in
     then_quiet
     (ordered_quiet (is_left_first (scopes env) left right)
     (left_marks (shape_of op left right) (light_quiet env labels false false _ _ left
-    (and_left (is_light (scopes env) left) (is_light (scopes env) right) both)))
+    (and_parts (is_light (scopes env) left) (is_light (scopes env) right) both).0))
     (right_marks (shape_of op left right) (light_quiet env labels false false _ _ right
-    (and_right (is_light (scopes env) left) (is_light (scopes env) right) both))))
+    (and_parts (is_light (scopes env) left) (is_light (scopes env) right) both).1)))
     (operator_quiet (shape_of op left right) op _ _ _)
 light_quiet env labels valued tail d b (Pointer at w) light = absurd (true≢false (sym light))
 light_quiet env labels valued tail d b (Nothing at) light = absurd (true≢false (sym light))
@@ -228,7 +269,7 @@ light_quiet env labels valued tail d b (Catch at e hs) light = absurd (true≢fa
 light_quiet env labels valued tail d b (Exit at q l es) light = absurd (true≢false (sym light))
 light_quiet env labels valued tail d b (Try at e q x g) light = absurd (true≢false (sym light))
 
-address_is_light : (sc : List Scoped) (e : Expression) → is_light_address sc e ≡ true → is_light sc e ≡ true
+pub address_is_light : (sc : List Scoped) (e : Expression) → is_light_address sc e ≡ true → is_light sc e ≡ true
 address_is_light sc (Operator at AddA left right) light = light
 address_is_light sc e light = absurd (true≢false (sym light))
 
@@ -241,6 +282,23 @@ filled_quiet : (env : List Named) (labels : List Label) (b i : ℕ) (es : Expres
 filled_quiet env labels b i NoMore = nothing_marked
 filled_quiet env labels b i (More e rest) = then_quiet (filled_quiet env labels (suc b) (i + width e) rest)
     (light_when env labels _ i e (is_light_address (scopes env) e) refl)
+
+abbrev pub row_sum : Expressions → ℕ
+row_sum NoMore = 0
+row_sum (More e rest) = width e + row_sum rest
+
+pub row_width : (es : Expressions) → count_of es + row_sum es ≡ width_row es
+row_width NoMore = refl
+row_width (More e rest) = let further = row_width rest in omega (arith, further)
+
+apart_left : {a b c d l : ℕ} → b ≤ c → Range a b l → Range c d l → ⊥
+apart_left le p q = let t = p.to in let f = q.from in omega (arith, t, f, le)
+
+apart_right : {a b c d l : ℕ} → d ≤ a → Range a b l → Range c d l → ⊥
+apart_right le p q = let t = q.to in let f = p.from in omega (arith, t, f, le)
+
+inside : {lo hi a b l : ℕ} → lo ≤ a → b ≤ hi → Range a b l → Range lo hi l
+inside la bh r = let f = r.from in let t = r.to in record { from = omega (arith, f, la); to = omega (arith, t, bh) }
 
 -- the callee of a call, before the operands that have waited where it is no light address, and else after them
 callee_marks : {lo hi : ℕ} (env : List Named) (labels : List Label) (f : Reg) (callee : Expression) (base row i : ℕ) (arguments : Expressions)
@@ -295,17 +353,27 @@ mutual
       let mc = marks_test env labels _ base condition _ (then_quiet (marks_select env labels false false _ base condition) (unmarked _ (λ l. refl))) in
       let mt = marks_select env labels _ tail _ (base + width condition) on_true in
       let mf = marks_select env labels _ tail _ (base + width condition + width on_true) on_false in
-      both_in mc
-      (both_in {lo = base + width condition} {hi = b + width (If at condition on_true on_false)} mt
-      (quiet_then (unmarked _ (λ l. refl)) (then_quiet mf (unmarked _ (λ l. refl)))) (inl (le_refl (base + width condition + width on_true)))
-      (omega arith) (omega arith) (omega arith) (omega arith))
-      (inl (le_refl (base + width condition))) (omega arith) (omega arith) (omega arith) (omega arith)
+      let ml = marked (suc (suc b)) _ (λ l. refl) in
+      let me = marked (suc (suc (suc b))) _ (λ l. refl) in
+      wider
+      (λ l z. ⊎_elim (inside (omega arith) (omega arith)) (λ z. ⊎_elim (inside (omega arith) (omega arith)) (λ z. ⊎_elim (inside (omega arith) (omega arith)) (λ z. ⊎_elim (inside (omega arith) (omega arith)) (inside (omega arith) (omega arith)) z) z) z) z)
+      (seq mc
+      (seq mt
+      (seq ml
+      (seq mf me (λ l p q. apart_right (omega arith) p q))
+      (λ l p q. ⊎_elim (λ q. apart_left (omega arith) p q) (λ q. apart_left (omega arith) p q) q))
+      (λ l p q. ⊎_elim (λ q. apart_right (omega arith) p q) (λ q. ⊎_elim (λ q. apart_left (omega arith) p q) (λ q. apart_right (omega arith) p q) q) q))
+      (λ l p q. ⊎_elim (λ q. apart_left (omega arith) p q) (λ q. ⊎_elim (λ q. apart_right (omega arith) p q) (λ q. ⊎_elim (λ q. apart_left (omega arith) p q) (λ q. apart_right (omega arith) p q) q) q) q))
   marks_select env labels valued tail d b (Catch at body handlers) =
       let base = suc (suc b) + width_labels handlers in
-      let mh = marks_handlers env _ _ tail _ (suc b) (suc (suc b)) (base + width body) handlers in
+      let mh = marks_handlers env _ _ tail _ (suc b) (suc (suc b)) (base + width body) handlers (omega arith) in
       let mb = marks_select env _ _ tail _ base body in
-      quiet_then (unmarked _ (λ l. refl)) (both_in mb (then_quiet mh (unmarked _ (λ l. refl))) (inl (le_refl (base + width body))) (omega arith)
-      (omega arith) (omega arith) (omega arith))
+      let me = marked (suc b) _ (λ l. refl) in
+      quiet_then (unmarked _ (λ l. refl))
+      (wider (λ l z. ⊎_elim (inside (omega arith) (omega arith)) (λ z. ⊎_elim (λ z. ⊎_elim (inside (omega arith) (omega arith)) (inside (omega arith) (omega arith)) z) (inside (omega arith) (omega arith)) z) z)
+      (seq mb
+      (seq mh me (λ l p q. ⊎_elim (λ p. apart_right (omega arith) p q) (λ p. apart_right (omega arith) p q) p))
+      (λ l p q. ⊎_elim (λ q. ⊎_elim (λ q. apart_right (omega arith) p q) (λ q. apart_left (omega arith) p q) q) (λ q. apart_right (omega arith) p q) q)))
   marks_select env labels valued tail d b (Exit at q label arguments) =
       let sum = row_width arguments in
       then_quiet (widen (omega arith) (omega (arith, sum)) (marks_waiting env labels (suc b) (suc b + count_of arguments) arguments))
@@ -315,7 +383,7 @@ mutual
       let row = suc (suc (suc b)) in
       let sum = row_width operands in
       both_in (marks_waiting env labels row (row + count_of operands) operands)
-      (then_quiet (marked (suc b) _ (λ l. refl)) (then_quiet (unmarked _ (λ l. refl)) (then_quiet (unmarked _ (λ l. refl))
+      (then_quiet (marked (suc b) _ (λ l. or-false (nat_eq (suc b) l))) (then_quiet (unmarked _ (λ l. refl)) (then_quiet (unmarked _ (λ l. refl))
       (then_quiet (filled_quiet env labels row (row + count_of operands) operands)
       (then_quiet (cells_quiet _ _ 0 (regs_of env row operands)) (unmarked _ (λ l. refl)))))))
       (inr (omega arith)) (omega arith) (omega (arith, sum)) (omega arith) (omega (arith, sum))
@@ -339,18 +407,29 @@ mutual
       (unmarked _ (λ l. refl))
   marks_select env labels valued tail d b (Switch at q n e cs) =
       let base = suc (suc (suc b)) + count_cases cs in
-      let mc = marks_cases env labels _ tail _ _ (suc (suc b)) (suc (suc (suc b))) (base + width e) cs in
+      let mc = marks_cases env labels _ tail _ _ (suc (suc b)) (suc (suc (suc b))) (base + width e) cs (omega arith) in
       let ms = marks_select env labels false false _ base e in
-      both_in ms (quiet_then (unmarked _ (λ l. refl)) (then_quiet mc (unmarked _ (λ l. refl)))) (inl (le_refl (base + width e))) (omega arith) (omega arith)
-      (omega arith) (omega arith)
+      let me = marked (suc (suc b)) _ (λ l. refl) in
+      wider (λ l z. ⊎_elim (inside (omega arith) (omega arith)) (λ z. ⊎_elim (λ z. ⊎_elim (inside (omega arith) (omega arith)) (inside (omega arith) (omega arith)) z) (inside (omega arith) (omega arith)) z) z)
+      (seq ms
+      (quiet_then (unmarked _ (λ l. refl))
+      (seq mc me (λ l p q. ⊎_elim (λ p. apart_right (omega arith) p q) (λ p. apart_right (omega arith) p q) p)))
+      (λ l p q. ⊎_elim (λ q. ⊎_elim (λ q. apart_right (omega arith) p q) (λ q. apart_left (omega arith) p q) q) (λ q. apart_right (omega arith) p q) q))
   marks_select env labels valued tail d b (Try at e q x g) =
       let base = suc (suc (suc (suc (suc b)))) in
       let mb = marks_select env _ _ false _ base e in
       let mh = marks_select _ labels _ tail _ (base + width e) g in
+      let ml = marked (suc b) _ (λ l. or-false (nat_eq (suc b) l)) in
+      let me = marked (suc (suc b)) _ (λ l. refl) in
       quiet_then (unmarked _ (λ l. refl))
-      (both_in mb
-      (quiet_then (unmarked _ (λ l. refl)) (quiet_then (unmarked _ (λ l. refl)) (quiet_then (unmarked _ (λ l. refl)) (then_quiet mh (unmarked _ (λ l. refl))))))
-      (inl (le_refl (base + width e))) (omega arith) (omega arith) (omega arith) (omega arith))
+      (wider
+      (λ l z. ⊎_elim (inside (omega arith) (omega arith)) (λ z. ⊎_elim (inside (omega arith) (omega arith)) (λ z. ⊎_elim (inside (omega arith) (omega arith)) (inside (omega arith) (omega arith)) z) z) z)
+      (seq mb
+      (quiet_then (unmarked _ (λ l. refl))
+      (seq ml
+      (quiet_then (unmarked _ (λ l. refl)) (seq mh me (λ l p q. apart_right (omega arith) p q)))
+      (λ l p q. ⊎_elim (λ q. apart_left (omega arith) p q) (λ q. apart_left (omega arith) p q) q)))
+      (λ l p q. ⊎_elim (λ q. apart_right (omega arith) p q) (λ q. ⊎_elim (λ q. apart_left (omega arith) p q) (λ q. apart_right (omega arith) p q) q) q)))
 
   marks_base : (env : List Named) (labels : List Label) (t b : ℕ) (e : Expression) (whole : List Instr → List Instr) → Marks (Range b (b + width e)) whole →
       Marks (Range b (b + width e)) (select_base env labels t b e whole)
@@ -371,13 +450,18 @@ mutual
       v
   marks_test env labels l b e value v = v
 
-  marks_cases : (env : List Named) (labels : List Label) (valued tail : Bool) (d : Reg) (places : List ℕ) (end l i : ℕ) (cs : Cases) → Marks
-      (Range i (i + width_cases cs)) (select_cases env labels valued tail d places end l i cs)
-  marks_cases env labels valued tail d places end l i NoCase = quiet_in nothing_marked
-  marks_cases env labels valued tail d places end l i (Choose indexes body rest) =
-      let mr = marks_cases env labels valued tail d places end (suc l) (i + width body) rest in
+  marks_cases : (env : List Named) (labels : List Label) (valued tail : Bool) (d : Reg) (places : List ℕ) (end l i : ℕ) (cs : Cases) → l + count_cases cs ≤ i →
+      Marks (λ n. Range l (l + count_cases cs) n ⊎ Range i (i + width_cases cs) n) (select_cases env labels valued tail d places end l i cs)
+  marks_cases env labels valued tail d places end l i NoCase le = quiet_in nothing_marked
+  marks_cases env labels valued tail d places end l i (Choose indexes body rest) le =
+      let mr = marks_cases env labels valued tail d places end (suc l) (i + width body) rest (omega (arith, le)) in
+      let ml = marked l _ (λ n. refl) in
       let mb = marks_select env labels valued tail d i body in
-      quiet_then (unmarked _ (λ l. refl)) (both_in mb mr (inl (le_refl (i + width body))) (omega arith) (omega arith) (omega arith) (omega arith))
+      wider
+      (λ n z. ⊎_elim (λ r. inl (inside (omega arith) (omega arith) r)) (λ z. ⊎_elim (λ r. inr (inside (omega arith) (omega arith) r)) (λ z. ⊎_elim (λ r. inl (inside (omega arith) (omega arith) r)) (λ r. inr (inside (omega arith) (omega arith) r)) z) z) z)
+      (seq ml
+      (seq mb mr (λ n p q. ⊎_elim (λ q. apart_right (omega (arith, le)) p q) (λ q. apart_left (omega arith) p q) q))
+      (λ n p q. ⊎_elim (λ q. apart_left (omega (arith, le)) p q) (λ q. ⊎_elim (λ q. apart_left (omega arith) p q) (λ q. apart_left (omega (arith, le)) p q) q) q))
 
   marks_waiting : (env : List Named) (labels : List Label) (b i : ℕ) (es : Expressions) → Marks (Range i (i + row_sum es)) (select_waiting env labels b i es)
   marks_waiting env labels b i NoMore = quiet_in nothing_marked
@@ -400,13 +484,18 @@ mutual
       both_in (marks_select env labels false false _ (suc b) e) (marks_seq env labels valued tail d (suc (b + width e)) (More g rest)) (inl (omega arith))
       (omega arith) (omega arith) (omega arith) (omega arith)
 
-  marks_handlers : (env : List Named) (labels : List Label) (valued tail : Bool) (d : Reg) (end l i : ℕ) (hs : Handlers) → Marks
-      (Range i (i + width_handlers hs)) (select_handlers env labels valued tail d end l i hs)
-  marks_handlers env labels valued tail d end l i NoHandler = quiet_in nothing_marked
-  marks_handlers env labels valued tail d end l i (Handle at label params body rest) =
-      let mr = marks_handlers env labels valued tail d end (suc l + length params) (i + width body) rest in
+  marks_handlers : (env : List Named) (labels : List Label) (valued tail : Bool) (d : Reg) (end l i : ℕ) (hs : Handlers) → l + width_labels hs ≤ i →
+      Marks (λ n. Range l (l + width_labels hs) n ⊎ Range i (i + width_handlers hs) n) (select_handlers env labels valued tail d end l i hs)
+  marks_handlers env labels valued tail d end l i NoHandler le = quiet_in nothing_marked
+  marks_handlers env labels valued tail d end l i (Handle at label params body rest) le =
+      let mr = marks_handlers env labels valued tail d end (suc l + length params) (i + width body) rest (omega (arith, le)) in
+      let ml = marked l _ (λ n. refl) in
       let mb = marks_select _ labels valued tail d i body in
-      quiet_then (unmarked _ (λ l. refl)) (both_in mb mr (inl (le_refl (i + width body))) (omega arith) (omega arith) (omega arith) (omega arith))
+      wider
+      (λ n z. ⊎_elim (λ r. inl (inside (omega arith) (omega arith) r)) (λ z. ⊎_elim (λ r. inr (inside (omega arith) (omega arith) r)) (λ z. ⊎_elim (λ r. inl (inside (omega arith) (omega arith) r)) (λ r. inr (inside (omega arith) (omega arith) r)) z) z) z)
+      (seq ml
+      (seq mb mr (λ n p q. ⊎_elim (λ q. apart_right (omega (arith, le)) p q) (λ q. apart_left (omega arith) p q) q))
+      (λ n p q. ⊎_elim (λ q. apart_left (omega (arith, le)) p q) (λ q. ⊎_elim (λ q. apart_left (omega arith) p q) (λ q. apart_left (omega (arith, le)) p q) q) q))
 
 returns_quiet : (d : Reg) (n : ℕ) (result : Ret) → Quiet (to_seat d n result)
 returns_quiet d n ret.Unit = nothing_marked
@@ -425,6 +514,17 @@ whole_marks f =
     quiet_then (moves_quiet (seats 0 first (params_from (first + length f.params) f.params)) (params_from (first + length f.params) f.params))
     (then_quiet (marks_select _ [] _ true _ _ f.body) (returns_quiet _ _ (result_of (body_type f))))
 
+once : (f : FunctionTree) → Distinct gives (selected f).code
+once f = let whole = whole_marks f in whole.distinct _ (cons (λ l e. absurd (true≢false (sym e))) nil) (λ l r. one refl none)
+
+-- Each label of selected code is marked once.
+pub selected_once : (f : FunctionTree) → Distinct labelled (selected f).code
+selected_once f = some_once gives labelled label_given (once f)
+
 -- No register of a new block is written by two allocations.
-pub selected_once : (f : FunctionTree) → Distinct (selected f).code
-selected_once f = let whole = whole_marks f in whole.distinct _ (cons (λ l e. absurd (true≢false (sym e))) nil) (λ l r. one refl none)
+pub selected_makes_once : (f : FunctionTree) → Distinct makes (selected f).code
+selected_makes_once f = some_once gives makes making_given (once f)
+
+-- Each label of selected code is below the number of its labels.
+pub selected_below : (f : FunctionTree) (l : ℕ) → (l < (selected f).labels → ⊥) → NoMark labelled l (selected f).code
+selected_below f l above = let whole = whole_marks f in none_of_some gives labelled label_given (whole.outside l _ (λ r. above r.to) (one refl none))
