@@ -3,6 +3,7 @@ use Rattle.std.proofs.Common.{◌≡◌, ℕ, zero, suc, ◌<◌, Bool, true, fa
 use Rattle.std.specs.List.{Contains}
 use Rattle.std.specs.Prelude.{slice_index_or}
 use Rattle.std.proofs.lemmas.List.{length-append}
+use Rattle.std.proofs.lemmas.List.Elements.{All-contains}
 use Rattle.bs_words.specs.declared.types.Comp.{Comp}
 use Rattle.combine_rules.specs.Combined.{joins, bytes_past, open_past, Scanned, allocation, allocated, scanned_at, scan}
 use Rattle.combine_rules.specs.Kept.{holds_block, IsCombinable}
@@ -29,7 +30,7 @@ use Rattle.mach_laws.specs.Expand.{Ending}
 use Rattle.mach_laws.proofs.Places.{ending_next}
 use Rattle.mach_laws.proofs.Walking.{first_in, later_in}
 use Rattle.places_rules.proofs.Walked.{left_among, split_among, stands_of}
-use Rattle.split_rules.proofs.Formed.{contains_of, of_each}
+use Rattle.split_rules.proofs.Formed.{contains_of}
 use Rattle.split_rules.proofs.Text.{number_among}
 
 -- ---- allocations that are formed
@@ -109,7 +110,7 @@ module _ (m : Mach) (is : IsCombinable m) where
   pub allocation_at : {i : Instr} {next : List Instr} → Ending (i ∷ next) m.code → (blocks : List NewBlock) → Allocates i blocks →
       IsAllocation i blocks
   allocation_at {i} e blocks a =
-      formed_allocation (of_each IsFormed m.code i (is.formed).instrs (contains_of (stands_of e))) blocks a
+      formed_allocation (All-contains IsFormed m.code i (is.formed).instrs (contains_of (stands_of e))) blocks a
 
   -- ---- where a register is awaited
 
@@ -193,7 +194,7 @@ module _ (m : Mach) (is : IsCombinable m) where
           Distinct (allocated b blocks i.results (scan o next)).results
       by_joins false blocks o ih = no_regs
       by_joins true blocks o ih =
-          distinct_append (distinct_of_pairs i.results (of_each (λ (i : Instr). AreDistinct i.results) m.code i (is.formed).distinct (contains_of (stands_of e))))
+          distinct_append (distinct_of_pairs i.results (All-contains (λ (i : Instr). AreDistinct i.results) m.code i (is.formed).distinct (contains_of (stands_of e))))
           ih (λ n x y. apart_from o e y (left_among i.results _ x))
 
       none : {rs : List Reg} → rs ≡ [] → Distinct rs

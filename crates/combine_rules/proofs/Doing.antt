@@ -1,7 +1,7 @@
 -- The result does what the function does: it may have allocated blocks already that the function has not yet.
 use Rattle.std.proofs.Common.{◌≡◌, ℕ, ◌+◌, Bool, true, false, ◌⊎◌, inl, inr, ⊎_elim, List, [], ◌∷◌, ◌++◌, length, Option, Some, None, refl, sym, ap, ◌∙◌, subst, arith}
 use Rattle.std.proofs.lemmas.Bool.{true≢false}
-use Rattle.std.proofs.lemmas.List.{length-append}
+use Rattle.std.proofs.lemmas.List.{length-append, nil_from_length}
 use Rattle.bs_words.specs.declared.values.Value.{Value}
 use Rattle.combine_rules.specs.Combined.{Scanned, allocation, allocated, combined}
 use Rattle.combine_rules.specs.Kept.{IsCombinable}
@@ -33,10 +33,6 @@ use Rattle.mach_laws.proofs.Leads.{Within, goes_in, pushes_in, jumps_in, unwinds
 use Rattle.mach_laws.proofs.Places.{ending_next, ending_label, ending_from_handler, ending_land as ending_landing}
 use Rattle.mach_laws.proofs.Simulate.{Agrees}
 use Rattle.places_rules.proofs.Walked.{left_among, right_among, split_among}
-
-none_length : {A : Type 0} (xs : List A) → length xs ≡ 0 → xs ≡ []
-none_length [] e = refl
-none_length (x ∷ xs) e = absurd (omega (arith, e))
 
 none_among : {A : Type 0} {n : ℕ} → Among n [] → A
 none_among a = elim a [ ]
@@ -75,7 +71,7 @@ module _ (m : Mach) (is : IsCombinable m) where
 
   pub no_blocks : {rest : List Instr} → Ending rest m.code → (at_place rest).results ≡ [] → (at_place rest).blocks ≡ []
   no_blocks {rest} e r =
-      none_length (at_place rest).blocks
+      nil_from_length (at_place rest).blocks
       (sym (counted m is (open_at (length rest) None m.code) rest e) ∙ ap length r)
 
   pub quiet : {a b : File} (rest : List Instr) (x : Around) → Ending rest m.code → (at_place rest).results ≡ [] →

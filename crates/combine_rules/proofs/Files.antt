@@ -2,7 +2,8 @@
 use Rattle.std.proofs.Common.{◌≡◌, ℕ, suc, ◌+◌, Bool, true, false, cond, List, [], ◌∷◌, ◌++◌, length, Option, Some, None, refl, sym, ap, ◌∙◌, subst, arith, append_assoc}
 use Rattle.std.specs.Prelude.{nat_eq}
 use Rattle.std.proofs.lemmas.Bool.{true≢false, eq-eqb, eqb-true}
-use Rattle.std.proofs.lemmas.List.{length-append}
+use Rattle.std.proofs.lemmas.List.{length-append, append-nil}
+use Rattle.std.proofs.lemmas.Option.{none-some, same_Some}
 use Rattle.bs_words.specs.Fits.{fits, type_of_comp}
 use Rattle.bs_words.specs.declared.types.Comp.{Comp}
 use Rattle.bs_words.specs.declared.types.Comp.TheVariants as comp
@@ -15,7 +16,7 @@ use Rattle.mach_ir.specs.Meaning.{Held, File, put, put_if, put_all, clear, value
 use Rattle.mach_ir.specs.Walks.{Among, first, later}
 use Rattle.mach_ir.specs.declared.blocks.NewBlock.{NewBlock}
 use Rattle.mach_ir.specs.declared.reg.Reg.{Reg}
-use Rattle.places_rules.proofs.Files.{none_some, some_same, put_here, put_other}
+use Rattle.places_rules.proofs.Files.{put_here, put_other}
 
 -- ---- writes, one by one
 
@@ -39,8 +40,8 @@ put_view end (r ∷ rs) [] a = is_stuck
 put_view end (r ∷ rs) (v ∷ vs) a = view_if r v (fits end (type_of_comp r.comp) v) refl (put_view end rs vs a)
 
 pub put_of : {end : ℕ} {rs : List Reg} {vs : List Value} {a d : File} (o : Option File) → PutView end rs vs a o → o ≡ Some d → PutAll end a rs vs d
-put_of o is_stuck e = absurd (none_some e)
-put_of {end} {rs} {vs} {a} o (is_put p) e = subst (λ x. PutAll end a rs vs x) (some_same e) p
+put_of o is_stuck e = absurd (none-some _ e)
+put_of {end} {rs} {vs} {a} o (is_put p) e = subst (λ x. PutAll end a rs vs x) (same_Some _ _ e) p
 
 pub put_is : {end : ℕ} {a : File} {rs : List Reg} {vs : List Value} {d : File} → PutAll end a rs vs d → put_all end rs vs a ≡ Some d
 put_is nil = refl
@@ -93,11 +94,11 @@ frame_has false a b n h = h
 frame_has true a b n h = by (a n) refl
   where
     by_addr : (x : Held) → a n ≡ Some x → (t : Bool) → is_addr x.comp ≡ t → Has (cond t None (Some x)) (unless_addr (b n))
-    by_addr x e true t v g = absurd (none_some g)
+    by_addr x e true t v g = absurd (none-some _ g)
     by_addr x e false t v g = ap unless_addr (h x e) ∙ ap (λ z. cond z None (Some x)) t ∙ g
 
     by : (o : Option Held) → a n ≡ o → Has (unless_addr o) (unless_addr (b n))
-    by None e v g = absurd (none_some g)
+    by None e v g = absurd (none-some _ g)
     by (Some x) e v g = by_addr x e (is_addr x.comp) refl v g
 
 -- ---- starts of blocks
@@ -185,7 +186,7 @@ frame_loses false a n v e = e
 frame_loses true a n v e = by (a n) e
   where
     by_addr : (x : Held) (t : Bool) → cond t None (Some x) ≡ Some v → Some x ≡ Some v
-    by_addr x true g = absurd (none_some g)
+    by_addr x true g = absurd (none-some _ g)
     by_addr x false g = g
 
     by : (o : Option Held) → unless_addr o ≡ Some v → o ≡ Some v
@@ -210,10 +211,6 @@ values_has a b (r ∷ rs) h vs e = by (a r.number) (values a rs) refl refl (λ w
 
 -- ---- what an allocation makes
 
-appended_none : {A : Type 0} (xs : List A) → xs ++ [] ≡ xs
-appended_none [] = refl
-appended_none (x ∷ xs) = ap (λ ys. x ∷ ys) (appended_none xs)
-
 pub length_ahead : (bs : List NewBlock) (a : Around) → length (ahead bs a).memory.blocks ≡ length a.memory.blocks + length bs
 length_ahead [] a = omega arith
 length_ahead (b ∷ bs) a =
@@ -223,7 +220,7 @@ length_ahead (b ∷ bs) a =
 
 pub allocated : (bs : List NewBlock) (rs : List Reg) (so_far : List Value) (a : Around) → length rs ≡ length bs →
     new_blocks bs so_far a ≡ Goes (so_far ++ starts (length a.memory.blocks) rs) On (ahead bs a)
-allocated [] [] so_far a e = ap (λ vs. Goes vs On a) (sym (appended_none so_far))
+allocated [] [] so_far a e = ap (λ vs. Goes vs On a) (sym (append-nil so_far))
 allocated [] (r ∷ rs) so_far a e = absurd (omega (arith, e))
 allocated (b ∷ bs) [] so_far a e = absurd (omega (arith, e))
 allocated (b ∷ bs) (r ∷ rs) so_far a e =

@@ -1,6 +1,6 @@
 -- In the function without its dead instructions a register is live exactly where it was used.
 use Rattle.std.proofs.Common.{◌≡◌, ℕ, Bool, true, false, ⊎_elim, List, [], ◌∷◌, length, refl, sym, ap, ◌∙◌, subst}
-use Rattle.std.proofs.lemmas.Bool.{cases_Bool}
+use Rattle.std.proofs.lemmas.Bool.{cases_Bool, both_ways}
 use Rattle.mach_ir.specs.Acts.{Target, On, At}
 use Rattle.mach_ir.specs.Meaning.{after_label, from_handler, code_at, killed, tries_at, tries_past}
 use Rattle.mach_ir.specs.Walks as walks
@@ -13,7 +13,7 @@ use Rattle.mach_laws.proofs.Places.{label_expand, handler_expand, tries_expand, 
 use Rattle.places_rules.proofs.Lists.{head_same, tail_same, none_there}
 use Rattle.places_rules.proofs.Walked.{split_among, stands_of}
 use Rattle.dead_rules.specs.Dropped.{may_go, IsUsed, read, read_for, on, aside, without, dropped, AreDead}
-use Rattle.dead_rules.proofs.Text.{differ, pure_of, pure_on, pure_only, pure_quiet, pure_kills, Fate, falls, remains, fate, keeps_marks}
+use Rattle.dead_rules.proofs.Text.{pure_of, pure_on, pure_only, pure_quiet, pure_kills, Fate, falls, remains, fate, keeps_marks}
 
 among_none : (n : ℕ) → Among n [] → ⊥
 among_none n a = elim a [ ]
@@ -125,7 +125,7 @@ module _ (m : Mach) (drops : ℕ → Bool) (dead : AreDead m drops) where
   used_there {n} (read {i = i} {next = next} e a) ending = by (fate drops i next)
     where
       by : Fate drops i next → Live q n (expand f (i ∷ next))
-      by (falls g d s h) = absurd (differ (may_go i.op) g e)
+      by (falls g d s h) = absurd (both_ways (may_go i.op) e g)
       by (remains k s h) = subst (Live q n) (sym h) (walks.read a)
   used_there {n} (read_for {k = k} {i = i} {next = next} e a r u) ending = by (fate drops i next)
     where
@@ -149,7 +149,7 @@ module _ (m : Mach) (drops : ℕ → Bool) (dead : AreDead m drops) where
       by (fate drops i next) (used_there u (ending_from_handler l m.code))
     where
       by : Fate drops i next → Live q n (expand f (from_handler l m.code)) → Live q n (expand f (i ∷ next))
-      by (falls g d s e) v = absurd (differ (may_raise i.op) r (pure_quiet (pure_of i.op g)))
+      by (falls g d s e) v = absurd (both_ways (may_raise i.op) (pure_quiet (pure_of i.op g)) r)
       by (remains k s e) v =
           subst (Live q n) (sym e)
           (walks.aside (raises r (tries_here i next refl ∙ h)) (subst (Live q n) (sym (handler_is l)) v))

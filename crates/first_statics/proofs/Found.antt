@@ -2,7 +2,7 @@
 use Rattle.std.proofs.Common.{◌≡◌, ℕ, zero, suc, ◌+◌, ◌-◌, ◌*◌, ◌/◌, ◌%◌, ◌^◌, ◌<◌, ◌≤◌, Bool, true, false, cond, ◌&&◌, ◌==◌, nat_le, List, [], ◌∷◌, ◌++◌, length, map, Option, Some, None, refl, ap, ◌∙◌, sym, subst, ◌⊎◌, inl, inr, ⊎_elim, length-append, append_assoc, arith}
 use Rattle.std.specs.Prelude.{slice_index, slice_index_or, IsSome}
 use Rattle.std.specs.List.{AllByRecursion}
-use Rattle.std.proofs.lemmas.Bool.{and_parts, leb-true, le-leb, eqb-true}
+use Rattle.std.proofs.lemmas.Bool.{and_parts, leb-true, le-leb, eqb-true, false≢true, and_from}
 use Rattle.std.proofs.lemmas.Nat.{pow-add}
 use Rattle.std.proofs.lemmas.List.{length-map, get_or_append_left, get_or-append-add, get_or-map}
 use Rattle.std.proofs.lemmas.Grind.{flat_map-append}
@@ -181,9 +181,6 @@ low_bytes (suc k) w h =
 odd_word : (w rest : ℕ) → w % 2 ≡ 1 → (w % 256 + 256 * rest) % 2 ≡ 1
 odd_word w rest h = omega (arith, h)
 
-nothing : false ≡ true → ⊥
-nothing e = cc
-
 root_symbol : (file : FileTree) (o : Option Value) → data_end file < 2 ^ 64 → ((v : Value) → o ≡ Some v → IsOfFile (length (functions file)) (data_end file) v) → IsSome o →
     (length (symbol_bytes o) ≡ 8) × IsRootValue (length (functions file)) (data_end file) (cell_of (symbol_bytes o))
 root_symbol file (Some (Word a)) small h some =
@@ -192,7 +189,7 @@ root_symbol file (Some (Word a)) small h some =
     (refl, subst (λ w. IsRootValue (length (functions file)) (data_end file) (Word w)) (sym same) (inr own))
 root_symbol file (Some (Function f)) small h some = (refl, h (Function f) refl)
 root_symbol file (Some (Block serial offset)) small h some = absurd (h (Block serial offset) refl)
-root_symbol file None small h some = absurd (nothing some)
+root_symbol file None small h some = absurd (false≢true some)
 
 -- a root item that stands here
 root_datum : (file : FileTree) (address : ℕ) (datum : DatumTree) (r : ℕ) → data_end file < 2 ^ 64 → keeps_rule address datum ≡ true → IsGiven file datum →
@@ -205,7 +202,7 @@ root_datum file address (Val (Some w)) r small keeps given (inl e) =
       long = refl;
       value = inl (odd_word w (word_of_bytes (little_endian 7 (w / 256))) (eqb-true (w % 2) 1 both.1));
     }
-root_datum file address (Val None) r small keeps given (inl e) = absurd (nothing given)
+root_datum file address (Val None) r small keeps given (inl e) = absurd (false≢true given)
 root_datum file address (Val w) r small keeps given (inr z) = absurd z
 root_datum file address (Address true name_at name) r small keeps given (inl e) =
     let own = root_symbol file (value_of_symbol file name) small (symbol_of_file file name) given in
@@ -304,13 +301,8 @@ pub record IsRootFound (file : FileTree) (statics : List StaticList) (r : ℕ) :
   pub there : value_at statics r ≡ Some held
   pub value : IsRootValue (length (functions file)) (data_end file) held
 
-pub both_true : (a b : Bool) → a ≡ true → b ≡ true → (a && b) ≡ true
-both_true true true e f = refl
-both_true false b e f = absurd (cc)
-both_true true false e f = absurd (cc)
-
 in_list : (l : StaticList) (r : ℕ) → l.start ≤ r → r + 1 ≤ l.start + l.size → has_byte l r ≡ true
-in_list l r low high = both_true (nat_le l.start r) (nat_le (r + 1) (l.start + l.size)) (le-leb l.start r low) (le-leb (r + 1) (l.start + l.size) high)
+in_list l r low high = and_from (nat_le l.start r) (nat_le (r + 1) (l.start + l.size)) (le-leb l.start r low) (le-leb (r + 1) (l.start + l.size) high)
 
 past_list : (l : StaticList) (r : ℕ) → l.start + l.size ≤ r → has_byte l r ≡ false
 past_list l r high = by (has_byte l r) refl

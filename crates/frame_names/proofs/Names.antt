@@ -1,6 +1,6 @@
 -- Exact descriptors name what is live.
 use Rattle.std.proofs.Common.{◌≡◌, ◌≢◌, ◌↔◌, ℕ, suc, ◌+◌, ◌-◌, ◌*◌, ◌/◌, ◌%◌, ◌<◌, Bool, true, false, cond, nat_eq, List, [], ◌∷◌, map, length, refl, sym, ap, ◌∙◌, subst, arith}
-use Rattle.std.proofs.lemmas.Bool.{true≢false, eq-eqb, eqb-true}
+use Rattle.std.proofs.lemmas.Bool.{true≢false, eq-eqb, eqb-true, ne_eqb}
 use Rattle.std.proofs.lemmas.List.{get_or-map, length-map}
 use Rattle.std.proofs.lemmas.List.Elements.{Contains-get_or}
 use Rattle.std.specs.List.{AllPairs, Contains}
@@ -26,13 +26,6 @@ use Rattle.frame_names.specs.Names.{location, traps_of, locations, names_at, nam
 
 -- ---- entries
 
-not_equal : (n k : ℕ) → (n ≡ k → ⊥) → nat_eq n k ≡ false
-not_equal n k ne = by (nat_eq n k) refl
-  where
-    by : (b : Bool) → nat_eq n k ≡ b → nat_eq n k ≡ false
-    by false e = e
-    by true e = absurd (ne (eqb-true n k e))
-
 location_is : (traps : ℕ) (l : Loc) (entry : ℕ) → IsEntry traps l entry → location traps entry ≡ l
 location_is traps (loc.Machine r) entry (of_register) =
     let odd : (2 * r + 1) % 2 ≡ 1 = omega arith in
@@ -42,7 +35,7 @@ location_is traps (loc.Slot k) entry (of_slot) =
     let even : (8 * k + 16 * traps) % 2 ≡ 0 = omega arith in
     let slot : (8 * k + 16 * traps - 16 * traps) / 8 ≡ k = omega arith in
     ap (λ b. cond b (loc.Machine ((8 * k + 16 * traps) / 2)) (loc.Slot ((8 * k + 16 * traps - 16 * traps) / 8)))
-    (not_equal ((8 * k + 16 * traps) % 2) 1 (λ e. one_none ((8 * k + 16 * traps) % 2) even e)) ∙ ap loc.Slot slot
+    (ne_eqb ((8 * k + 16 * traps) % 2) 1 (λ e. one_none ((8 * k + 16 * traps) % 2) even e)) ∙ ap loc.Slot slot
   where
     one_none : (n : ℕ) → n ≡ 0 → n ≡ 1 → ⊥
     one_none n e f = omega (arith, e, f)

@@ -1,7 +1,7 @@
 -- Where the handlers of pushed traps are entered.
 use Rattle.std.proofs.Common.{◌≡◌, ◌≢◌, ℕ, Bool, true, false, cond, List, [], ◌∷◌, ◌++◌, AllPairs, refl, sym, ap, ◌∙◌, subst}
 use Rattle.std.specs.List.{Contains}
-use Rattle.std.proofs.lemmas.Bool.{true≢false, eqb-true}
+use Rattle.std.proofs.lemmas.Bool.{true≢false, eqb-true, eq-eqb}
 use Rattle.lin_ir.specs.Formed.{EntersAt, enters_here, enters_below, pushes, WellFormed, label_of, labels_in}
 use Rattle.lin_ir.specs.Meaning.{after_label, has_label}
 use Rattle.lin_ir.specs.Walks.{goes, raises, Reached, at_entry, by_step, by_raise, tries_after}
@@ -13,7 +13,6 @@ use Rattle.lin_ir.specs.declared.lin.LinOp.TheVariants as lin
 use Rattle.linear_rules.proofs.Homes.{IsIn, contains_of, is_first, is_later}
 use Rattle.linear_rules.proofs.Marks.{all_in, pairs_here, pairs_later}
 use Rattle.linear_rules.proofs.Walked.{reached_tail, tail_in}
-use Rattle.function_stands.proofs.Parts.{same_yes}
 
 -- ---- traps are pushed by lines
 
@@ -81,7 +80,7 @@ differ_later (k ∷ ks) ls h = differ_later ks ls (pairs_later Differ k (ks ++ l
 pub enters : (l : ℕ) (code : List Line) → AllPairs Differ (labels_in code) → EntersAt l code → Enters code l
 enters l [] differ z = elim z [ ]
 enters l (i ∷ j ∷ is) differ (enters_here e u) =
-    record { line = j; next = is; is = ap (λ b. cond b (j ∷ is) (after_label l (j ∷ is))) (ap (has_label l) e ∙ same_yes l); enters = u }
+    record { line = j; next = is; is = ap (λ b. cond b (j ∷ is) (after_label l (j ∷ is))) (ap (has_label l) e ∙ eq-eqb l l refl); enters = u }
 enters l (i ∷ is) differ (enters_below z) = by (has_label l i.op) refl (enters l is (differ_later (label_of i.op) (labels_in is) differ) z)
   where
     by : (b : Bool) → has_label l i.op ≡ b → Enters is l → Enters (i ∷ is) l

@@ -1,7 +1,7 @@
 -- Labels lie where the parts after their marks begin.
 use Rattle.std.proofs.Common.{◌≡◌, ℕ, ◌+◌, ◌≤◌, Bool, true, false, cond, nat_eq, ⊎_elim, List, [], ◌∷◌, ◌++◌, length, drop, Some, refl, sym, ap, ◌∙◌, arith}
 use Rattle.std.specs.List.{Contains}
-use Rattle.std.proofs.lemmas.Bool.{true≢false}
+use Rattle.std.proofs.lemmas.Bool.{true≢false, eq-eqb}
 use Rattle.std.proofs.lemmas.List.Elements.{Contains-append_cases}
 use Rattle.emit_rules.specs.Emitted.{descriptor, parts}
 use Rattle.emit_rules.specs.Entry.{Frame, entry}
@@ -21,7 +21,7 @@ use Rattle.lin_ir.specs.declared.lin.LinOp.TheVariants as lin
 use Rattle.lin_ir.specs.declared.lin.Spot.{Spot}
 use Rattle.linear_rules.proofs.Homes.{IsIn, in_of, is_first, is_later}
 use Rattle.rv_pieces.specs.declared.piece.Piece.{Piece}
-use Rattle.function_stands.proofs.Parts.{Place, left_in, part_in, place_first, place_later, same_yes}
+use Rattle.function_stands.proofs.Parts.{Place, left_in, part_in, place_first, place_later}
 use Rattle.function_stands.proofs.Splitting.{has_second}
 
 -- the label does not stand at this piece
@@ -68,7 +68,7 @@ label_within l (i ∷ next) = by (has_label l i.op) (label_within l next)
 
 -- a line has the label or not
 only : (l k : ℕ) → IsIn l (k ∷ []) → nat_eq k l ≡ true
-only l k is_first = same_yes l
+only l k is_first = eq-eqb l l refl
 only l k (is_later i) = elim i [ ]
 
 labelled : (l : ℕ) (f : LinOp) → IsIn l (label_of f) → has_label l f ≡ true

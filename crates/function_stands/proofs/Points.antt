@@ -1,6 +1,7 @@
 -- What is known of the lines of a function besides their words.
 use Rattle.std.proofs.Common.{◌≡◌, ℕ, ◌+◌, ◌<◌, Bool, true, false, cond, ◌||◌, List, [], ◌∷◌, ◌++◌, length, Option, None, refl, sym, ap, ◌∙◌, subst, arith}
 use Rattle.std.specs.List.{AllByRecursion}
+use Rattle.std.proofs.lemmas.Bool.{eq-eqb}
 use Rattle.emit_rules.specs.Emitted.{descriptor, part_before, part_of, parts}
 use Rattle.emit_rules.specs.Entry.{Frame}
 use Rattle.emit_rules.specs.Traversal.{Allows, Each, each_more}
@@ -25,7 +26,7 @@ use Rattle.mach_ir.specs.declared.op.Op.TheVariants as op
 use Rattle.rv_isa.specs.declared.register.Register.TheVariants.{T0}
 use Rattle.rv_pieces.specs.declared.piece.Piece.{Piece}
 use Rattle.rv_pieces.specs.declared.piece.Piece.TheVariants.{Known, Label, Branch, Jump, Row, LabelAddress, Call, TailCall, SymbolAddress, ExternalNumber, Descriptor}
-use Rattle.function_stands.proofs.Parts.{AreFound, IsFound, descriptor_of, left_in, part_in, same_no, same_yes, shorter}
+use Rattle.function_stands.proofs.Parts.{AreFound, IsFound, descriptor_of, left_in, part_in, same_no, shorter}
 
 -- ---- marks
 
@@ -82,7 +83,7 @@ pub no_descriptor : {i : Line} {next : List Line} (ds : List Descr) (code : List
     descriptor_of ds code (length next) ≡ None
 no_descriptor ds [] stands none = elim stands [ ]
 no_descriptor ds (i ∷ next) here none =
-    ap (λ b. cond b (descriptor (passes_frame i.op) ds) (descriptor_of (left_in ds i) next (length next))) (same_yes (length next))
+    ap (λ b. cond b (descriptor (passes_frame i.op) ds) (descriptor_of (left_in ds i) next (length next))) (eq-eqb (length next) (length next) refl)
     ∙ ap (λ b. descriptor b ds) none
 no_descriptor {next = next} ds (j ∷ js) (below stands) none =
     ap (λ b. cond b (descriptor (passes_frame j.op) ds) (descriptor_of (left_in ds j) js (length next))) (same_no (length js) (length next) (shorter stands))

@@ -2,7 +2,7 @@
 use Rattle.std.proofs.Common.{◌≡◌, Bool, true, false, cond, ◌&&◌, ◌==◌, ◌⊎◌, inl, inr, List, [], ◌∷◌, map, bytes_eq, Some, refl, sym, ap, ◌∙◌, arith}
 use Rattle.std.specs.Prelude.{find, slice_get}
 use Rattle.std.specs.Option.{option_map}
-use Rattle.std.proofs.lemmas.Bool.{true≢false, eqb-true}
+use Rattle.std.proofs.lemmas.Bool.{true≢false, eqb-true, and_parts, eq-eqb}
 use Rattle.std.proofs.lemmas.List.Folds.{find_at}
 use Rattle.std.proofs.lemmas.Option.{slice_get-map}
 use Rattle.std.proofs.lemmas.Slice.Eq.{bytes_eq-Decides}
@@ -15,7 +15,6 @@ use Rattle.image_form.specs.Image.{comp_byte, ret_byte}
 use Rattle.image_form.specs.Tables.{Ext}
 use Rattle.layout_rules.specs.Externals.{ext_of, number_of, same_row}
 use Rattle.linear_rules.proofs.Homes.{IsIn, is_first, is_later}
-use Rattle.function_stands.proofs.Parts.{same_yes}
 
 comp_once : (a b : Comp) → comp_byte a ≡ comp_byte b → a ≡ b
 comp_once comp.Int comp.Int e = refl
@@ -62,24 +61,16 @@ pub record IsSame (a b : External) : Type 0 where
   pub params : a.params ≡ b.params
   pub result : a.result ≡ b.result
 
-and_left : (a b : Bool) → a && b ≡ true → a ≡ true
-and_left true b e = refl
-and_left false b e = cc
-
-and_right : (a b : Bool) → a && b ≡ true → b ≡ true
-and_right true b e = e
-and_right false b e = cc
-
 pub same_row_is : (a b : External) → same_row a b ≡ true → IsSame a b
 same_row_is a b e =
     let names = bytes_eq a.name b.name in
     let params = bytes_eq (map comp_byte a.params) (map comp_byte b.params) in
     let result = ret_byte a.result == ret_byte b.result in
-    let first = and_left (names && params) result e in
+    let first = (and_parts (names && params) result e).0 in
     record {
-      name = (bytes_eq-Decides a.name b.name).0 (and_left names params first);
-      params = comps_once a.params b.params ((bytes_eq-Decides (map comp_byte a.params) (map comp_byte b.params)).0 (and_right names params first));
-      result = ret_once a.result b.result (eqb-true (ret_byte a.result) (ret_byte b.result) (and_right (names && params) result e));
+      name = (bytes_eq-Decides a.name b.name).0 (and_parts names params first).0;
+      params = comps_once a.params b.params ((bytes_eq-Decides (map comp_byte a.params) (map comp_byte b.params)).0 (and_parts names params first).1);
+      result = ret_once a.result b.result (eqb-true (ret_byte a.result) (ret_byte b.result) (and_parts (names && params) result e).1);
     }
 
 row_itself : (e : External) → same_row e e ≡ true
@@ -87,7 +78,7 @@ row_itself e =
     rw (
       (bytes_eq-Decides e.name e.name).1 refl,
       (bytes_eq-Decides (map comp_byte e.params) (map comp_byte e.params)).1 refl,
-      same_yes (ret_byte e.result),
+      eq-eqb (ret_byte e.result) (ret_byte e.result) refl,
     ) refl
 
 -- the first row that is the call's

@@ -1,6 +1,7 @@
 -- What moves to the entry: straight code that makes constants, each in a register of its own.
 use Rattle.std.proofs.Common.{◌≡◌, ℕ, ◌<◌, Bool, true, false, cond, inl, inr, ◌⊎◌, ⊎_elim, List, [], ◌∷◌, ◌++◌, length, refl, sym, ap, ◌∙◌, subst, arith}
 use Rattle.std.specs.List.{Contains}
+use Rattle.std.proofs.lemmas.Bool.{both_ways}
 use Rattle.mach_ir.specs.Acts.{Target, On, At, Landing, AtLabel, AtHandler}
 use Rattle.mach_ir.specs.Meaning.{after_label, from_handler, at_handler, code_at, landing_code, has_label, is_handler_of, killed, tries_at, tries_past}
 use Rattle.mach_ir.specs.Walks.{Among, first, later, Writes, Stands, here, below}
@@ -13,7 +14,7 @@ use Rattle.mach_laws.proofs.Walking.{none_in, first_in, later_in, in_cons}
 use Rattle.places_rules.proofs.Files.{among_or_not}
 use Rattle.places_rules.proofs.Walked.{stands_of}
 use Rattle.dead_rules.specs.Dropped.{may_go, without}
-use Rattle.dead_rules.proofs.Text.{differ, keeps_marks, pure_of, pure_kills}
+use Rattle.dead_rules.proofs.Text.{keeps_marks, pure_of, pure_kills}
 use Rattle.hoist_rules.specs.Hoisted.{MayMove, moved, hoisted, MayAllMove}
 
 among_none : (n : ℕ) → Among n [] → ⊥
@@ -141,7 +142,7 @@ module _ (m : Mach) (moves : ℕ → Bool) (may : MayAllMove m moves) where
       (may_go j.op ≡ true → moves (length others) ≡ false) → IsMade n → Writes m j n → ⊥
   left_writes_none j others s kept a w =
       let t = ap (λ xs. moves (length xs)) (made_once a j others s w) ∙ a.moves_so in
-      differ (moves (length others)) t (kept (may_go_so (may j others s t)))
+      both_ways (moves (length others)) (kept (may_go_so (may j others s t))) t
 
   -- what moves destroys nothing
   pub none_killed : (n : ℕ) {i : Instr} {next : List Instr} → MayMove m i next → Among n (killed m i) → ⊥
@@ -164,7 +165,7 @@ module _ (m : Mach) (moves : ℕ → Bool) (may : MayAllMove m moves) where
       by b e o (inl made) = inl made
       by true e (inl a) (inr k) =
           inl (record { instr = i; next = is; stands = stands_of ending; moves_so = e; among = a })
-      by false e (inl a) (inr k) = inr (none (λ t z. differ (moves (length is)) t e) k)
+      by false e (inl a) (inr k) = inr (none (λ t z. both_ways (moves (length is)) e t) k)
       by b e (inr h) (inr k) = inr (none (λ t z. h z) k)
 
   pub made_or_not : (n : ℕ) → IsMade n ⊎ (IsMade n → ⊥)

@@ -1,8 +1,9 @@
 -- What a function keeps whose constants are made at the entry.
 use Rattle.std.proofs.Common.{◌≡◌, ◌≢◌, ℕ, zero, suc, ◌+◌, ◌<◌, ◌≤◌, Bool, true, false, cond, inl, ⊎_elim, List, [], ◌∷◌, ◌++◌, length, refl, sym, ap, ◌∙◌, subst, arith}
-use Rattle.std.proofs.lemmas.List.Elements.{Contains-get_or}
+use Rattle.std.proofs.lemmas.List.Elements.{Contains-get_or, All-contains}
 use Rattle.std.specs.List.{All, AllPairs, Contains}
 use Rattle.std.specs.Prelude.{slice_index_or}
+use Rattle.std.proofs.lemmas.Bool.{both_ways}
 use Rattle.bs_words.specs.declared.types.Comp.{Comp}
 use Rattle.bs_words.specs.declared.types.Comp.TheVariants as comp
 use Rattle.bs_words.specs.declared.types.Loc.TheVariants as loc
@@ -31,9 +32,9 @@ use Rattle.mach_laws.proofs.Places.{tries_expand, ending_next}
 use Rattle.mach_laws.proofs.Walking.{none_in, first_in, later_in, in_cons}
 use Rattle.places_rules.proofs.Lists.{head_same, tail_same, none_there}
 use Rattle.places_rules.proofs.Walked.{stands_of}
-use Rattle.split_rules.proofs.Formed.{contains_of, stands_in, of_each}
+use Rattle.split_rules.proofs.Formed.{contains_of, stands_in}
 use Rattle.dead_rules.specs.Dropped.{may_go, without}
-use Rattle.dead_rules.proofs.Text.{differ, pure_of, pure_straight, label_stays, handler_stays, mark_stays, Fate, falls, remains, fate, keeps_marks, same_labels}
+use Rattle.dead_rules.proofs.Text.{pure_of, pure_straight, label_stays, handler_stays, mark_stays, Fate, falls, remains, fate, keeps_marks, same_labels}
 use Rattle.hoist_rules.specs.Hoisted.{MayMove, moved, hoisted, MayAllMove}
 use Rattle.hoist_rules.proofs.Moved as at_entry_of
 use Rattle.hoist_rules.proofs.Live as live
@@ -80,9 +81,6 @@ is_one c e = ap is_addr e
 no_mark : (f : Op) (g : Mark) → mach.Op f ≡ mach.Mark g → ⊥
 no_mark f g e = cc
 
-less : (a b c : ℕ) → a ≤ b → b ≤ c → a ≤ c
-less a b c x y = omega (arith, x, y)
-
 module _ (m : Mach) (moves : ℕ → Bool) (may : MayAllMove m moves) where
   abbrev q : Mach
   q = hoisted moves m
@@ -126,7 +124,7 @@ module _ (m : Mach) (moves : ℕ → Bool) (may : MayAllMove m moves) where
   never_raises v r = live.no_raise m moves may v r
 
   never_leaves : {i : Instr} {next : List Instr} → MayMove m i next → leaves i.op ≡ true → ⊥
-  never_leaves v e = differ true refl (sym e ∙ ap (λ (i : Instr). leaves i.op) v.is)
+  never_leaves v e = both_ways true (sym e ∙ ap (λ (i : Instr). leaves i.op) v.is) refl
 
   -- ---- what is in the code
 
@@ -143,7 +141,7 @@ module _ (m : Mach) (moves : ℕ → Bool) (may : MayAllMove m moves) where
     where
       by : Fate moves j is → (Contains is i → Contains (expand f is) i) → Contains (expand f (j ∷ is)) i
       by (falls g d s h) again =
-          ⊎_elim (λ e. absurd (differ (may_go j.op) g (ap (λ (x : Instr). may_go x.op) e ∙ k)))
+          ⊎_elim (λ e. absurd (both_ways (may_go j.op) (ap (λ (x : Instr). may_go x.op) e ∙ k) g))
           (λ t. subst (λ xs. Contains xs i) (sym h) (again t)) (in_cons j i is c)
       by (remains g s h) again =
           subst (λ xs. Contains xs i) (sym h)
@@ -159,7 +157,7 @@ module _ (m : Mach) (moves : ℕ → Bool) (may : MayAllMove m moves) where
   place_left {l} (place_here {i = i} {is = is} e) = by (fate moves i is)
     where
       by : Fate moves i is → HasPlace l (expand f (i ∷ is))
-      by (falls g d s h) = absurd (differ (may_go i.op) g (label_stays l i.op e))
+      by (falls g d s h) = absurd (both_ways (may_go i.op) (label_stays l i.op e) g)
       by (remains k s h) = subst (HasPlace l) (sym h) (place_here e)
   place_left {l} (place_below {i = i} {is = is} p) = by (fate moves i is) (place_left p)
     where
@@ -171,7 +169,7 @@ module _ (m : Mach) (moves : ℕ → Bool) (may : MayAllMove m moves) where
   handler_left {l} (handler_here {i = i} {is = is} e) = by (fate moves i is)
     where
       by : Fate moves i is → HasHandler l (expand f (i ∷ is))
-      by (falls g d s h) = absurd (differ (may_go i.op) g (handler_stays l i.op e))
+      by (falls g d s h) = absurd (both_ways (may_go i.op) (handler_stays l i.op e) g)
       by (remains k s h) = subst (HasHandler l) (sym h) (handler_here e)
   handler_left {l} (handler_below {i = i} {is = is} p) = by (fate moves i is) (handler_left p)
     where
@@ -298,9 +296,9 @@ module _ (m : Mach) (moves : ℕ → Bool) (may : MayAllMove m moves) where
     where
       by : (b : Bool) → moves (length is) ≡ b → Fate moves i is → Divides i is
       by true e (falls g d s h) = goes_first (ap (λ b. cond b (i ∷ []) [] ++ expand (moved moves) is) e) h
-      by false e (falls g d s h) = absurd (differ (moves (length is)) d e)
+      by false e (falls g d s h) = absurd (both_ways (moves (length is)) e d)
       by true e (remains k s h) =
-          absurd (differ (moves (length is)) e (k (at_entry_of.may_go_so m moves may (may i is (stands_of ending) e))))
+          absurd (both_ways (moves (length is)) (k (at_entry_of.may_go_so m moves may (may i is (stands_of ending) e))) e)
       by false e (remains k s h) = goes_after (ap (λ b. cond b (i ∷ []) [] ++ expand (moved moves) is) e) h
 
   -- what is a sum over instructions stays
@@ -453,9 +451,9 @@ module _ (m : Mach) (moves : ℕ → Bool) (may : MayAllMove m moves) where
           numbers = λ r k i j e. formed.numbers r k (was r i) (was k j) e;
           params = formed.params;
           params_distinct = formed.params_distinct;
-          instrs = each_in IsFormed (λ i c. of_each IsFormed m.code i formed.instrs c);
+          instrs = each_in IsFormed (λ i c. All-contains IsFormed m.code i formed.instrs c);
           distinct = each_in (λ (i : Instr). AreDistinct i.results)
-              (λ i c. of_each (λ (i : Instr). AreDistinct i.results) m.code i formed.distinct c);
+              (λ i c. All-contains (λ (i : Instr). AreDistinct i.results) m.code i formed.distinct c);
           returns = λ i c e. formed.returns i (contains_back i c) e;
           labels_once = subst (λ ls. AllPairs (λ k l. k ≢ l) ls) (sym labels_same) formed.labels_once;
           labels_below = subst (λ ls. All (λ l. l < m.labels) ls) (sym labels_same) formed.labels_below;
@@ -496,6 +494,5 @@ module _ (m : Mach) (moves : ℕ → Bool) (may : MayAllMove m moves) where
           externals = λ row n. named_before (NamesExternal row) n;
           addrs = live.no_addr_back m moves may
               (λ r i a addr.
-              differ (is_addr r.comp) (is_one r.comp addr)
-              (ap (λ (r : Reg). is_addr r.comp) (made_is r i a) ∙ entry.never_addr (at_entry_of.move_of m moves may a).fits));
+              both_ways (is_addr r.comp) (ap (λ (r : Reg). is_addr r.comp) (made_is r i a) ∙ entry.never_addr (at_entry_of.move_of m moves may a).fits) (is_one r.comp addr));
         }

@@ -1,9 +1,10 @@
 -- The part of each line names the registers that the line reads and writes.
 use Rattle.std.proofs.Common.{◌≡◌, ℕ, suc, Bool, true, false, cond, nat_eq, ◌||◌, List, [], ◌∷◌, ◌++◌, length, refl, sym, subst, ◌∙◌, ap, arith, Option}
 use Rattle.std.specs.List.{All, Contains}
-use Rattle.std.proofs.lemmas.Bool.{eqb-true}
+use Rattle.std.proofs.lemmas.Bool.{eqb-true, or_parts}
 use Rattle.std.proofs.lemmas.Bool.Decides.{nat_tests}
 use Rattle.std.proofs.lemmas.List.Elements.{All-contains, All-nil, All-cons, All-head, All-tail}
+use Rattle.std.proofs.Math.Bool.{or-false}
 use Rattle.bs_words.specs.declared.operators.CmpOp.TheVariants as compare
 use Rattle.bs_words.specs.declared.operators.IntOp.TheVariants as operator
 use Rattle.bs_words.specs.declared.types.Comp.{Comp}
@@ -45,7 +46,7 @@ use Rattle.emit_rules.specs.Traps.{raise_bound_error, check_part}
 use Rattle.rv_isa.specs.declared.register.Register.TheVariants.{T1}
 use Rattle.laid_parts.specs.Laid.{is_reserved, raises_behind, branches, up_to_branch, NamesRegisters, MovesNothing, CarriesRegisters, moves_nothing, names}
 use Rattle.laid_parts.specs.Named.{is_among, is_source, is_target, piece_targets}
-use Rattle.laid_parts.proofs.Registers.{neither, or_false, Names, same, alone, is-apart, IsApart}
+use Rattle.laid_parts.proofs.Registers.{Names, same, alone, is-apart, IsApart}
 use Rattle.laid_parts.proofs.Operators.{IsNumbered, numbered, in_slot, copied-names}
 use Rattle.laid_parts.proofs.Lines as lines
 
@@ -126,14 +127,14 @@ named_none l (s ∷ ss) e = absurd (cc)
 
 pub named_one : (l : Loc) (ss : List Spot) (t : Comp) → comps ss ≡ t ∷ [] → is_named l (places_of ss) ≡ same_loc (first ss) l
 named_one l [] t e = absurd (cc)
-named_one l (s ∷ []) t e = or_false (same_loc s.loc l)
+named_one l (s ∷ []) t e = or-false (same_loc s.loc l)
 named_one l (s ∷ r ∷ ss) t e = absurd (cc)
 
 pub named_two : (l : Loc) (ss : List Spot) (t u : Comp) → comps ss ≡ t ∷ u ∷ [] →
     is_named l (places_of ss) ≡ (same_loc (first ss) l || same_loc (second ss) l)
 named_two l [] t u e = absurd (cc)
 named_two l (s ∷ []) t u e = absurd (cc)
-named_two l (s ∷ r ∷ []) t u e = ap (λ (z : Bool). same_loc s.loc l || z) (or_false (same_loc r.loc l))
+named_two l (s ∷ r ∷ []) t u e = ap (λ (z : Bool). same_loc s.loc l || z) (or-false (same_loc r.loc l))
 named_two l (s ∷ r ∷ q ∷ ss) t u e = absurd (cc)
 
 -- ---- lines whose parts name every register themselves
@@ -223,15 +224,15 @@ module _ (m : Lin) (args : List Spot) (a : Locates m args) (n : ℕ) (apart : Is
   rights right.Register u xs e (one_right v) =
       (lines.by_register (second_numbered m args u v [] e a), sym (named_two (loc.Machine n) args u v e))
   rights (right.Constant w) u xs e no_right =
-      (lines.by_constant, or_false (same_loc (first args) (loc.Machine n)) ∙ sym (named_one (loc.Machine n) args u e))
+      (lines.by_constant, or-false (same_loc (first args) (loc.Machine n)) ∙ sym (named_one (loc.Machine n) args u e))
 
   with_tested : (g : Test) (xs : List Comp) → comps args ≡ xs → IsTested g xs →
       IsNumbered (first args) × lines.TestNumbered n apart t g args
       × ((lines.is_at n apart t (first args) || lines.test_at n apart t g args) ≡ is_named (loc.Machine n) (places_of args))
   with_tested test.Holds xs e (holds {t = u}) =
-      (first_numbered m args u [] e a, lines.alone_holds, or_false (same_loc (first args) (loc.Machine n)) ∙ sym (named_one (loc.Machine n) args u e))
+      (first_numbered m args u [] e a, lines.alone_holds, or-false (same_loc (first args) (loc.Machine n)) ∙ sym (named_one (loc.Machine n) args u e))
   with_tested test.Fails xs e (fails {t = u}) =
-      (first_numbered m args u [] e a, lines.alone_fails, or_false (same_loc (first args) (loc.Machine n)) ∙ sym (named_one (loc.Machine n) args u e))
+      (first_numbered m args u [] e a, lines.alone_fails, or-false (same_loc (first args) (loc.Machine n)) ∙ sym (named_one (loc.Machine n) args u e))
   with_tested (test.Signed c o) xs e (signed {rest} {left = u} h) =
       let x = rights o u rest e (right_inv _ o rest h) in
       (first_numbered m args u rest e a, lines.with_signed x.0, x.1)
@@ -332,7 +333,7 @@ same_is loc.Unset l e = absurd (cc)
 prefix_none : (l : Loc) (ls more : List Loc) → is_named l (ls ++ more) ≡ false → is_named l ls ≡ false
 prefix_none l [] more e = refl
 prefix_none l (k ∷ ks) more e =
-    let p = neither (same_loc k l) (is_named l (ks ++ more)) e in
+    let p = or_parts (same_loc k l) (is_named l (ks ++ more)) e in
     ap (λ (z : Bool). z || is_named l ks) p.0 ∙ prefix_none l ks more p.1
 
 pub seated_none : (l : Loc) (places ls : List Loc) → AreSeated (InOrder places) ls → is_named l places ≡ false → is_named l ls ≡ false
@@ -343,7 +344,7 @@ pub seated_after : (l : Loc) (places : List Loc) (ss : List Spot) → AreSeated 
 seated_after l places [] s h = elim s [ ]
 seated_after l places (x ∷ ss) (after_first more e) h =
     let k : is_named l (places_of ss) ≡ false = prefix_none l (places_of ss) more (ap (λ (z : List Loc). is_named l z) e ∙ h) in
-    sym (ap (λ (z : Bool). same_loc x.loc l || z) k ∙ or_false (same_loc x.loc l))
+    sym (ap (λ (z : Bool). same_loc x.loc l || z) k ∙ or-false (same_loc x.loc l))
 
 no_temporary : (n : ℕ) → is_temporary n ≡ false → is_named (loc.Machine n) result_places ≡ false
 no_temporary n e = by (nat_eq 10 n) refl
@@ -380,7 +381,7 @@ targets_up_to n [] p ys e g k =
     ap (λ (z : Bool). z || is_target n (cond (branches p) [] (up_to_branch ys))) g
     ∙ ap (λ (z : Bool). is_target n (cond z [] (up_to_branch ys))) k
 targets_up_to n (x ∷ xs) p ys e g k =
-    let h = neither _ _ e in
+    let h = or_parts _ _ e in
     ap (λ (z : Bool). z || is_target n (cond (branches x) [] (up_to_branch (xs ++ p ∷ ys)))) h.0
     ∙ by (branches x) (targets_up_to n xs p ys h.1 g k)
   where
@@ -431,7 +432,7 @@ module _ (m : Lin) (t : ℕ) (f : Frame) (d : Option Descr) (args results : List
         let b = first_numbered m args i.0 i.1 i.2 a in
         check_writes n (nat_eq 10 n || false) refl
         (lines.check-tests n (is-apart n e) t o args b x.0).sets
-        ((lines.check-names n (is-apart n e) t o args b x.0).sets ∙ sym (or_false (nat_eq 10 n)))
+        ((lines.check-names n (is-apart n e) t o args b x.0).sets ∙ sym (or-false (nat_eq 10 n)))
         ∙ sym (named_none (loc.Machine n) results i.4);
   }
     where
@@ -461,7 +462,7 @@ module _ (m : Lin) (t : ℕ) (f : Frame) (d : Option Descr) (args results : List
           is_source n (cond b [] (copied t (loc.Machine 10) (first results))) ≡ false
       from_a0 n e true c g = refl
       from_a0 n e false c g =
-          (copied-names n (is-apart n e) t (loc.Machine 10) (first results) (numbered {r = 10} refl) c).reads ∙ (sym (or_false (nat_eq 10 n)) ∙ g)
+          (copied-names n (is-apart n e) t (loc.Machine 10) (first results) (numbered {r = 10} refl) c).reads ∙ (sym (or-false (nat_eq 10 n)) ∙ g)
 
 -- ---- every line
 
@@ -483,9 +484,9 @@ module _ (m : Lin) (t : ℕ) (f : Frame) (d : Option Descr) where
       by true k = moves_nothing (x, y, is_self_move (same_is x.loc y.loc k))
       by false k = names (no_self_copy x y (first_numbered m (x ∷ []) u [] e a) k) (record {
         reads = λ n o w. (copied-names n (is-apart n o) t x.loc y.loc (first_numbered m (x ∷ []) u [] e a) (first_numbered m (y ∷ []) v [] g r)).reads
-            ∙ sym (or_false (same_loc x.loc (loc.Machine n)));
+            ∙ sym (or-false (same_loc x.loc (loc.Machine n)));
         writes = λ n o w. (copied-names n (is-apart n o) t x.loc y.loc (first_numbered m (x ∷ []) u [] e a) (first_numbered m (y ∷ []) v [] g r)).sets
-            ∙ sym (or_false (same_loc y.loc (loc.Machine n)));
+            ∙ sym (or-false (same_loc y.loc (loc.Machine n)));
       })
 
   pub line_carried : (o : LinOp) (args results : List Spot) → IsFormed (record { op = o; args = args; results = results }) →

@@ -1,6 +1,7 @@
 -- The slots that the parts of lines name that leave a function, test a bound, or push, pop or enter a trap.
 use Rattle.std.proofs.Common.{◌≡◌, ℕ, ◌+◌, ◌*◌, ◌<◌, Bool, true, false, cond, nat_eq, nat_lt, nat_le, not, ◌||◌, ◌&&◌, List, [], ◌∷◌, length, refl, sym, ◌∙◌, ap, Option, subst, arith}
 use Rattle.std.proofs.lemmas.Bool.Decides.{nat_tests}
+use Rattle.std.proofs.Math.Bool.{and-false}
 use Rattle.bs_words.specs.Word.{add_word, sext_word, word_of, signed_in}
 use Rattle.bs_words.specs.declared.types.Loc.{Loc}
 use Rattle.bs_words.specs.declared.types.Loc.TheVariants as loc
@@ -41,7 +42,6 @@ use Rattle.emit_rules.proofs.Values.{constant_is_made}
 use Rattle.laid_parts.specs.Laid.{lies_at, is_return_address, NamesSlots}
 use Rattle.laid_parts.specs.Named.{is_among}
 use Rattle.laid_parts.specs.Stack.{Form, Is, Held, plus, word_at}
-use Rattle.laid_parts.proofs.Registers.{and_false}
 use Rattle.laid_parts.proofs.Words.{Through, Clear, Part, AtSp, IsClean, Whatever, IsFree, is_unknown, is_constant, joined, same, then_none, either, nothing, one_still, silent, in_part, at_end, is_t1, is_t2, later, stack_load-words}
 use Rattle.laid_parts.proofs.Clean.{steady, free_names_none, plus_free, constant-clear}
 use Rattle.laid_parts.proofs.SlotParts.{IsWithinFrame, in_register, fetched-clear, copied-slot}
@@ -116,7 +116,7 @@ module _ (c : ℕ) where
   unfolding later add_word sext_word word_of signed_in
   push-slots l e = record {
     each = λ h k. record {
-      loads = ap (λ (z : Bool). not (is_among c (word_at (plus (h 2) (Is (sext_word 0xFF0 12))) 0)) && z) (and_false _) ∙ and_false _;
+      loads = ap (λ (z : Bool). not (is_among c (word_at (plus (h 2) (Is (sext_word 0xFF0 12))) 0)) && z) (and-false _) ∙ and-false _;
       stores = ap
           (λ (f : Form). is_among c (word_at (plus f (Is (sext_word 0xFF0 12))) 0) || (is_among c (word_at (plus f (Is (sext_word 0xFF0 12))) 8) || false))
           k.sp ∙ no_pushed e;

@@ -2,7 +2,7 @@
 use Rattle.std.proofs.Common.{◌≡◌, ◌≢◌, ℕ, zero, suc, ◌+◌, ◌-◌, ◌*◌, ◌/◌, ◌%◌, ◌^◌, ◌<◌, ◌≤◌, Bool, true, false, cond, ◌==◌, nat_le, List, [], ◌∷◌, length, Option, Some, None, option_map, slice_get, slice_index_or, refl, ap, arith, ◌∙◌, sym, subst, mod-eq_of_lt}
 use Rattle.std.specs.List.{AllByRecursion}
 use Rattle.std.proofs.lemmas.Bool.{eqb-true, leb-true}
-use Rattle.std.proofs.lemmas.Option.{slice_get-map, slice_get_within}
+use Rattle.std.proofs.lemmas.Option.{slice_get-map, slice_get_within, get_or_from_slice_get}
 use Rattle.bs_words.specs.Memory.{Cell, HeapBlock, InBlock, InHeader, Memory, cell_at, cell_of_block, in_block, sizes, value_in}
 use Rattle.bs_words.specs.Word.{add_word}
 use Rattle.bs_words.specs.declared.values.Value.{Value}
@@ -22,11 +22,6 @@ use Rattle.linear_machine.specs.View.{Fixed}
 use Rattle.linear_machine.proofs.Statics.{held_readable, static_whole}
 
 -- ---- lists
-
-get_or : {X : Type 0} (xs : List X) (k : ℕ) (x d : X) → slice_get xs k ≡ Some x → slice_index_or xs k d ≡ x
-get_or [] k x d e = absurd (cc)
-get_or (y ∷ ys) zero x d e = cc
-get_or (y ∷ ys) (suc k) x d e = get_or ys k x d e
 
 -- a block of this size is there
 pub block_there : (memory : Memory) (k n : ℕ) → slice_get (sizes memory) k ≡ Some n → (b : HeapBlock) × (slice_get memory.blocks k ≡ Some b)
@@ -115,7 +110,7 @@ module _ (s : Fixed) (placed : List Placed) (m : List Region) (regions : HasRegi
           let head = h.stand.header k b.header i (unheaded_by (is_among (InHeader k) a.unwritten)
           (header_in (slice_get a.memory.blocks k)) b.header written (ap header_in there)) in
           record {
-            is = ap (word m) here ∙ head ∙ sym (ap (λ (c : HeapBlock). c.header) (get_or a.memory.blocks k b (record { header = 0; cells = [] }) there));
+            is = ap (word m) here ∙ head ∙ sym (ap (λ (c : HeapBlock). c.header) (get_or_from_slice_get a.memory.blocks k b (record { header = 0; cells = [] }) there));
             known = tt;
           }
       by_place (suc j) q i near written =
@@ -126,8 +121,8 @@ module _ (s : Fixed) (placed : List Placed) (m : List Region) (regions : HasRegi
           (cell_in (slice_get a.memory.blocks k) j) v.0 written (ap (λ o. cell_in o j) there ∙ v.1) in
           let size : words_of placed k ≡ length b.cells = h.stand.sizes k i ∙ ap size_in there in
           let value : value_in a.memory (InBlock k j) ≡ v.0 =
-          ap (λ (c : HeapBlock). slice_index_or c.cells j (Word 0)) (get_or a.memory.blocks k b (record { header = 0; cells = [] }) there)
-          ∙ get_or b.cells j v.0 (Word 0) v.1 in
+          ap (λ (c : HeapBlock). slice_index_or c.cells j (Word 0)) (get_or_from_slice_get a.memory.blocks k b (record { header = 0; cells = [] }) there)
+          ∙ get_or_from_slice_get b.cells j v.0 (Word 0) v.1 in
           subst (StandsFor s placed (word m at)) (sym value)
           (record { is = ap (word m) here ∙ h.stand.cell k j v.0 i (omega (arith, within, size)) held; known = h.stand.known k j v.0 i held })
 

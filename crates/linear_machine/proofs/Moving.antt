@@ -1,7 +1,7 @@
 -- The state of a function over a service that moves the blocks.
 use Rattle.std.proofs.Common.{◌≡◌, ℕ, zero, suc, ◌+◌, ◌-◌, ◌*◌, ◌%◌, ◌<◌, ◌≤◌, inl, inr, Bool, true, false, cond, nat_eq, List, [], ◌∷◌, ◌++◌, length, map, reverse, Option, Some, None, slice_get, slice_index, refl, ap, arith, ◌∙◌, sym, subst, ⊎_elim, append-nil}
 use Rattle.std.proofs.lemmas.Bool.{eqb-true}
-use Rattle.std.proofs.lemmas.List.{reverse-append, reverse-reverse}
+use Rattle.std.proofs.lemmas.List.{reverse-append, reverse-reverse, length-map}
 use Rattle.bs_words.specs.Memory.{Cell, HeapBlock, InHeader}
 use Rattle.bs_words.specs.declared.types.Loc.{Loc}
 use Rattle.bs_words.specs.declared.types.Loc.TheVariants as loc
@@ -27,7 +27,7 @@ use Rattle.linear_machine.specs.Contents.{blocks_of, header_in, size_in, statics
 use Rattle.linear_machine.specs.Relation.{AreCarried, Below, HeapStands, IsDescribed, IsLocation, Laid, RegistersHold, ReturnStands, StandsFor, Waits, Within, all_of, traps_of, waiting_of}
 use Rattle.linear_machine.specs.View.{Fixed, IsLike, View}
 use Rattle.linear_machine.proofs.Frames.{named_val, own_chain, own_waits, poisoned_named, poisoned_some, val_held}
-use Rattle.linear_machine.proofs.Keeping.{heap_kept, length_map, traps_at_all, traps_kept, waits_kept}
+use Rattle.linear_machine.proofs.Keeping.{heap_kept, traps_at_all, traps_kept, waits_kept}
 use Rattle.linear_machine.proofs.Likes.{like_readable, like_regions}
 
 -- ---- the limit word does not matter
@@ -258,7 +258,7 @@ module _ (s : Fixed) (laid : Laid) (v : View) (young : List Placed) (taken : ℕ
     pub within_after : Within s laid view_after [] taken (poisoned named held) a c
     within_after =
         let k = again.knows in
-        let n = length_map laid.handler a.tries in
+        let n = length-map a.tries laid.handler in
         let e2 : slice_index new.registers 2 ≡ slice_index v.registers 2 = again.others 2 (λ q. omega (arith, q))
         (λ i. let p = (named_location 2 i).some in omega (arith, p)) in
         let e9 : slice_index new.registers 9 ≡ slice_index v.registers 9 = again.others 9 (λ q. omega (arith, q)) (λ i. (named_location 9 i).no_trap refl) in

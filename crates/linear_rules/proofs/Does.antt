@@ -1,6 +1,6 @@
 -- The lines do what the Mach code does, and read no poison.
 use Rattle.std.proofs.Common.{◌≡◌, ◌≢◌, ℕ, zero, suc, Bool, true, false, cond, ◌⊎◌, inl, inr, ⊎_elim, List, [], ◌∷◌, map, Option, Some, None, nat_eq, refl, sym, ap, ◌∙◌, subst}
-use Rattle.std.proofs.lemmas.Bool.{true≢false, eq-eqb, eqb-true}
+use Rattle.std.proofs.lemmas.Bool.{true≢false, eq-eqb, eqb-true, eqb-false}
 use Rattle.std.specs.List.{Contains}
 use Rattle.bs_words.specs.Fits.{fits, type_of_comp}
 use Rattle.bs_words.specs.Memory.{Memory, sizes}
@@ -180,9 +180,6 @@ not_unset r (in_slot e) u = out r.origin (sym e ∙ u)
 not_slot : (m k : ℕ) → loc.Machine m ≡ loc.Slot k → ⊥
 not_slot m k e = cc
 
-differ_of : (k n : ℕ) → nat_eq k n ≡ false → k ≢ n
-differ_of k n e u = true≢false (sym (eq-eqb k n u) ∙ e)
-
 in_map : {A B : Type 0} (f : A → B) {x : A} {xs : List A} → IsIn x xs → IsIn (f x) (map f xs)
 in_map f is_first = is_first
 in_map f (is_later i) = is_later (in_map f i)
@@ -265,7 +262,7 @@ module _ (c : Place) (number : ℕ → ℕ) (slots : ℕ) (p : Mach) (well : Wel
       joined : (IsMove k.number r.number i → ⊥) → Shares i k r
       joined out =
           let at : r.loc ≡ k.loc = apart r k ri ki same in
-          let y = full.well.agree.apart r k ri ki (one_way (differ_of r.number k.number ne) (at_write i next (stands_of e) w (after_step (goes t o) v) out)) (not_unset r (placed r ri)) at in
+          let y = full.well.agree.apart r k ri ki (one_way (eqb-false r.number k.number ne) (at_write i next (stands_of e) w (after_step (goes t o) v) out)) (not_unset r (placed r ri)) at in
           one_slot y.0 (sym at ∙ y.1)
 
   -- ---- one line with the operands and results of its instruction
@@ -828,12 +825,12 @@ module _ (c : Place) (number : ℕ → ℕ) (slots : ℕ) (p : Mach) (well : Wel
     params_apart : (r k : Reg) → IsIn r p.params → IsRegister p k → Among k.number p.params → Live p k.number p.code → nat_eq r.number k.number ≡ false → home number r.loc ≡ home number k.loc → ⊥
     params_apart r k z ki w v ne same =
         let at : r.loc ≡ k.loc = apart r k (params_are r z) ki same in
-        let y = full.well.agree.apart r k (params_are r z) ki (one_way (differ_of r.number k.number ne) (at_params (in_among z) v)) (not_unset r (placed r (params_are r z))) at in
+        let y = full.well.agree.apart r k (params_are r z) ki (one_way (eqb-false r.number k.number ne) (at_params (in_among z) v)) (not_unset r (placed r (params_are r z))) at in
         let h = number_in w in
         let is_k : h.reg ≡ k = well.numbers h.reg k (params_are h.reg h.inside) ki h.same in
         let own : r.origin ≡ r.number = all_in (λ (r : Reg). r.origin ≡ r.number) well.params z in
         let own_k : h.reg.origin ≡ h.reg.number = all_in (λ (r : Reg). r.origin ≡ r.number) well.params h.inside in
-        differ_of r.number k.number ne (sym own ∙ y.0 ∙ ap (λ (k : Reg). k.origin) (sym is_k) ∙ own_k ∙ h.same)
+        eqb-false r.number k.number ne (sym own ∙ y.0 ∙ ap (λ (k : Reg). k.origin) (sym is_k) ∙ own_k ∙ h.same)
 
     pub begins : (arguments : List Value) (memory : Memory) (doings : List Doing) (s : State) → start c p arguments memory ≡ Some s → Begins c p Q arguments memory doings s
     begins arguments memory doings s is = by (put_all end p.params arguments (λ n. None)) refl is

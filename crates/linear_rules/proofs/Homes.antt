@@ -1,6 +1,6 @@
 -- Writes and reads of registers, and of the places where they stand.
 use Rattle.std.proofs.Common.{◌≡◌, ℕ, Bool, true, false, cond, not, ◌&&◌, ◌||◌, ⊎_elim, List, [], ◌∷◌, ◌++◌, Option, Some, None, nat_eq, refl, sym, ap, ◌∙◌, subst}
-use Rattle.std.proofs.lemmas.Bool.{true≢false, eq-eqb, eqb-true}
+use Rattle.std.proofs.lemmas.Bool.{true≢false, eq-eqb, eqb-true, and_parts}
 use Rattle.std.specs.List.{Contains}
 use Rattle.bs_words.specs.Fits.{fits, type_of_comp}
 use Rattle.bs_words.specs.declared.types.Comp.{Comp}
@@ -270,10 +270,6 @@ pub record Killed (n : ℕ) (rs : List Reg) (d : Destroyed) : Type 0 where
   pub inside : IsIn reg rs
   pub destroyed : is_destroyed d reg.loc ≡ true
 
-and_left : (x y : Bool) → x && y ≡ true → x ≡ true
-and_left true y e = refl
-and_left false y e = e
-
 among_killed : (n : ℕ) (rs : List Reg) (d : Destroyed) (results : List Reg) → Among n (killed_among rs d results) → Killed n rs d
 among_killed n [] d results z = elim z [ ]
 among_killed n (r ∷ rs) d results z =
@@ -282,7 +278,7 @@ among_killed n (r ∷ rs) d results z =
   where
     by : (b : Bool) → is_destroyed d r.loc && not (is_at_one_of r.loc results) ≡ b → Among n (cond b (r ∷ killed_among rs d results) (killed_among rs d results)) →
         (Among n (killed_among rs d results) → Killed n (r ∷ rs) d) → Killed n (r ∷ rs) d
-    by true e (first x) h = record { reg = r; number = x; inside = is_first; destroyed = and_left _ _ e }
+    by true e (first x) h = record { reg = r; number = x; inside = is_first; destroyed = (and_parts _ _ e).0 }
     by true e (later y) h = h y
     by false e y h = h y
 

@@ -1,6 +1,7 @@
 -- The marks of a Mach function, and where their labels stand in its lines.
-use Rattle.std.proofs.Common.{◌≡◌, ◌≢◌, ℕ, zero, suc, Bool, true, false, cond, ◌&&◌, ◌⊎◌, inl, inr, ⊎_elim, List, [], ◌∷◌, nat_eq, All, AllPairs, refl, sym, ap, ◌∙◌, subst, arith}
-use Rattle.std.proofs.lemmas.Bool.{true≢false, eqb-true}
+use Rattle.std.proofs.Common.{◌≡◌, ◌≢◌, ℕ, zero, suc, Bool, true, false, cond, ◌⊎◌, inl, inr, ⊎_elim, List, [], ◌∷◌, nat_eq, All, AllPairs, refl, sym, ap, ◌∙◌, subst, arith}
+use Rattle.std.proofs.lemmas.Bool.{true≢false, eqb-true, and_parts}
+use Rattle.std.proofs.lemmas.List.Elements.{All-head, All-tail}
 use Rattle.bs_words.specs.declared.types.Comp.{Comp}
 use Rattle.bs_words.specs.declared.types.Comp.TheVariants as comp
 use Rattle.mach_ir.specs.Formed.{comps, MarkHasForm, exit_form, if_form, else_form, switch_form, case_form, catch_form, with_form, try_form, leave_form, handler_form, end_form, IsFormed, formed_op, formed_mark, labels_in, HasPlace, place_here, place_below, HasHandler, handler_here, handler_below}
@@ -26,15 +27,9 @@ use Rattle.linear_rules.proofs.Homes.{IsIn, is_first, is_later, same_loc_is, con
 
 -- ---- lists
 
-pub all_here : {A : Type 0} (P : A → Type 0) (x : A) (xs : List A) → All P (x ∷ xs) → P x
-all_here P x xs h = h 0 x (omega arith)
-
-pub all_later : {A : Type 0} (P : A → Type 0) (x : A) (xs : List A) → All P (x ∷ xs) → All P xs
-all_later P x xs h = λ k d lt. h (suc k) d (omega (arith, lt))
-
 pub all_in : {A : Type 0} (P : A → Type 0) {x : A} {xs : List A} → All P xs → IsIn x xs → P x
-all_in P {x} h (is_first {xs = xs}) = all_here P x xs h
-all_in P h (is_later {y = y} {xs = xs} i) = all_in P (all_later P y xs h) i
+all_in P {x} h (is_first {xs = xs}) = All-head P x xs h
+all_in P h (is_later {y = y} {xs = xs} i) = all_in P (All-tail P y xs h) i
 
 pub pairs_here : {A : Type 0} (R : A → A → Type 0) (x : A) (xs : List A) → AllPairs R (x ∷ xs) → All (R x) xs
 pairs_here R x xs h = λ k d lt. h 0 (suc k) d (omega arith) (omega (arith, lt))
@@ -110,13 +105,9 @@ comp_is comp.Float comp.Int e = absurd (true≢false (sym e))
 comp_is comp.Float comp.Val e = absurd (true≢false (sym e))
 comp_is comp.Float comp.Addr e = absurd (true≢false (sym e))
 
-and_both : (x y : Bool) → x && y ≡ true → (x ≡ true) × (y ≡ true)
-and_both true y e = (refl, e)
-and_both false y e = absurd (true≢false (sym e))
-
 pub idle_of : (f : MachOp) (args results : List Reg) → is_idle f args results ≡ true → IsIdle f args results
 idle_of (mach.Op (op.Pure (pure.Copy kind))) (x ∷ []) (d ∷ []) e =
-    let y = and_both _ _ e in idles (same_loc_is x.loc d.loc y.0) (comp_is x.comp d.comp y.1)
+    let y = and_parts _ _ e in idles (same_loc_is x.loc d.loc y.0) (comp_is x.comp d.comp y.1)
 idle_of (mach.Op (op.Pure (pure.Copy kind))) [] results e = absurd (true≢false (sym e))
 idle_of (mach.Op (op.Pure (pure.Copy kind))) (x ∷ []) [] e = absurd (true≢false (sym e))
 idle_of (mach.Op (op.Pure (pure.Copy kind))) (x ∷ []) (d ∷ k ∷ ks) e = absurd (true≢false (sym e))

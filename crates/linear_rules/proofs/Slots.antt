@@ -1,6 +1,6 @@
 -- The numbers that slots get: one for each slot that occurs, from 0 on.
 use Rattle.std.proofs.Common.{◌≡◌, ℕ, zero, suc, ◌<◌, ◌≤◌, Bool, true, false, cond, ◌||◌, ◌⊎◌, inl, inr, ⊎_elim, List, [], ◌∷◌, max, nat_eq, refl, sym, ap, ◌∙◌, subst, arith}
-use Rattle.std.proofs.lemmas.Bool.{true≢false, eq-eqb, eqb-true}
+use Rattle.std.proofs.lemmas.Bool.{true≢false, eq-eqb, eqb-true, or_right}
 use Rattle.std.proofs.lemmas.Bool.Decides.{leb_tells}
 use Rattle.bs_words.specs.declared.types.Loc.{Loc}
 use Rattle.bs_words.specs.declared.types.Loc.TheVariants as loc
@@ -103,14 +103,8 @@ or_true : (t : Bool) → t || true ≡ true
 or_true true = refl
 or_true false = refl
 
-or_right : (t b : Bool) → b ≡ true → t || b ≡ true
-or_right t b e = ap (λ b. t || b) e ∙ or_true t
-
-same_true : (k : ℕ) → nat_eq k k ≡ true
-same_true k = eq-eqb k k refl
-
 slot_first : (k : ℕ) (l : Loc) (ks : List ℕ) → l ≡ loc.Slot k → is_among k (slot_of l ks) ≡ true
-slot_first k l ks e = subst (λ l. is_among k (slot_of l ks) ≡ true) (sym e) (ap (λ t. t || is_among k ks) (same_true k))
+slot_first k l ks e = subst (λ l. is_among k (slot_of l ks) ≡ true) (sym e) (ap (λ t. t || is_among k ks) (eq-eqb k k refl))
 
 slot_later : (k : ℕ) (l : Loc) (ks : List ℕ) → is_among k ks ≡ true → is_among k (slot_of l ks) ≡ true
 slot_later k (loc.Slot n) ks e = or_right (nat_eq n k) (is_among k ks) e

@@ -1,6 +1,6 @@
 -- Where a run begins its entry is about to begin, and below it there is only the stub.
-use Rattle.std.proofs.Common.{◌≡◌, inl, ℕ, suc, ◌+◌, ◌-◌, ◌/◌, ◌≤◌, Bool, true, false, ◌&&◌, nat_le, List, [], ◌∷◌, Some, length, map, refl, ap, ◌∙◌, arith}
-use Rattle.std.proofs.lemmas.Bool.{lt-leb, and_right, cond-false}
+use Rattle.std.proofs.Common.{◌≡◌, inl, ℕ, suc, ◌+◌, ◌-◌, ◌/◌, ◌≤◌, true, false, nat_le, List, [], ◌∷◌, Some, length, map, refl, ap, ◌∙◌, arith}
+use Rattle.std.proofs.lemmas.Bool.{lt-leb, and_right, cond-false, and_parts}
 use Rattle.bs_words.specs.Fits.{fits, type_of_comp}
 use Rattle.bs_words.specs.declared.types.Comp.{Comp}
 use Rattle.bs_words.specs.declared.values.Value.TheVariants.{Word}
@@ -50,15 +50,11 @@ limit_start image stack heap tables =
 
 -- ---- the arguments
 
-both_true : (a b : Bool) → a && b ≡ true → b ≡ true
-both_true true b e = e
-both_true false b e = absurd (cc)
-
 fit_length : (end : ℕ) (comps : List Comp) (args : List ℕ) → fit_parameters end comps (map Word args) ≡ true → length args ≡ length comps
 fit_length end [] [] e = refl
 fit_length end [] (a ∷ args) e = absurd (cc)
 fit_length end (c ∷ comps) [] e = absurd (cc)
-fit_length end (c ∷ comps) (a ∷ args) e = ap suc (fit_length end comps args (both_true (fits end (type_of_comp c) (Word a)) _ e))
+fit_length end (c ∷ comps) (a ∷ args) e = ap suc (fit_length end comps args (and_parts (fits end (type_of_comp c) (Word a)) _ e).1)
 
 module _ (file : FileTree) (image : Tables) (has : HasFunctions image) (bases : (stack : ℕ) → IsRoom stack → IsStackBase (stack_bottom - stack))
     (entry : ℕ → ℕ)

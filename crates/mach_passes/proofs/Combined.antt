@@ -3,7 +3,7 @@ use Rattle.std.proofs.Common.{◌≡◌, ℕ, ◌+◌, ◌*◌, ◌≤◌, Bool,
 use Rattle.std.specs.List.{All, Contains}
 use Rattle.std.specs.Prelude.{slice_index_or}
 use Rattle.std.proofs.lemmas.List.{length-append}
-use Rattle.std.proofs.lemmas.List.Elements.{Contains-get_or}
+use Rattle.std.proofs.lemmas.List.Elements.{Contains-get_or, All-contains}
 use Rattle.combine_rules.specs.Combined.{joins, bytes_past, open_past, Scanned, allocated, scanned_at, scan, combined}
 use Rattle.combine_rules.proofs.Formed.{tries_scan}
 use Rattle.combine_rules.proofs.Registers.{Came, stays, opens, came}
@@ -21,7 +21,7 @@ use Rattle.mach_ir.specs.declared.mach.MachOp.TheVariants as mach
 use Rattle.pass_rules.specs.Carried.{TriesAtMost, OffsetFits, EndsInReturn, at_return, further, IsCarried}
 use Rattle.pass_rules.specs.Measures.{code_words, code_points, exits, other_operands}
 use Rattle.pass_rules.proofs.Words.{exits_both}
-use Rattle.split_rules.proofs.Formed.{contains_of, stands_in, of_each}
+use Rattle.split_rules.proofs.Formed.{contains_of, stands_in}
 
 abbrev made : MachOp → List Reg → List Reg → Instr
 made f args results = record { op = f; args = args; results = results }
@@ -124,7 +124,7 @@ module _ (m : Mach) where
   still_fits fit j c = let s = stands_in q.code j c in by (came None m.code j s.0 s.1)
     where
       by : {ys : List Instr} → Came m.code j ys → OffsetFits j.op
-      by (stays held z n e) = of_each (λ (i : Instr). OffsetFits i.op) m.code j fit (contains_of z)
+      by (stays held z n e) = All-contains (λ (i : Instr). OffsetFits i.op) m.code j fit (contains_of z)
       by (opens i blocks z e same t) = subst (λ (k : Instr). OffsetFits k.op) (sym same) tt
 
   carried : IsCarried 0 m (combined m)

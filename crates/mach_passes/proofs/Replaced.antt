@@ -1,6 +1,7 @@
 -- A pass that puts one instruction in the place of each carries, where none of them has more words or operands, and none becomes a
 -- frame point, an exit or a return.
 use Rattle.std.proofs.Common.{◌≡◌, ℕ, ◌≤◌, cond, List, [], ◌∷◌, length, sym, subst, refl, suc, arith}
+use Rattle.std.proofs.lemmas.List.Elements.{All-contains}
 use Rattle.mach_ir.specs.Formed.{is_exit}
 use Rattle.mach_ir.specs.Meaning.{passes_frame, tries_at}
 use Rattle.mach_ir.specs.Walks.{Stands, here, below}
@@ -15,7 +16,7 @@ use Rattle.pass_rules.specs.Measures.{instr_words, code_words, code_points, one_
 use Rattle.pass_rules.proofs.Words.{exits_both}
 use Rattle.places_rules.specs.Places.{ColoursLow}
 use Rattle.repeat_rules.proofs.OneForOne.{one_each, both, all_in}
-use Rattle.split_rules.proofs.Formed.{contains_of, of_each}
+use Rattle.split_rules.proofs.Formed.{contains_of}
 
 -- what the instruction in the place of another owes
 pub record Replaces (i j : Instr) : Type 0 where
@@ -77,7 +78,7 @@ module _ (again : ℕ → Instr → Instr) where
             (λ i next s. subst (λ ts. length ts ≤ most) (sym (tries (i ∷ next))) (known i next s));
         offsets = λ fit.
             all_in again m.code (λ (i : Instr). OffsetFits i.op)
-            (λ i next s. (all i next s).fits (of_each (λ (i : Instr). OffsetFits i.op) m.code i fit (contains_of s)));
+            (λ i next s. (all i next s).fits (All-contains (λ (i : Instr). OffsetFits i.op) m.code i fit (contains_of s)));
         ends = still_ends all;
         colours_low = low;
       }

@@ -2,7 +2,8 @@
 use Rattle.std.proofs.Common.{◌≡◌, ℕ, suc, ◌+◌, ◌*◌, ◌≤◌, Bool, true, false, cond, ◌⊎◌, inl, inr, ⊎_elim, List, [], ◌∷◌, ◌++◌, length, refl, sym, ap, ◌∙◌, subst, arith, append_assoc}
 use Rattle.std.specs.List.{All, Contains}
 use Rattle.std.specs.Prelude.{slice_index_or}
-use Rattle.std.proofs.lemmas.List.Elements.{Contains-get_or}
+use Rattle.std.proofs.lemmas.List.Elements.{Contains-get_or, All-contains}
+use Rattle.std.proofs.Math.Nat.{le_of_eq}
 use Rattle.bs_words.specs.declared.types.Comp.{Comp}
 use Rattle.linear_rules.specs.Lowered.{same_spot}
 use Rattle.mach_ir.specs.Formed.{comps, is_exit, IsFormed, formed_op, formed_mark, WellFormed}
@@ -29,15 +30,12 @@ use Rattle.pass_rules.specs.Measures.{copy_words, instr_words, code_words, one_i
 use Rattle.pass_rules.proofs.Words.{at_most_copy}
 use Rattle.places_rules.proofs.Open.{slot_open}
 use Rattle.places_rules.specs.Places.{ColoursLow}
-use Rattle.split_rules.proofs.Formed.{contains_of, stands_in, of_each}
+use Rattle.split_rules.proofs.Formed.{contains_of, stands_in}
 use Rattle.spill_rules.specs.Chosen.{IsSpilled, ParamsPlaced, IsNeededSlot, IsChosenKept}
 use Rattle.spill_rules.specs.Spilled.{Plan, in_slot, copied, reload, spill, reloads_of, spills_of, operands_of, results_of, spilled_instr, spilled}
 use Rattle.spill_rules.proofs.Chosen.{spilled_kept}
 use Rattle.spill_rules.proofs.Formed.{IsCopy, is_reload, is_spill, IsMain, was_main}
 use Rattle.spill_rules.proofs.Text.{keeps_marks}
-
-at_most : (a b : ℕ) → a ≡ b → a ≤ b
-at_most a b e = omega (arith, e)
 
 none_more : (a : ℕ) → 0 + a ≡ a
 none_more a = omega arith
@@ -245,7 +243,7 @@ module _ (plan : Plan) where
   fit_one : (code : List Instr) → All Fits code → (j : Instr) (ys : List Instr) → IsCopy plan j ⊎ IsMain plan j ys code → Fits j
   fit_one code h j ys (inl (is_reload k r t e)) = subst Fits (sym e) tt
   fit_one code h j ys (inl (is_spill r e)) = subst Fits (sym e) tt
-  fit_one code h j ys (inr w) = of_each Fits code j h (contains_of w.stands)
+  fit_one code h j ys (inr w) = All-contains Fits code j h (contains_of w.stands)
 
   offsets : (code : List Instr) → All Fits code → All Fits (expand f code)
   offsets code h k d lt =
@@ -285,12 +283,12 @@ planned_carried : (m : Mach) (plan : Plan) → WellFormed m → IsChosenKept m (
 planned_carried m plan formed kept =
     record {
       words = words plan kept.reloads kept.spills m.code;
-      points = at_most (code_points (expand (spilled_instr plan) m.code)) (code_points m.code) (same_points plan m.code);
-      operands = at_most (other_operands (expand (spilled_instr plan) m.code)) (other_operands m.code) (same_operands plan m.code);
-      exits = at_most (exits (expand (spilled_instr plan) m.code)) (exits m.code) (same_exits plan m.code);
+      points = le_of_eq (same_points plan m.code);
+      operands = le_of_eq (same_operands plan m.code);
+      exits = le_of_eq (same_exits plan m.code);
       tries = λ most h. still_at_most plan most m.code h;
       offsets = offsets plan m.code;
-      ends = still_ends plan (λ i next s. of_each IsFormed m.code i formed.instrs (contains_of s));
+      ends = still_ends plan (λ i next s. All-contains IsFormed m.code i formed.instrs (contains_of s));
       colours_low = still_low m (spilled plan m) refl kept;
     }
 

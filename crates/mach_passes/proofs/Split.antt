@@ -1,8 +1,9 @@
 -- What splitting carries: only numbers of open registers change.
 use Rattle.std.proofs.Common.{◌≡◌, ℕ, ◌+◌, ◌*◌, ◌<◌, Bool, true, false, cond, List, [], ◌∷◌, length, refl, sym, ap, ◌∙◌, subst, arith}
-use Rattle.std.proofs.lemmas.Bool.{lt-ltb, ltb-true}
+use Rattle.std.proofs.lemmas.Bool.{lt-ltb, ltb-true, both_ways}
 use Rattle.std.specs.List.{Contains}
 use Rattle.std.specs.Prelude.{nat_lt}
+use Rattle.std.proofs.lemmas.List.{length-map}
 use Rattle.bs_words.specs.declared.types.Loc.TheVariants as loc
 use Rattle.linear_rules.specs.Lowered.{same_spot}
 use Rattle.mach_ir.specs.Formed.{WellFormed}
@@ -19,8 +20,7 @@ use Rattle.mach_ir.specs.declared.mach.Mach.{Mach}
 use Rattle.mach_laws.specs.Expand.{expand}
 use Rattle.pass_rules.specs.Carried.{IsCarried}
 use Rattle.pass_rules.specs.Measures.{copy_words, mark_words, words_with, operands_with}
-use Rattle.places_rules.proofs.Files.{differ}
-use Rattle.places_rules.proofs.Lists.{was, length_mapped}
+use Rattle.places_rules.proofs.Lists.{was}
 use Rattle.places_rules.proofs.Walked.{left_among}
 use Rattle.places_rules.specs.Places.{ColoursLow}
 use Rattle.repeat_rules.proofs.OneForOne.{one_each}
@@ -44,7 +44,7 @@ module _ (names : Naming) where
   spot_same f g (r ∷ q ∷ rs) results = refl
 
   results_same : (most : ℕ) (g : ℕ → ℕ) (results : List Reg) → most + 16 * length (all_numbered g results) ≡ most + 16 * length results
-  results_same most g results = ap (λ n. most + 16 * n) (length_mapped (numbered g) results)
+  results_same most g results = ap (λ n. most + 16 * n) (length-map results (numbered g))
 
   words_same : (h : MachOp) (f g : ℕ → ℕ) (args results : List Reg) →
       words_with h (all_numbered f args) (all_numbered g results) ≡ words_with h args results
@@ -59,8 +59,8 @@ module _ (names : Naming) where
 
   both_same : (f g : ℕ → ℕ) (args results : List Reg) → length (all_numbered f args) + length (all_numbered g results) ≡ length args + length results
   both_same f g args results =
-      ap (λ n. n + length (all_numbered g results)) (length_mapped (numbered f) args)
-      ∙ ap (λ n. length args + n) (length_mapped (numbered g) results)
+      ap (λ n. n + length (all_numbered g results)) (length-map args (numbered f))
+      ∙ ap (λ n. length args + n) (length-map results (numbered g))
 
   operands_same : (h : MachOp) (f g : ℕ → ℕ) (args results : List Reg) →
       operands_with h (all_numbered f args) (all_numbered g results) ≡ operands_with h args results
@@ -117,7 +117,7 @@ module _ (m : Mach) (names : Naming) (is : IsNaming m names) (firsts : AreByFirs
           let lt : b.number < names.read (length next) r.number =
           subst (λ n. b.number < n) (sym (is.agree i next from r.number s (number_in r i.args a) z))
           (write_low b r c one u from (comes_write m z)) in
-          differ _ (lt-ltb b.number (names.read (length next) r.number) lt) e
+          both_ways _ e (lt-ltb b.number (names.read (length next) r.number) lt)
 
       by : (t : Bool) → nat_lt b.number (names.read (length next) r.number) ≡ t → b.number < names.read (length next) r.number
       by true e = ltb-true b.number (names.read (length next) r.number) e

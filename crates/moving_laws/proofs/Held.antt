@@ -3,6 +3,7 @@ use Rattle.std.proofs.Common.{◌≡◌, ◌≢◌, ℕ, ◌+◌, ◌-◌, ◌/�
 use Rattle.std.specs.List.{AllByRecursion, list_any}
 use Rattle.std.specs.Option.{is_some}
 use Rattle.std.proofs.lemmas.Bool.{and_from, and_parts, cases_lt, cond-true, cond-false, eq-eqb, eqb-true, le-leb, leb-true, or_left}
+use Rattle.std.proofs.lemmas.Option.{same_Some}
 use Rattle.image_form.specs.Tables.{Tables}
 use Rattle.rv_machine.specs.Memory.{Region, byte_in, index_in, is_inside, loaded, memory_or, or_zero, part, read, replaced, with_written, word, write, written}
 use Rattle.rv_machine.specs.Sound.{Extent, HasRegions, IsRegion, IsStackBase, extent, extents}
@@ -265,9 +266,6 @@ covers_byte x (e ∷ es) h = by_test (covers x e) refl h (covers_byte x es)
 covered_held : (m : List Region) (x : ℕ) → IsReadable m x → IsHeld m x
 covered_held m x r = record { is = covers_byte x (map extent m) (covered m x r) }
 
-some_same : {X : Type 0} {p q : X} → Some p ≡ Some q → p ≡ q
-some_same e = cc
-
 at_zero : (x : ℕ) → x + 0 ≡ x
 at_zero x = omega arith
 
@@ -277,7 +275,7 @@ held_is m x each share r =
     let even = readable_even m x r in
     let h : read m (x + 0) 8 ≡ Some (part (held_word m x) 0 8) = read_part x 0 8 (omega arith) even (omega arith) m share (covered_held m x r).is in
     let g : read m x 8 ≡ Some (part (held_word m x) 0 8) = subst (λ y. read m y 8 ≡ Some (part (held_word m x) 0 8)) (at_zero x) h in
-    sym (part_whole (held_word m x) (held_below m x each)) ∙ some_same (sym g ∙ read_is m x r)
+    sym (part_whole (held_word m x) (held_below m x each)) ∙ same_Some _ _ (sym g ∙ read_is m x r)
 
 -- and so it is set as it is written
 pub write_hold : (m : List Region) (x z : ℕ) → AllByRecursion IsRegion m → AllShare x 8 m → IsReadable m x → z < 2 ^ 64 → write m x z ≡ hold m x z
@@ -287,8 +285,7 @@ write_hold m x z each share r small =
     written_part x 0 8 (omega arith) even (omega arith) m z share (covered_held m x r).is in
     let g : written m x 8 z ≡ Some (hold m x (replaced (held_word m x) 0 8 z)) =
     subst (λ y. written m y 8 z ≡ Some (hold m x (replaced (held_word m x) 0 8 z))) (at_zero x) h in
-    some_same
-    (sym (stored_is m x z r) ∙ cond-true (x % 8 == 0) (written m x 8 z) None (eq-eqb (x % 8) 0 even) ∙ g
+    same_Some _ _ (sym (stored_is m x z r) ∙ cond-true (x % 8 == 0) (written m x 8 z) None (eq-eqb (x % 8) 0 even) ∙ g
     ∙ ap (λ k. Some (hold m x k)) (replaced_whole (held_word m x) z (held_below m x each) small))
 
 -- ---- words that cannot be read

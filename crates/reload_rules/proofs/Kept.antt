@@ -1,9 +1,11 @@
 -- A function with its reloads and spills does what it did: what is live holds what it held, and so do the fresh registers of the
 -- instruction that is near.
 use Rattle.std.proofs.Common.{◌≡◌, ℕ, suc, ◌<◌, ◌≤◌, Bool, true, false, cond, inl, inr, ◌⊎◌, ⊎_elim, List, [], ◌∷◌, ◌++◌, length, Option, Some, None, refl, sym, ap, ◌∙◌, subst, arith}
-use Rattle.std.proofs.lemmas.Bool.{cases_Bool, eq-eqb, eqb-true}
+use Rattle.std.proofs.lemmas.Bool.{cases_Bool, eq-eqb, eqb-true, both_ways}
 use Rattle.std.specs.List.{Contains}
 use Rattle.std.specs.Prelude.{nat_eq}
+use Rattle.std.proofs.lemmas.Option.{none-some, same_Some}
+use Rattle.std.proofs.lemmas.List.Elements.{All-contains}
 use Rattle.bs_words.specs.Fits.{fits, type_of_comp}
 use Rattle.bs_words.specs.Memory.{Memory}
 use Rattle.bs_words.specs.declared.values.Value.{Value}
@@ -32,15 +34,14 @@ use Rattle.mach_laws.proofs.Places.{ending_next, ending_label, ending_land, endi
 use Rattle.mach_laws.proofs.Simulate.{Agrees}
 use Rattle.mach_laws.proofs.Walking.{none_in, in_cons}
 use Rattle.places_rules.proofs.Lists.{head_same, tail_same}
-use Rattle.places_rules.proofs.Files.{none_some, some_same, past_same, cleared, not_cleared, among_or_not, put_here, put_other, put_both}
+use Rattle.places_rules.proofs.Files.{past_same, cleared, not_cleared, among_or_not, put_here, put_other, put_both}
 use Rattle.places_rules.proofs.Walked.{left_among, right_among, split_among, stands_of}
 use Rattle.places_rules.proofs.Raised.{IsRaised, Told, told_jump, told_unwind, told_ask, IsSilent, told, label_silent, try_silent}
 use Rattle.liveness.proofs.Bounds.{killed_is_colour}
-use Rattle.split_rules.proofs.Formed.{contains_of, of_each}
+use Rattle.split_rules.proofs.Formed.{contains_of}
 use Rattle.split_rules.proofs.Text.{number_among, number_in, args_in, results_in}
 use Rattle.spill_rules.specs.Spilled.{copied}
 use Rattle.spill_rules.proofs.Kept.{values_held, FitsIn, put_fits, put_holds, clear_fits, frame_fits}
-use Rattle.places_rules.proofs.Files.{differ}
 use Rattle.reload_rules.specs.Reloaded.{reads_registers, writes_registers, is_renewed, fresh, number_after, reloads, spills}
 use Rattle.reload_rules.proofs.Calm.{Calm, calm_go, calm_push, calm_label, calm_handler, calm_unwind, calm_ask, IsHandler, is_handler, calm, calm_at_handler}
 use Rattle.reload_rules.proofs.Files.{values_renewed, Apart, apart_of, PutsRenewed, put_renewed}
@@ -55,18 +56,18 @@ data IsCaught : List Instr → Type 0 where
   handled : {i : Instr} {next : List Instr} → IsHandler i.op → IsCaught (i ∷ next)
 
 handler_of : (l : ℕ) (f : MachOp) → is_handler_of l f ≡ true → IsHandler f
-handler_of l (mach.Op f) e = absurd (differ false e refl)
-handler_of l (mach.Mark (mark.Exit k n)) e = absurd (differ false e refl)
-handler_of l (mach.Mark (mark.If t k)) e = absurd (differ false e refl)
-handler_of l (mach.Mark (mark.Else k end)) e = absurd (differ false e refl)
-handler_of l (mach.Mark (mark.Switch ls)) e = absurd (differ false e refl)
-handler_of l (mach.Mark (mark.Case ns k end)) e = absurd (differ false e refl)
-handler_of l (mach.Mark mark.Catch) e = absurd (differ false e refl)
-handler_of l (mach.Mark (mark.With k end)) e = absurd (differ false e refl)
-handler_of l (mach.Mark (mark.Try k)) e = absurd (differ false e refl)
-handler_of l (mach.Mark (mark.Leave k end)) e = absurd (differ false e refl)
+handler_of l (mach.Op f) e = absurd (both_ways false refl e)
+handler_of l (mach.Mark (mark.Exit k n)) e = absurd (both_ways false refl e)
+handler_of l (mach.Mark (mark.If t k)) e = absurd (both_ways false refl e)
+handler_of l (mach.Mark (mark.Else k end)) e = absurd (both_ways false refl e)
+handler_of l (mach.Mark (mark.Switch ls)) e = absurd (both_ways false refl e)
+handler_of l (mach.Mark (mark.Case ns k end)) e = absurd (both_ways false refl e)
+handler_of l (mach.Mark mark.Catch) e = absurd (both_ways false refl e)
+handler_of l (mach.Mark (mark.With k end)) e = absurd (both_ways false refl e)
+handler_of l (mach.Mark (mark.Try k)) e = absurd (both_ways false refl e)
+handler_of l (mach.Mark (mark.Leave k end)) e = absurd (both_ways false refl e)
 handler_of l (mach.Mark (mark.Handler k)) e = is_handler
-handler_of l (mach.Mark (mark.End k)) e = absurd (differ false e refl)
+handler_of l (mach.Mark (mark.End k)) e = absurd (both_ways false refl e)
 
 caught_from : (l : ℕ) (code : List Instr) → IsCaught (from_handler l code)
 caught_from l [] = nowhere
@@ -121,7 +122,7 @@ module _ (m : Mach) (s : ℕ → ℕ) (free top : ℕ) (formed : WellFormed m) (
   Unspilled = NotSpilled m s free top formed placed is
 
   form_of : {i : Instr} {next : List Instr} → Ending (i ∷ next) m.code → IsFormed i
-  form_of {i} e = of_each IsFormed m.code i formed.instrs (contains_of (stands_of e))
+  form_of {i} e = All-contains IsFormed m.code i formed.instrs (contains_of (stands_of e))
 
   pub laid_after : (i : Instr) (next : List Instr) → Ending (i ∷ next) m.code →
       Lay (Storing i next (first_result i next) i.results) (spills (writes_registers i.op) (first_result i next) i.results ++ expand f next)
@@ -201,8 +202,7 @@ module _ (m : Mach) (s : ℕ → ℕ) (free top : ℕ) (formed : WellFormed m) (
         record {
           written = λ j ys e frame r one val v none.
               absurd
-              (differ (passes_frame j.op) frame
-              (ap (λ (i : Instr). passes_frame i.op) (sym (head_same e))));
+              (both_ways (passes_frame j.op) (ap (λ (i : Instr). passes_frame i.op) (sym (head_same e))) frame);
         }
 
     -- ---- before an instruction
@@ -359,7 +359,7 @@ module _ (m : Mach) (s : ℕ → ℕ) (free top : ℕ) (formed : WellFormed m) (
                         ap (λ (k : Reg). a k.number) (sym (for_same (reads_registers i.op) made_here g same)) ∙ as_put
                         ∙ sym (put_here (fresh n r) h.value b x same))
                         (λ e.
-                        let ne = λ (z : n ≡ x). differ (nat_eq n x) (eq-eqb n x z) e in
+                        let ne = λ (z : n ≡ x). both_ways (nat_eq n x) e (eq-eqb n x z) in
                         holds.made x w g (less n x lt ne) ∙ sym (put_other (fresh n r) h.value b x ne))
                         (cases_Bool (nat_eq n x));
                   }
@@ -452,7 +452,7 @@ module _ (m : Mach) (s : ℕ → ℕ) (free top : ℕ) (formed : WellFormed m) (
                 itself = λ x v free. holds.itself x v
                     (λ j z g h.
                     ⊎_elim
-                    (λ a. differ (is_renewed (writes_registers i.op) r) (subst (λ j. is_renewed (writes_registers i.op) j ≡ true) (sym a) g) t)
+                    (λ a. both_ways (is_renewed (writes_registers i.op) r) t (subst (λ j. is_renewed (writes_registers i.op) j ≡ true) (sym a) g))
                     (λ z. free j z g h) (in_cons r j rs z));
                 made = holds.made;
               }) in
@@ -527,7 +527,7 @@ module _ (m : Mach) (s : ℕ → ℕ) (free top : ℕ) (formed : WellFormed m) (
                         let same : r.number ≡ x = eqb-true r.number x g in
                         ap d (sym same) ∙ as_put ∙ sym (put_here r h.value e x same))
                         (λ g.
-                        let ne = λ (z : r.number ≡ x). differ (nat_eq r.number x) (eq-eqb r.number x z) g in
+                        let ne = λ (z : r.number ≡ x). both_ways (nat_eq r.number x) g (eq-eqb r.number x z) in
                         holds.itself x v
                         (λ j z u w.
                         ⊎_elim (λ a. ne (ap (λ (r : Reg). r.number) a ∙ w)) (λ z. free j z u w) (in_cons r j rs z))
@@ -693,8 +693,7 @@ module _ (m : Mach) (s : ℕ → ℕ) (free top : ℕ) (formed : WellFormed m) (
             ⊎_elim (λ h. absurd (none h))
             (λ h.
             absurd
-            (none_some
-            (sym (cleared (killed m i) b' r.number (subst (Among r.number) (killed_same m s free top formed placed is i next) h))
+            (none-some _ (sym (cleared (killed m i) b' r.number (subst (Among r.number) (killed_same m s free top formed placed is i next) h))
             ∙ sym (p.others_new r.number none) ∙ e)))
             (split_among r.number (main_for i next).results (killed q (main_for i next))
             (unless_among y.raised (written q (main_for i next)) r.number z)))
@@ -801,7 +800,7 @@ module _ (m : Mach) (s : ℕ → ℕ) (free top : ℕ) (formed : WellFormed m) (
             }
 
         apart_results : Apart i.results
-        apart_results = apart_of i.results (of_each (λ (i : Instr). AreDistinct i.results) m.code i formed.distinct (contains_of stands))
+        apart_results = apart_of i.results (All-contains (λ (i : Instr). AreDistinct i.results) m.code i formed.distinct (contains_of stands))
 
         low_results : (r : Reg) → Contains i.results r → r.number < first_result i next
         low_results r z =
@@ -914,10 +913,10 @@ module _ (m : Mach) (s : ℕ → ℕ) (free top : ℕ) (formed : WellFormed m) (
         record {
           itself = λ n v. refl;
           fit = λ r j.
-              put_fits limit m.params vs (λ n. None) a e r (λ k z g. formed.numbers k r (is_param z) j g) (λ h g. absurd (none_some g));
+              put_fits limit m.params vs (λ n. None) a e r (λ k z g. formed.numbers k r (is_param z) j g) (λ h g. absurd (none-some _ g));
           agree = λ r k i j origin v w x y g h.
               let same : r ≡ k = one_param r k i j origin x y g h in
-              ap (λ (h : Held). h.value) (some_same (sym g ∙ ap (λ (r : Reg). a r.number) same ∙ h));
+              ap (λ (h : Held). h.value) (same_Some _ _ (sym g ∙ ap (λ (r : Reg). a r.number) same ∙ h));
         }
       where
         unwritten_one : (n : ℕ) → (Among n m.params → ⊥) → a n ≡ None
@@ -930,8 +929,8 @@ module _ (m : Mach) (s : ℕ → ℕ) (free top : ℕ) (formed : WellFormed m) (
             (λ z.
             let p = number_among m.params z in
             let same = formed.numbers p.0 r (is_param p.1) i p.2 in
-            subst (λ (r : Reg). r.origin ≡ r.number) same (of_each (λ (r : Reg). r.origin ≡ r.number) m.params p.0 formed.params p.1))
-            (λ none. absurd (none_some (sym (unwritten_one r.number none) ∙ g))) (among_or_not r.number m.params)
+            subst (λ (r : Reg). r.origin ≡ r.number) same (All-contains (λ (r : Reg). r.origin ≡ r.number) m.params p.0 formed.params p.1))
+            (λ none. absurd (none-some _ (sym (unwritten_one r.number none) ∙ g))) (among_or_not r.number m.params)
 
         one_param : (r k : Reg) → IsRegister m r → IsRegister m k → r.origin ≡ k.origin → (x y : Held) → a r.number ≡ Some x →
             a k.number ≡ Some y → r ≡ k

@@ -1,9 +1,10 @@
 -- What is live in a function with its reloads and spills was live before, but for the fresh registers of the instruction that is
 -- near.
 use Rattle.std.proofs.Common.{◌≡◌, ℕ, suc, ◌<◌, ◌≤◌, Bool, true, false, cond, ◌⊎◌, inl, inr, ⊎_elim, List, [], ◌∷◌, ◌++◌, length, refl, sym, ap, ◌∙◌, subst, arith, append_assoc}
-use Rattle.std.proofs.lemmas.Bool.{cases_Bool, eq-eqb, eqb-true}
+use Rattle.std.proofs.lemmas.Bool.{cases_Bool, eq-eqb, eqb-true, both_ways}
 use Rattle.std.specs.List.{Contains}
 use Rattle.std.specs.Prelude.{nat_eq}
+use Rattle.std.proofs.lemmas.List.Elements.{All-contains}
 use Rattle.mach_ir.specs.Acts.{Target, On, At}
 use Rattle.mach_ir.specs.Formed.{IsFormed, WellFormed}
 use Rattle.mach_ir.specs.Meaning.{after_label, from_handler, code_at, tries_at, tries_past, destroyed_by, killed}
@@ -18,10 +19,9 @@ use Rattle.mach_laws.proofs.Places.{label_expand, handler_expand, ending_next, e
 use Rattle.mach_laws.proofs.Walking.{none_in, in_cons}
 use Rattle.places_rules.proofs.Raised.{label_silent}
 use Rattle.places_rules.proofs.Walked.{left_among, right_among, split_among, stands_of}
-use Rattle.split_rules.proofs.Formed.{contains_of, of_each}
+use Rattle.split_rules.proofs.Formed.{contains_of}
 use Rattle.split_rules.proofs.Text.{number_among, number_in}
 use Rattle.spill_rules.specs.Spilled.{copied}
-use Rattle.places_rules.proofs.Files.{differ}
 use Rattle.reload_rules.specs.Reloaded.{reads_registers, writes_registers, is_renewed, fresh, number_after, number_past, reloads, spills, results_from, past_instr, renewed_instr}
 use Rattle.reload_rules.proofs.Killed.{same_killed}
 use Rattle.reload_rules.proofs.Numbers.{IsFor, for_this, for_other, WasIn, was_own, was_fresh, after_true, after_false, for_from, for_below, for_in, was_in, own_stays, for_stands}
@@ -191,7 +191,7 @@ module _ (m : Mach) (s : ℕ → ℕ) (free top : ℕ) (formed : WellFormed m) (
   -- ---- what an instruction writes
 
   form_of : {i : Instr} {next : List Instr} → Ending (i ∷ next) m.code → IsFormed i
-  form_of {i} e = of_each IsFormed m.code i formed.instrs (contains_of (stands_of e))
+  form_of {i} e = All-contains IsFormed m.code i formed.instrs (contains_of (stands_of e))
 
   pub killed_same : (i : Instr) (next : List Instr) → killed q (main_of i next) ≡ killed m i
   killed_same i next = same_killed m.colours (destroyed_by i.op) (writes_registers i.op) (results_at i next) i.results
@@ -227,7 +227,7 @@ module _ (m : Mach) (s : ℕ → ℕ) (free top : ℕ) (formed : WellFormed m) (
       Says x (Storing i next n rs) → Says x (Storing i next n (r ∷ rs))
   passed_by x i next n r rs e (inl h) = inl h
   passed_by x i next n r rs e (inr h) =
-      inr (h.0, more_spilled i x r rs (λ t g. differ (is_renewed (writes_registers i.op) r) t e) h.1)
+      inr (h.0, more_spilled i x r rs (λ t g. both_ways (is_renewed (writes_registers i.op) r) e t) h.1)
 
   read_case : {x : ℕ} {j : Instr} {ys : List Instr} (z : Stage) → Laid z (j ∷ ys) → Among x j.args → Says x z
   read_case {x} z (begins {i = i} {next = next} ending h) a = narrowed x i next (read_case (Reading i next (operands_at next) i.args) h a)
@@ -288,7 +288,7 @@ module _ (m : Mach) (s : ℕ → ℕ) (free top : ℕ) (formed : WellFormed m) (
           absurd
           (w (left_among (fresh n r ∷ []) (killed q (copied copy.Reload r (fresh n r))) (first (eqb-true n x e)))))
           (λ e.
-          let ne : (n ≡ x → ⊥) = λ d. differ (nat_eq n x) (eq-eqb n x d) e in
+          let ne : (n ≡ x → ⊥) = λ d. both_ways (nat_eq n x) e (eq-eqb n x d) in
           inr (is_operand k a (less n x lt ne)))
           (cases_Bool (nat_eq n x))
         where
@@ -340,11 +340,11 @@ module _ (m : Mach) (s : ℕ → ℕ) (free top : ℕ) (formed : WellFormed m) (
       tries_at (j ∷ ys) ≡ l ∷ tries → ((z : Stage) → Laid z (from_handler l q.code) → Says x z) → Says x z
   aside_case {x} z l tries (begins {i = i} {next = next} ending h) b e ih =
       narrowed x i next (aside_case (Reading i next (operands_at next) i.args) l tries h b e ih)
-  aside_case z l tries (reload r ending g h) b e ih = absurd (differ false b refl)
+  aside_case z l tries (reload r ending g h) b e ih = absurd (both_ways false refl b)
   aside_case z l tries (passes_operand {i = i} {next = next} {n = n} {rs = rs} r h) b e ih = aside_case (Reading i next n rs) l tries h b e ih
   aside_case z l tries (main {i = i} {next = next} ending h) b e ih =
       inl (aside (raises b (sym (laid_tries (main ending h)) ∙ e)) (ih (Before (from_handler l m.code)) (at_handler l)))
-  aside_case z l tries (spill r ending g h) b e ih = absurd (differ false b refl)
+  aside_case z l tries (spill r ending g h) b e ih = absurd (both_ways false refl b)
   aside_case {x} z l tries (passes_result {i = i} {next = next} {n = n} {rs = rs} r t h) b e ih =
       passed_by x i next n r rs t (aside_case (Storing i next n rs) l tries h b e ih)
   aside_case {x} z l tries (ends {i = i} {next = next} h) b e ih =

@@ -1,6 +1,8 @@
 -- A well-placed function is so with its reloads and spills, and what the conventions place stands there.
 use Rattle.std.proofs.Common.{◌≡◌, ◌≢◌, ℕ, suc, ◌<◌, Bool, true, false, cond, ◌⊎◌, inl, inr, ⊎_elim, List, [], ◌∷◌, ◌++◌, refl, sym, ap, ◌∙◌, subst, arith}
 use Rattle.std.specs.List.{Contains}
+use Rattle.std.proofs.lemmas.List.Elements.{All-contains}
+use Rattle.std.proofs.lemmas.Bool.{false≢true}
 use Rattle.bs_words.specs.declared.types.Comp.{Comp}
 use Rattle.bs_words.specs.declared.types.Loc.{Loc}
 use Rattle.bs_words.specs.declared.types.Loc.TheVariants as loc
@@ -25,7 +27,7 @@ use Rattle.places_rules.proofs.Open.{machine_open}
 use Rattle.places_rules.proofs.Lists.{was, mapped}
 use Rattle.places_rules.proofs.Walked.{left_among, right_among, split_among}
 use Rattle.places_rules.proofs.Whole.{AreRegisters, FixedSeats, fixed_in_order, fixed_after_first, fixed_operands, fixed_results, tail_fixed, head_fixed}
-use Rattle.split_rules.proofs.Formed.{contains_of, of_each}
+use Rattle.split_rules.proofs.Formed.{contains_of}
 use Rattle.split_rules.proofs.Text.{number_among, number_in}
 use Rattle.spill_rules.specs.Spilled.{copied}
 use Rattle.spill_rules.proofs.Chosen.{no_result, ending_of}
@@ -36,9 +38,6 @@ use Rattle.reload_rules.proofs.Numbers.{WasIn, was_own, was_fresh, for_in, for_s
 use Rattle.reload_rules.proofs.Parts.{first_operand, first_result, main_for, Part, part_reload, part_main, part_spill, part_at, IsCopy, is_copy, part_in}
 use Rattle.reload_rules.proofs.Registers.{for_operand, for_result, made_free, WasRegister, is_old, is_new, was_register}
 use Rattle.reload_rules.proofs.Text.{laid_instr, keeps_marks}
-
-not_true : false ≡ true → ⊥
-not_true e = cc
 
 -- ---- what has results goes on
 
@@ -113,7 +112,7 @@ module _ (m : Mach) (s : ℕ → ℕ) (free top : ℕ) (formed : WellFormed m) (
   Result = ForResult m s free top formed placed is
 
   form_of : {i : Instr} {next : List Instr} → Stands i next m.code → IsFormed i
-  form_of {i} t = of_each IsFormed m.code i formed.instrs (contains_of t)
+  form_of {i} t = All-contains IsFormed m.code i formed.instrs (contains_of t)
 
   only_number : {x : ℕ} (r : Reg) → Among x (r ∷ []) → r.number ≡ x
   only_number r (first e) = e
@@ -169,7 +168,7 @@ module _ (m : Mach) (s : ℕ → ℕ) (free top : ℕ) (formed : WellFormed m) (
   move_over next (is_move e h) = is_move e h
 
   move_none : {k n x : ℕ} {i : Instr} (next : List Instr) {w : Reg} → IsMove k n i → Result i next x w → ⊥
-  move_none next (is_move e h) g = not_true (for_slot false g)
+  move_none next (is_move e h) g = false≢true (for_slot false g)
 
   meets_back : (n k : ℕ) → n < free → k < free → Meets q n k → Meets m n k
   meets_back n k low lt (at_params a v) = at_params a (live_before m s free top formed placed is all v)

@@ -1,6 +1,8 @@
 -- A result that still stands holds what its operator would give now.
 use Rattle.std.proofs.Common.{◌≡◌, ◌≢◌, ℕ, Bool, true, false, cond, List, [], ◌∷◌, Option, Some, None, refl, sym, ap, ◌∙◌, subst}
 use Rattle.std.specs.List.{Contains}
+use Rattle.std.proofs.lemmas.Bool.{both_ways}
+use Rattle.std.proofs.lemmas.Option.{same_Some}
 use Rattle.bs_words.specs.declared.types.Comp.{Comp}
 use Rattle.bs_words.specs.declared.types.Comp.TheVariants as comp
 use Rattle.bs_words.specs.declared.values.Value.{Value}
@@ -15,9 +17,8 @@ use Rattle.mach_ir.specs.declared.mach.Instr.{Instr}
 use Rattle.mach_ir.specs.declared.mach.Mach.{Mach}
 use Rattle.mach_laws.specs.Expand.{Ending}
 use Rattle.mach_laws.proofs.Walking.{first_in}
-use Rattle.places_rules.proofs.Files.{some_same, put_other}
+use Rattle.places_rules.proofs.Files.{put_other}
 use Rattle.repeat_rules.specs.Repeated.{is_operator, allocates, Ends, itself}
-use Rattle.places_rules.proofs.Files.{differ}
 use Rattle.repeat_rules.proofs.Acting.{Grown, gives_value, gives_still}
 use Rattle.split_rules.proofs.Text.{number_among}
 use Rattle.repeat_rules.proofs.Standing.{operator_straight, operator_same, straight_kills, straight_frame, Standing, Earlier, just_now, earlier, earlier_of}
@@ -56,7 +57,7 @@ past_kept false r v a h e = e
 past_kept true r v a h e = ap unless_addr e ∙ by r.comp refl
   where
     by : (t : Comp) → r.comp ≡ t → cond (is_addr r.comp) None (Fresh r v) ≡ Fresh r v
-    by comp.Addr s = absurd (differ true refl (h s))
+    by comp.Addr s = absurd (both_ways true (h s) refl)
     by comp.Int s = ap (λ t. cond (is_addr t) None (Fresh r v)) s
     by comp.Val s = ap (λ t. cond (is_addr t) None (Fresh r v)) s
     by comp.Float s = ap (λ t. cond (is_addr t) None (Fresh r v)) s
@@ -108,7 +109,7 @@ module _ (m : Mach) (plan : ℕ → Option Reg) (c : Place) where
             value = p.value;
             holds = ap (λ (file : File). file r.number) p.file ∙ put_same r p.value a;
             gives = λ us h.
-                let same : us ≡ vs = some_same (sym (values_stay a d j.args kept us h) ∙ e) in
+                let same : us ≡ vs = same_Some _ _ (sym (values_stay a d j.args kept us h) ∙ e) in
                 ap (λ zs. mach_act c.setting j.op zs after) same ∙ ap (mach_act c.setting j.op vs) g.same ∙ acts
                 ∙ ap (λ zs. Goes zs On after) p.is;
           }

@@ -1,6 +1,7 @@
 -- What is live in a function whose repeats are moves was live, or is a result that still stands.
 use Rattle.std.proofs.Common.{◌≡◌, ◌≢◌, ℕ, true, false, ◌⊎◌, inl, inr, ⊎_elim, List, [], ◌∷◌, length, Option, Some, refl, sym, ap, ◌∙◌, subst}
 use Rattle.std.specs.List.{Contains}
+use Rattle.std.proofs.lemmas.Bool.{both_ways}
 use Rattle.bs_words.specs.declared.types.Comp.TheVariants as comp
 use Rattle.mach_ir.specs.Meaning.{killed, written, passes_frame}
 use Rattle.mach_ir.specs.Placed.{is_straight}
@@ -12,7 +13,6 @@ use Rattle.mach_laws.specs.Expand.{Ending, all, expand}
 use Rattle.mach_laws.proofs.Walking.{first_in}
 use Rattle.places_rules.proofs.Walked.{ending_of, left_among, split_among, stands_of}
 use Rattle.split_rules.proofs.Text.{number_in, number_among, results_in}
-use Rattle.places_rules.proofs.Files.{differ}
 use Rattle.repeat_rules.specs.Repeated.{is_operator, allocates, Ends, Repeats, again, in_place, with_moves, IsBefore}
 use Rattle.repeat_rules.proofs.OneForOne as one
 use Rattle.repeat_rules.proofs.OneForOne.{in_append, in_front, was_main, written_same}
@@ -173,7 +173,7 @@ module _ (m : Mach) (plan : ℕ → Option Reg)
         where
           of_fate : Fate plan p i → ⊥
           of_fate (unchanged e s) = h (subst (IsMove k n) (sym e) x)
-          of_fate (moved r g s e) = differ (is_operator i.op) g (move_plain x)
+          of_fate (moved r g s e) = both_ways (is_operator i.op) (move_plain x) g
 
       by : (i : Instr) (next : List Instr) → Stands i next m.code → Writes m i n →
           LiveAfter q k (again plan (length next) i) (expand f next) → (IsMove k n i → ⊥) → Meets m n k ⊎ Apart n k
@@ -192,8 +192,7 @@ module _ (m : Mach) (plan : ℕ → Option Reg)
         let b = s.before in
         let same : r ≡ b.register =
         numbers r b.register one (standing_register b.instr b.register b.standing) (sym b.number) in
-        differ (passes_frame i.op) frame
-        (straight_frame i.op s.straight ∙ s.kept (ap (λ (x : Reg). x.comp) (sym same) ∙ addr))
+        both_ways (passes_frame i.op) (straight_frame i.op s.straight ∙ s.kept (ap (λ (x : Reg). x.comp) (sym same) ∙ addr)) frame
 
     pub no_addr_back : NoAddrLive m → NoAddrLive (record m { code = with_moves plan m.code })
     no_addr_back none =

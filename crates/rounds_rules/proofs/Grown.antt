@@ -102,10 +102,6 @@ homed_rest : (xs : List Instr) {ys : List Instr} → HomedCode (xs ++ ys) → Ho
 homed_rest [] h = h
 homed_rest (x ∷ xs) (homed_then a b h) = homed_rest xs h
 
-is_false : (b : Bool) → not b ≡ false → b ≡ true
-is_false true e = refl
-is_false false e = cc
-
 copy_reads : (f : MachOp) → copies f ≡ true → reads_registers f ≡ false
 copy_reads (mach.Op f) e = ap not e
 copy_reads (mach.Mark f) e = cc

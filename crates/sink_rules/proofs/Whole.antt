@@ -1,5 +1,6 @@
 -- The code grows by at most a copy for each register that is moved; and what a function with moves keeps, whole.
 use Rattle.std.proofs.Common.{◌≡◌, ℕ, suc, ◌+◌, ◌*◌, ◌≤◌, Bool, true, false, cond, List, [], ◌∷◌, length, refl, sym, ap, ◌∙◌, subst, arith}
+use Rattle.std.proofs.lemmas.List.Elements.{All-contains}
 use Rattle.mach_ir.specs.Formed.{is_exit, WellFormed}
 use Rattle.mach_ir.specs.Meaning.{passes_frame, tries_at, tries_past}
 use Rattle.mach_ir.specs.Sizes.{HasSize}
@@ -8,7 +9,6 @@ use Rattle.mach_ir.specs.declared.reg.Reg.{Reg}
 use Rattle.mach_ir.specs.declared.mach.Instr.{Instr}
 use Rattle.mach_ir.specs.declared.mach.Mach.{Mach}
 use Rattle.linear_rules.specs.Lowered.{same_spot}
-use Rattle.split_rules.proofs.Formed.{of_each}
 use Rattle.pass_rules.specs.Carried.{OffsetFits, TriesAtMost, EndsInReturn, at_return, further, IsCarried}
 use Rattle.pass_rules.specs.Measures.{copy_words, instr_words, code_words, one_if, code_points, exits, operands_with, other_operands}
 use Rattle.sink_rules.specs.Sunk.{Plan, to_itself, sunk, IsPlan, IsKept}
@@ -71,7 +71,7 @@ module _ (m : Mach) (plan : Plan) (formed : WellFormed m) (is : IsPlan m plan) w
         tries = λ most known i zs s. few_tries most known i zs (text.whence m plan is s);
         offsets = λ fit.
             each_in m plan formed is (λ (i : Instr). OffsetFits i.op) (λ r k. tt)
-            (λ i c. of_each (λ (i : Instr). OffsetFits i.op) m.code i fit c);
+            (λ i c. All-contains (λ (i : Instr). OffsetFits i.op) m.code i fit c);
         ends = still_ends (text.whole_laid m plan is);
         colours_low = λ low r k c i e. low r k c (was k i) e;
       }

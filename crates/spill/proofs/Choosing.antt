@@ -3,6 +3,7 @@ use Rattle.std.proofs.Common.{◌≡◌, ℕ, suc, ◌+◌, ◌-◌, ◌≤◌, 
 use Rattle.std.proofs.lemmas.Bool.{cases_Bool, eq-eqb, eqb-true}
 use Rattle.std.specs.List.{Contains}
 use Rattle.std.specs.Prelude.{nat_eq}
+use Rattle.std.proofs.lemmas.List.Elements.{All-contains}
 use Rattle.bs_bits.specs.Set.{has}
 use Rattle.dataflow.specs.Rows.{row}
 use Rattle.mach_ir.specs.Formed.{IsFormed, WellFormed}
@@ -15,7 +16,7 @@ use Rattle.mach_laws.specs.Expand.{expand}
 use Rattle.mach_laws.specs.Graph.{place_of, numbers, next_places}
 use Rattle.mach_laws.proofs.Walking.{none_in, first_in, later_in, in_cons, place_is}
 use Rattle.places_rules.proofs.Walked.{left_among}
-use Rattle.split_rules.proofs.Formed.{contains_of, of_each}
+use Rattle.split_rules.proofs.Formed.{contains_of}
 use Rattle.split_rules.proofs.Text.{number_in, args_in}
 use Rattle.split_rules.specs.Writes.{Comes, from_entry, from_write, past, past_raise}
 use Rattle.spill_rules.specs.Chosen.{IsReloaded, ReloadsAt, StoresAt, IsChosen, IsSpilled}
@@ -267,7 +268,7 @@ module _ (m : Mach) (t : Tables) (are : AreTables m t) (formed : WellFormed m) w
     p = place_of m (i ∷ next)
 
     form : IsFormed i
-    form = of_each IsFormed m.code i formed.instrs (contains_of s)
+    form = All-contains IsFormed m.code i formed.instrs (contains_of s)
 
     reload_same : (r : Reg) → Contains i.args r → is_reloaded t p r ≡ plan.reloads (length next) r.number
     reload_same r c =

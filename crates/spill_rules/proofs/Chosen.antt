@@ -2,6 +2,8 @@
 use Rattle.std.proofs.Common.{◌≡◌, ◌↔◌, ℕ, suc, ◌+◌, ◌*◌, ◌-◌, ◌<◌, ◌≤◌, Bool, true, false, cond, ◌⊎◌, inl, inr, ⊎_elim, List, [], ◌∷◌, ◌++◌, drop, length, refl, sym, ap, ◌∙◌, subst, arith}
 use Rattle.std.proofs.lemmas.Bool.{cases_Bool}
 use Rattle.std.specs.List.{Contains}
+use Rattle.std.proofs.lemmas.List.Elements.{All-contains, Contains-append_left}
+use Rattle.std.proofs.Math.Nat.{le_antisymm}
 use Rattle.bs_words.specs.declared.types.Comp.{Comp}
 use Rattle.bs_words.specs.declared.types.Loc.TheVariants as loc
 use Rattle.mach_ir.specs.Acts.{Target, On}
@@ -21,10 +23,10 @@ use Rattle.mach_ir.specs.declared.mach.Instr.{Instr}
 use Rattle.mach_ir.specs.declared.mach.Mach.{Mach}
 use Rattle.mach_laws.specs.Expand.{expand, Ending, all, more}
 use Rattle.mach_laws.proofs.Places.{ending_next}
-use Rattle.mach_laws.proofs.Walking.{none_in, first_in, later_in, in_cons, drop_ending}
+use Rattle.mach_laws.proofs.Walking.{none_in, first_in, later_in, drop_ending}
 use Rattle.places_rules.proofs.Open.{machine_open}
 use Rattle.places_rules.proofs.Lists.{was, mapped, head_same}
-use Rattle.split_rules.proofs.Formed.{contains_of, of_each}
+use Rattle.split_rules.proofs.Formed.{contains_of}
 use Rattle.split_rules.proofs.Result.{comes_write}
 use Rattle.split_rules.proofs.Text.{number_among, number_in, args_in}
 use Rattle.split_rules.specs.Writes.{Comes, from_entry, from_write, past, past_raise, IsWrite, by_entry, by_instr}
@@ -164,7 +166,7 @@ module _ (m : Mach) (plan : Plan) (formed : WellFormed m) (params : ParamsPlaced
       let same : j ∷ after ≡ i ∷ next = same_instr t s (ap length e) in
       let to_on : x ≡ On =
       only_on x
-      (subst (OneOf x) (ap (λ (i : Instr). targets i.op) (head_same same) ∙ goes_on r (of_each IsFormed m.code i formed.instrs (contains_of s)) c) o) in
+      (subst (OneOf x) (ap (λ (i : Instr). targets i.op) (head_same same) ∙ goes_on r (All-contains IsFormed m.code i formed.instrs (contains_of s)) c) o) in
       turned x to_on v
     where
       turned : (x : Target) → x ≡ On → Live m r.number (code_at m.code after x) → Live m r.number next
@@ -324,14 +326,11 @@ same_answer true false x y = sym (y.1 (x.0 refl))
 same_answer false true x y = x.1 (y.0 refl)
 same_answer false false x y = refl
 
-same_least : (a b : ℕ) → a ≤ b → b ≤ a → a ≡ b
-same_least a b x y = omega (arith, x, y)
-
 pub one_spilled : (m q k : Mach) → IsSpilled m q → IsSpilled m k → q ≡ k
 one_spilled m q k s t =
     let a = s.chosen in
     let b = t.chosen in
-    let free : a.free ≡ b.free = same_least a.free b.free (a.least b.free b.above) (b.least a.free a.above) in
+    let free : a.free ≡ b.free = le_antisymm (a.least b.free b.above) (b.least a.free a.above) in
     let slot = λ (n : ℕ). a.slots n ∙ ap (λ f. f + n) free ∙ sym (b.slots n) in
     s.is
     ∙ spilled_alike s.plan t.plan m
@@ -351,12 +350,6 @@ one_spilled m q k s t =
 
 -- ---- parameters
 
-left_of : {A : Type 0} (xs ys : List A) (y : A) → Contains xs y → Contains (xs ++ ys) y
-left_of [] ys y c = absurd (none_in y c)
-left_of (x ∷ xs) ys y c =
-    ⊎_elim (λ e. subst (Contains (x ∷ (xs ++ ys))) e (first_in x (xs ++ ys))) (λ d. later_in x y (xs ++ ys) (left_of xs ys y d))
-    (in_cons x y xs c)
-
 -- a0 to a7 and s2 to s9
 abbrev argument_numbers : List ℕ
 argument_numbers = 10 ∷ 11 ∷ 12 ∷ 13 ∷ 14 ∷ 15 ∷ 16 ∷ 17 ∷ 18 ∷ 19 ∷ 20 ∷ 21 ∷ 22 ∷ 23 ∷ 24 ∷ 25 ∷ []
@@ -367,5 +360,5 @@ seated_params m s = record { placed = λ r c e. by r c e s.params }
     by : (r : Reg) → Contains m.params r → r.loc ≡ loc.Unset → AreSeated (InOrder argument_places) (places_of m.params) → ⊥
     by r c e (in_order others h) =
         let l = mapped (λ (r : Reg). r.loc) m.params r c in
-        let w = was loc.Machine argument_numbers r.loc (subst (λ ls. Contains ls r.loc) h (left_of (places_of m.params) others r.loc l)) in
+        let w = was loc.Machine argument_numbers r.loc (subst (λ ls. Contains ls r.loc) h (Contains-append_left (places_of m.params) others r.loc l)) in
         machine_open (sym w.same) e

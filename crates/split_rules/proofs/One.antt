@@ -1,6 +1,6 @@
 -- A function splits in one way.
 use Rattle.std.proofs.Common.{◌≡◌, ◌≢◌, ℕ, Bool, true, false, ⊎_elim, List, [], ◌∷◌, length, refl, sym, ap, ◌∙◌, subst, arith}
-use Rattle.std.proofs.lemmas.Bool.{eq-eqb, eqb-true}
+use Rattle.std.proofs.lemmas.Bool.{eq-eqb, eqb-true, both_ways}
 use Rattle.std.specs.List.{Contains}
 use Rattle.std.specs.Prelude.{nat_eq}
 use Rattle.bs_words.specs.declared.types.Loc.{Loc}
@@ -10,7 +10,6 @@ use Rattle.mach_ir.specs.declared.reg.Reg.{Reg}
 use Rattle.mach_ir.specs.declared.mach.Instr.{Instr}
 use Rattle.mach_ir.specs.declared.mach.Mach.{Mach}
 use Rattle.mach_laws.proofs.Walking.{none_in, first_in, later_in, in_cons}
-use Rattle.places_rules.proofs.Files.{differ}
 use Rattle.places_rules.proofs.Open.{machine_open, slot_open}
 use Rattle.places_rules.proofs.Walked.{left_among}
 use Rattle.mach_ir.specs.Meaning.{killed}
@@ -74,7 +73,7 @@ module _ (m : Mach) where
             let same =
             na.agree i next from r.number s among z ∙ write_is r (is_in_code (args_in s c)) from (comes_write m z)
             ∙ sym (nb.agree i next from r.number s among z) in
-            differ _ (eq-eqb (a.read (length next) r.number) (b.read (length next) r.number) same) e
+            both_ways _ e (eq-eqb (a.read (length next) r.number) (b.read (length next) r.number) same)
 
         by : (t : Bool) → nat_eq (a.read (length next) r.number) (b.read (length next) r.number) ≡ t →
             a.read (length next) r.number ≡ b.read (length next) r.number

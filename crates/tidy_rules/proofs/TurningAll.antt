@@ -4,6 +4,7 @@ use Rattle.std.proofs.lemmas.Bool.{true≢false, eq-eqb, eqb-true}
 use Rattle.std.proofs.lemmas.List.Kept.{AllPairs-cons}
 use Rattle.std.proofs.Math.Nat.{le-max_left, le-max_right}
 use Rattle.std.specs.List.{AllPairs}
+use Rattle.std.proofs.lemmas.Option.{same_Some}
 use Rattle.lin_ir.specs.Formed.{label_of, labels_in, WellFormed}
 use Rattle.lin_ir.specs.Meaning.{after_label}
 use Rattle.lin_ir.specs.Walks.{Stands, here, below}
@@ -46,9 +47,6 @@ no_label l e = absurd (out e)
   where
     out : None ≡ Some l → ⊥
     out e = cc
-
-same_label : (x y : ℕ) → Some x ≡ Some y → x ≡ y
-same_label x y e = cc
 
 -- labels that stand are below the first free one
 below_free : {l : ℕ} (ls : List ℕ) → IsIn l ls → l < next_free ls
@@ -191,7 +189,7 @@ module _ (m : Lin) (free : ℕ) where
   was_opened n l e = by (is_led_to m free (label_on free n) m.code) refl e
     where
       by : (b : Bool) → is_led_to m free (label_on free n) m.code ≡ b → cond b (Some (label_on free n)) None ≡ Some l → OpenedAt n l
-      by true u e = record { led = u; label = sym (same_label (label_on free n) l e) }
+      by true u e = record { led = u; label = sym (same_Some (label_on free n) l e) }
       by false u e = no_label l e
 
   branch_opened : (i : Line) (next : List Line) (l : ℕ) → Stands i next m.code → opened_at m free (length next) ≡ Some l → (d : Head) × (i ≡ head_line d)
