@@ -1,10 +1,10 @@
 -- What is known of registers that go to an open allocation.
-use Rattle.std.proofs.Common.{◌≡◌, ℕ, zero, suc, ◌<◌, Bool, true, false, ⊎_elim, List, [], ◌∷◌, ◌++◌, length, Option, Some, None, refl, sym, ap, ◌∙◌, subst, arith}
+use Rattle.std.proofs.Common.{◌≡◌, ℕ, suc, ◌<◌, Bool, true, false, ⊎_elim, List, [], ◌∷◌, ◌++◌, length, Option, Some, None, refl, sym, ap, ◌∙◌, subst, arith}
 use Rattle.std.specs.List.{Contains}
-use Rattle.std.specs.Prelude.{slice_index_or}
 use Rattle.std.proofs.lemmas.List.{length-append}
 use Rattle.std.proofs.lemmas.List.Elements.{All-contains}
 use Rattle.bs_words.specs.declared.types.Comp.{Comp}
+use Rattle.bs_words.proofs.Lists.{first_in, later_in}
 use Rattle.combine_rules.specs.Combined.{joins, bytes_past, open_past, Scanned, allocation, allocated, scanned_at, scan}
 use Rattle.combine_rules.specs.Kept.{holds_block, IsCombinable}
 use Rattle.combine_rules.specs.Neighbours.{Allocates}
@@ -27,11 +27,9 @@ use Rattle.mach_ir.specs.declared.mach.MachOp.TheVariants as mach
 use Rattle.mach_ir.specs.declared.mach.Instr.{Instr}
 use Rattle.mach_ir.specs.declared.mach.Mach.{Mach}
 use Rattle.mach_laws.specs.Expand.{Ending}
-use Rattle.mach_laws.proofs.Places.{ending_next}
-use Rattle.mach_laws.proofs.Walking.{first_in, later_in}
-use Rattle.places_rules.proofs.Walked.{left_among, split_among, stands_of}
+use Rattle.mach_laws.proofs.Places.{ending_next, stands_of, straight_cons}
+use Rattle.mach_laws.proofs.Among.{left_among, split_among, number_among}
 use Rattle.split_rules.proofs.Formed.{contains_of}
-use Rattle.split_rules.proofs.Text.{number_among}
 
 -- ---- allocations that are formed
 
@@ -72,13 +70,6 @@ formed_allocation (formed_op {f = f} {args = args} {results = results} h) blocks
 formed_allocation (formed_mark {f = f} h) blocks e = absurd (no_mark f (op.Access (access.Alloc blocks)) e)
 
 -- ---- lists
-
-all_cons : (i : Instr) (is : List Instr) → is_straight i.op ≡ true → AreStraight is → AreStraight (i ∷ is)
-all_cons i is e h = λ k d lt. by k d lt
-  where
-    by : (k : ℕ) (d : Instr) → k < length (i ∷ is) → is_straight (slice_index_or (i ∷ is) k d).op ≡ true
-    by zero d lt = e
-    by (suc k) d lt = h k d (omega (arith, lt))
 
 no_instrs : AreStraight []
 no_instrs = λ k d lt. absurd (omega (arith, lt))
@@ -141,7 +132,7 @@ module _ (m : Mach) (is : IsCombinable m) where
         alloc = f.alloc;
         tail = f.tail;
         splits = ap (λ xs. i ∷ xs) f.splits;
-        straight = all_cons i f.run s f.straight;
+        straight = straight_cons i f.run s f.straight;
         fresh = f.fresh;
         home = f.home;
       }
@@ -163,7 +154,7 @@ module _ (m : Mach) (is : IsCombinable m) where
       Among r.number i.args → ⊥
   unread {i = i} {next = next} e s a c =
       let f = fresh_of (ending_next e) a in
-      (f.fresh).unread i f.run (subst (λ xs. Stands i xs m.code) f.splits (stands_of e)) (all_cons i f.run s f.straight) c
+      (f.fresh).unread i f.run (subst (λ xs. Stands i xs m.code) f.splits (stands_of e)) (straight_cons i f.run s f.straight) c
 
   -- ---- what goes to an open allocation
 

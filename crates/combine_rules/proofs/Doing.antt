@@ -32,10 +32,7 @@ use Rattle.mach_laws.proofs.General.{at}
 use Rattle.mach_laws.proofs.Leads.{Within, goes_in, pushes_in, jumps_in, unwinds_in, asks_in, within}
 use Rattle.mach_laws.proofs.Places.{ending_next, ending_label, ending_from_handler, ending_land as ending_landing}
 use Rattle.mach_laws.proofs.Simulate.{Agrees}
-use Rattle.places_rules.proofs.Walked.{left_among, right_among, split_among}
-
-none_among : {A : Type 0} {n : ℕ} → Among n [] → A
-none_among a = elim a [ ]
+use Rattle.mach_laws.proofs.Among.{none_among, left_among, right_among, split_among}
 
 lacks : (x y : Option Held) → Has x y → y ≡ None → x ≡ None
 lacks None y h e = refl

@@ -9,6 +9,7 @@ use Rattle.bs_words.specs.declared.types.Comp.{Comp}
 use Rattle.bs_words.specs.declared.types.Comp.TheVariants as comp
 use Rattle.bs_words.specs.declared.values.Value.{Value}
 use Rattle.bs_words.specs.declared.values.Value.TheVariants as value
+use Rattle.mach_laws.proofs.Among.{among_number}
 use Rattle.combine_rules.specs.Kept.{holds_block}
 use Rattle.mach_ir.specs.Acts.{Around, On, Goes, new_blocks, with_block, fresh_block}
 use Rattle.mach_ir.specs.Keeps.{ahead}
@@ -154,9 +155,6 @@ pub record Written (end s : ℕ) (rs : List Reg) (b : File) : Type 0 where
   pub holds : Holds file s rs
   pub free : (n : ℕ) → (Among n rs → ⊥) → file n ≡ b n
 
-among_same : {n m : ℕ} {rs : List Reg} → n ≡ m → Among n rs → Among m rs
-among_same {rs = rs} e i = subst (λ k. Among k rs) e i
-
 pub write_starts : (end s : ℕ) {rs : List Reg} (b : File) → Homes rs → Distinct rs → Written end s rs b
 write_starts end s b no_homes d = record { file = b; puts = nil; holds = holds_none; free = λ n f. refl }
 write_starts end s b (a_home {r = r} {rs = rs} e h) (one_more free d) =
@@ -165,7 +163,7 @@ write_starts end s b (a_home {r = r} {rs = rs} e h) (one_more free d) =
       file = put r (value.Block s 0) y.file;
       puts = cons (home_fits end s r.comp e) y.puts;
       holds = holds_one (put_same r (value.Block s 0) y.file)
-          (holds_same (λ n i. put_other r (value.Block s 0) y.file n (λ z. free (among_same (sym z) i))) y.holds);
+          (holds_same (λ n i. put_other r (value.Block s 0) y.file n (λ z. free (among_number (sym z) i))) y.holds);
       free = λ n f. put_other r (value.Block s 0) y.file n (λ z. f (first z)) ∙ y.free n (λ i. f (later i));
     }
 

@@ -13,6 +13,7 @@ use Rattle.mach_ir.specs.declared.op.Access.TheVariants as access
 use Rattle.mach_ir.specs.declared.op.Op.TheVariants as op
 use Rattle.mach_ir.specs.declared.op.Pure.{Pure}
 use Rattle.bs_words.specs.declared.types.Chunk.{Chunk}
+use Rattle.bs_words.proofs.Lists.{head_same, tail_same}
 use Rattle.mach_ir.specs.declared.reg.Reg.{Reg}
 use Rattle.mach_ir.specs.declared.mach.MachOp.{MachOp}
 use Rattle.mach_ir.specs.declared.mach.MachOp.TheVariants as mach
@@ -20,12 +21,8 @@ use Rattle.mach_ir.specs.declared.mach.Instr.{Instr}
 use Rattle.mach_ir.specs.declared.mach.Mach.{Mach}
 use Rattle.mach_laws.specs.Expand.{expand, Ending, all}
 use Rattle.mach_laws.proofs.Places.{ending_next, ending_label, ending_from_handler, label_expand, handler_expand, tries_expand}
-use Rattle.places_rules.proofs.Lists.{head_same, tail_same}
-use Rattle.places_rules.proofs.Walked.{left_among, right_among, split_among}
+use Rattle.mach_laws.proofs.Among.{none_among, left_among, right_among, split_among}
 use Rattle.places_rules.proofs.Files.{among_or_not}
-
-none_among : {A : Type 0} {n : ℕ} → Among n [] → A
-none_among a = elim a [ ]
 
 abbrev made : MachOp → List Reg → List Reg → Instr
 made f args results = record { op = f; args = args; results = results }

@@ -2,6 +2,7 @@
 use Rattle.std.proofs.Common.{◌≡◌, ℕ, ◌+◌, Bool, true, false, cond, ◌⊎◌, ⊎_elim, List, [], ◌∷◌, ◌++◌, Option, Some, None, refl, sym, ap, ◌∙◌, subst}
 use Rattle.std.specs.List.{Contains}
 use Rattle.std.proofs.lemmas.List.Elements.{Contains-append_cases}
+use Rattle.bs_words.proofs.Lists.{none_in}
 use Rattle.combine_rules.specs.Combined.{joins, bytes_past, open_past, Scanned, allocation, allocated, scanned_at, scan}
 use Rattle.combine_rules.proofs.Scan.{nothing_goes}
 use Rattle.mach_ir.specs.Blocks.{bytes_of}
@@ -14,7 +15,6 @@ use Rattle.mach_ir.specs.declared.reg.Reg.{Reg}
 use Rattle.mach_ir.specs.declared.mach.MachOp.{MachOp}
 use Rattle.mach_ir.specs.declared.mach.MachOp.TheVariants as mach
 use Rattle.mach_ir.specs.declared.mach.Instr.{Instr}
-use Rattle.mach_laws.proofs.Walking.{none_in}
 
 -- ---- members
 

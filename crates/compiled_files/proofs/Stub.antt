@@ -12,6 +12,7 @@ use Rattle.bs_words.specs.declared.types.Ty.TheVariants as ty
 use Rattle.bs_words.specs.declared.values.Obs.TheVariants as obs
 use Rattle.bs_words.specs.declared.values.Value.{Value}
 use Rattle.bs_words.specs.declared.values.Value.TheVariants.{Word, Block, Function}
+use Rattle.bs_words.proofs.Lists.{head_same}
 use Rattle.cmm_data.specs.Placement.{data_end}
 use Rattle.cmm_meaning.specs.Layout.{observed}
 use Rattle.cmm_meaning.specs.State.{Doing, Gave, Threw}
@@ -68,9 +69,6 @@ use Rattle.line_calls.specs.Calls.{IsInTable}
 use Rattle.linking_machine.specs.Standing.{Back, Shows, fixed_of}
 use Rattle.linking_machine.proofs.Carrying.{values_shown}
 
-first_same : {A : Type 0} (x y : A) (xs ys : List A) → x ∷ xs ≡ y ∷ ys → x ≡ y
-first_same x y xs ys e = cc
-
 in_table : (image : Tables) (count : ℕ) (v : Value) → IsKnown image count v → IsInTable image v
 in_table image count (Word w) k = tt
 in_table image count (Block b o) k = tt
@@ -79,7 +77,7 @@ in_table image count (Function f) k = k
 -- what the machine shows of a value is what the text shows
 shown_is : (image : Tables) (count : ℕ) (v : Value) → IsKnown image count v → shown image v ≡ observed (layout_of image) v
 shown_is image count v k =
-    first_same (shown image v) (observed (layout_of image) v) [] [] (values_shown image (v ∷ []) (in_table image count v k, tt))
+    head_same (values_shown image (v ∷ []) (in_table image count v k, tt))
 
 module _ (s : Fixed) (end : ℕ) (end_is : end ≡ data_start + length s.image.bytes) (n : ℕ) (small : n < 3) (v : View)
     (first : IsCode s v.place (OpImm Addi 7 0 n)) (second : IsCode s (v.place + 1) Ecall) (young : List Placed) (memory : Memory)

@@ -2,6 +2,7 @@
 use Rattle.std.proofs.Common.{◌≡◌, ◌≢◌, ℕ, suc, ◌+◌, ◌<◌, ◌⊎◌, ⊎_elim, List, [], ◌∷◌, ◌++◌, length, map, refl, sym, ap, ◌∙◌, subst, arith, append_assoc}
 use Rattle.std.proofs.lemmas.List.Elements.{Contains-append_cases, All-contains}
 use Rattle.std.specs.List.{All, AllPairs, Contains}
+use Rattle.bs_words.proofs.Lists.{none_in, first_in, later_in, in_cons}
 use Rattle.copy_rules.specs.Propagated.{move, ReadFor, source, itself, again, in_place, with_sources, IsBefore}
 use Rattle.mach_ir.specs.Forms.{HasForm, results_of}
 use Rattle.mach_ir.specs.Formed.{comps, IsFormed, MarkHasForm, formed_op, formed_mark, AreDistinct, WellFormed}
@@ -15,7 +16,7 @@ use Rattle.mach_ir.specs.declared.mach.MachOp.TheVariants as mach
 use Rattle.mach_ir.specs.declared.mach.Instr.{Instr}
 use Rattle.mach_ir.specs.declared.mach.Mach.{Mach}
 use Rattle.mach_laws.specs.Expand.{expand, KeepsMarks}
-use Rattle.mach_laws.proofs.Walking.{none_in, first_in, later_in, in_cons}
+use Rattle.mach_laws.proofs.Places.{stands_behind}
 use Rattle.split_rules.proofs.Formed.{contains_of}
 use Rattle.split_rules.proofs.Text.{args_in, results_in}
 use Rattle.repeat_rules.proofs.OneForOne as one
@@ -48,10 +49,6 @@ as_many p (r ∷ rs) = ap suc (as_many p rs)
 
 pub only_in : {A : Type 0} (x y : A) → Contains (x ∷ []) y → x ≡ y
 only_in x y c = ⊎_elim (λ e. e) (λ d. absurd (none_in y d)) (in_cons x y [] c)
-
-stands_after : (before : List Instr) {i : Instr} {next : List Instr} → Stands i next (before ++ i ∷ next)
-stands_after [] = here
-stands_after (j ∷ before) = below (stands_after before)
 
 -- ---- code with its sources
 
@@ -127,7 +124,7 @@ module _ (m : Mach) (plan : ℕ → Reg → Reg)
 
     here_known : (r : Reg) → Contains i.args r → IsRegister m (plan (length next) r)
     here_known r c =
-        known_source known (is_in_code (args_in (subst (Stands i next) (sym whole) (stands_after before)) c))
+        known_source known (is_in_code (args_in (subst (Stands i next) (sym whole) (stands_behind before _ _)) c))
         (reads i next made (record { before = before; whole = whole; made_so = made_so }) r c)
 
     read_known : (r : Reg) → Contains x.args r → IsRegister m r

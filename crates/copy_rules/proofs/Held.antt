@@ -6,6 +6,7 @@ use Rattle.std.specs.Prelude.{nat_eq}
 use Rattle.std.proofs.lemmas.Option.{none-some, same_Some}
 use Rattle.bs_words.specs.declared.types.Comp.TheVariants as comp
 use Rattle.bs_words.specs.declared.values.Value.{Value}
+use Rattle.bs_words.proofs.Lists.{first_in, later_in}
 use Rattle.combine_rules.proofs.Files.{PutAll, nil, cons, put_same, frame_loses}
 use Rattle.copy_rules.specs.Propagated.{move, ReadFor, again, IsBefore}
 use Rattle.mach_ir.specs.Acts.{Around, On, Goes}
@@ -18,9 +19,8 @@ use Rattle.mach_ir.specs.declared.reg.Reg.{Reg}
 use Rattle.mach_ir.specs.declared.mach.Instr.{Instr}
 use Rattle.mach_ir.specs.declared.mach.Mach.{Mach}
 use Rattle.mach_laws.specs.Expand.{Ending}
-use Rattle.mach_laws.proofs.Walking.{first_in, later_in}
+use Rattle.mach_laws.proofs.Among.{number_among}
 use Rattle.places_rules.proofs.Files.{put_other}
-use Rattle.split_rules.proofs.Text.{number_among}
 use Rattle.repeat_rules.specs.Repeated.{allocates, itself}
 use Rattle.repeat_rules.proofs.Held.{Fresh, stays, past_kept, put_all_of}
 use Rattle.repeat_rules.proofs.Standing.{straight_kills, straight_frame}

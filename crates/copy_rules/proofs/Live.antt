@@ -5,6 +5,7 @@ use Rattle.std.specs.List.{Contains}
 use Rattle.std.proofs.lemmas.List.Elements.{All-contains}
 use Rattle.bs_words.specs.declared.types.Comp.TheVariants as comp
 use Rattle.bs_words.specs.declared.types.Loc.TheVariants as loc
+use Rattle.bs_words.proofs.Lists.{first_in}
 use Rattle.copy_rules.specs.Propagated.{move, ReadFor, again, in_place, with_sources, IsBefore}
 use Rattle.mach_ir.specs.Formed.{IsFormed, WellFormed}
 use Rattle.mach_ir.specs.Meaning.{passes_frame}
@@ -15,10 +16,10 @@ use Rattle.mach_ir.specs.declared.mach.MachOp.{MachOp}
 use Rattle.mach_ir.specs.declared.mach.Instr.{Instr}
 use Rattle.mach_ir.specs.declared.mach.Mach.{Mach}
 use Rattle.mach_laws.specs.Expand.{Ending, all, expand}
-use Rattle.mach_laws.proofs.Walking.{first_in}
-use Rattle.places_rules.proofs.Walked.{ending_of, stands_of}
+use Rattle.mach_laws.proofs.Places.{stands_of, ending_of}
+use Rattle.mach_laws.proofs.Among.{number_among, among_of}
 use Rattle.split_rules.proofs.Formed.{contains_of, stands_in}
-use Rattle.split_rules.proofs.Text.{number_in, number_among, args_in}
+use Rattle.split_rules.proofs.Text.{args_in}
 use Rattle.repeat_rules.specs.Repeated.{allocates}
 use Rattle.repeat_rules.proofs.OneForOne as one
 use Rattle.repeat_rules.proofs.OneForOne.{in_append, in_front, both}
@@ -82,7 +83,7 @@ module _ (m : Mach) (plan : ℕ → Reg → Reg) (formed : WellFormed m)
       by (just_now e) =
           moved (ap (λ (y : Instr). passes_frame y.op) e)
           (subst (λ (y : Instr). Among n y.args) (sym e)
-          (subst (λ k. Among k (x.register ∷ [])) x.number (number_in x.register (x.register ∷ []) (first_in x.register []))))
+          (subst (λ k. Among k (x.register ∷ [])) x.number (among_of x.register (x.register ∷ []) (first_in x.register []))))
       by (earlier w st apart ends kept) =
           left (record { copy = x.copy; register = x.register; standing = w; number = x.number }) st kept
 
@@ -95,7 +96,7 @@ module _ (m : Mach) (plan : ℕ → Reg → Reg) (formed : WellFormed m)
     where
       by : {r s : Reg} → ReadAt m plan (i ∷ next) r s → Contains i.args r → s.number ≡ n → Was n (i ∷ next)
       by {r} {s} (from_source t) c e = inr (record { copy = r; register = s; standing = t; number = e })
-      by {r} as_it_is c e = inl (read (subst (λ k. Among k i.args) e (number_in r i.args c)))
+      by {r} as_it_is c e = inl (read (subst (λ k. Among k i.args) e (among_of r i.args c)))
 
   of_stood : {n : ℕ} (i : Instr) (next : List Instr) → Ending (i ∷ next) m.code → Stood n i next → Was n (i ∷ next)
   of_stood i next ending (moved frame a) = read_back i next ending a

@@ -7,6 +7,7 @@ use Rattle.std.specs.List.{Contains}
 use Rattle.std.specs.Prelude.{slice_index_or}
 use Rattle.bs_words.specs.declared.types.Comp.{Comp}
 use Rattle.bs_words.specs.declared.types.Comp.TheVariants as comp
+use Rattle.bs_words.proofs.Lists.{none_in}
 use Rattle.copy_rules.specs.Propagated.{move, IsCopy, ReadFor, source, itself, again, in_place, with_sources, IsBefore}
 use Rattle.mach_ir.specs.Acts.{Landing}
 use Rattle.mach_ir.specs.Formed.{MarkHasForm, exit_form, if_form, else_form, switch_form, case_form, catch_form, with_form, try_form, leave_form, handler_form, end_form, comps, IsFormed, formed_op, formed_mark}
@@ -20,7 +21,6 @@ use Rattle.mach_ir.specs.declared.mach.MachOp.TheVariants as mach
 use Rattle.mach_ir.specs.declared.mach.Instr.{Instr}
 use Rattle.mach_ir.specs.declared.mach.Mach.{Mach}
 use Rattle.mach_laws.specs.Expand.{Ending, expand}
-use Rattle.mach_laws.proofs.Walking.{none_in}
 use Rattle.repeat_rules.specs.Repeated.{allocates, Ends}
 use Rattle.repeat_rules.proofs.OneForOne.{in_append, in_front, Before, before_of, Made, made_to}
 use Rattle.repeat_rules.proofs.Runs as run

@@ -8,19 +8,12 @@ use Rattle.mach_ir.specs.Walks.{Among, OneOf, targets, may_raise, Leads, goes, R
 use Rattle.mach_ir.specs.declared.reg.Reg.{Reg}
 use Rattle.mach_ir.specs.declared.mach.Instr.{Instr}
 use Rattle.mach_ir.specs.declared.mach.Mach.{Mach}
-use Rattle.mach_laws.specs.Expand.{expand, Ending, all, more}
-use Rattle.mach_laws.proofs.Places.{label_expand, handler_expand, tries_expand, ending_next, ending_label, ending_from_handler}
-use Rattle.places_rules.proofs.Lists.{head_same, tail_same, none_there}
-use Rattle.places_rules.proofs.Walked.{split_among, stands_of}
+use Rattle.mach_laws.specs.Expand.{expand, Ending, all}
+use Rattle.mach_laws.proofs.Places.{label_expand, handler_expand, tries_expand, ending_next, ending_label, ending_from_handler, stands_of, ending_of}
+use Rattle.mach_laws.proofs.Among.{none_among, split_among}
+use Rattle.bs_words.proofs.Lists.{head_same, tail_same, none_there}
 use Rattle.dead_rules.specs.Dropped.{may_go, IsUsed, read, read_for, on, aside, without, dropped, AreDead}
 use Rattle.dead_rules.proofs.Text.{pure_of, pure_on, pure_only, pure_quiet, pure_kills, Fate, falls, remains, fate, keeps_marks}
-
-among_none : (n : ℕ) → Among n [] → ⊥
-among_none n a = elim a [ ]
-
-pub ending_of : {i : Instr} {next code : List Instr} → Stands i next code → Ending (i ∷ next) code
-ending_of here = all
-ending_of (below s) = more (ending_of s)
 
 -- what is used is live
 pub used_live : {m : Mach} {n : ℕ} {rest : List Instr} → IsUsed m n rest → Live m n rest
@@ -44,7 +37,7 @@ module _ (m : Mach) (drops : ℕ → Bool) (dead : AreDead m drops) where
 
   -- what goes writes nothing but dead results
   pub none_killed : (i : Instr) (n : ℕ) → may_go i.op ≡ true → Among n (killed m i) → ⊥
-  none_killed i n e a = among_none n (subst (Among n) (pure_kills m.colours i.results (pure_of i.op e)) a)
+  none_killed i n e a = none_among (subst (Among n) (pure_kills m.colours i.results (pure_of i.op e)) a)
 
   pub lift : {n : ℕ} {i : Instr} {next : List Instr} → Stands i next m.code → may_go i.op ≡ true → drops (length next) ≡ true →
       IsUsed m n next → IsUsed m n (i ∷ next)

@@ -1,5 +1,5 @@
 -- What a function without its dead instructions keeps, and that it is one.
-use Rattle.std.proofs.Common.{◌≡◌, ◌≢◌, ℕ, zero, suc, ◌<◌, ◌≤◌, Bool, true, false, cond, ◌&&◌, inl, ⊎_elim, List, [], ◌∷◌, ◌++◌, length, refl, sym, ap, ◌∙◌, subst, arith}
+use Rattle.std.proofs.Common.{◌≡◌, ◌≢◌, ℕ, ◌<◌, ◌≤◌, Bool, true, false, cond, ◌&&◌, inl, ⊎_elim, List, [], ◌∷◌, ◌++◌, length, refl, sym, ap, ◌∙◌, subst, arith}
 use Rattle.std.proofs.lemmas.List.Elements.{Contains-get_or, All-contains}
 use Rattle.std.specs.List.{All, AllPairs, Contains}
 use Rattle.std.specs.Prelude.{slice_index_or}
@@ -19,40 +19,15 @@ use Rattle.mach_ir.specs.declared.reg.Reg.{Reg}
 use Rattle.mach_ir.specs.declared.mach.Instr.{Instr}
 use Rattle.mach_ir.specs.declared.mach.Mach.{Mach}
 use Rattle.mach_laws.specs.Expand.{expand}
-use Rattle.mach_laws.proofs.Places.{tries_expand, ending_next}
-use Rattle.mach_laws.proofs.Walking.{none_in, first_in, later_in, in_cons}
-use Rattle.places_rules.proofs.Lists.{head_same, tail_same, none_there}
+use Rattle.mach_laws.proofs.Places.{tries_expand, ending_next, ending_of, stands_behind, stands_within, head_of, tail_of, straight_cons, straight_none}
 use Rattle.split_rules.proofs.Formed.{contains_of, stands_in}
+use Rattle.bs_words.proofs.Lists.{none_in, first_in, later_in, in_cons, head_same, tail_same, none_there}
 use Rattle.dead_rules.specs.Dropped.{may_go, without, dropped, AreDead, IsDropped, IsLive, IsKept}
 use Rattle.dead_rules.proofs.Kept.{does_dropped}
-use Rattle.dead_rules.proofs.Live.{label_is, handler_is, used_there, IsMain, was_main, ending_of, was_register, joined_back, no_addr_back}
+use Rattle.dead_rules.proofs.Live.{label_is, handler_is, used_there, IsMain, was_main, was_register, joined_back, no_addr_back}
 use Rattle.dead_rules.proofs.Text.{pure_of, pure_on, pure_straight, label_stays, handler_stays, mark_stays, Fate, falls, remains, fate, keeps_marks, same_labels}
 
 -- ---- lists
-
-head_of : (x : Instr) (xs : List Instr) → AreStraight (x ∷ xs) → is_straight x.op ≡ true
-head_of x xs h = let lt : 0 < length (x ∷ xs) = omega arith in h 0 x lt
-
-tail_of : (x : Instr) (xs : List Instr) → AreStraight (x ∷ xs) → AreStraight xs
-tail_of x xs h = λ k d lt. h (suc k) d (omega (arith, lt))
-
-straight_cons : (x : Instr) (xs : List Instr) → is_straight x.op ≡ true → AreStraight xs → AreStraight (x ∷ xs)
-straight_cons x xs e h = by
-  where
-    by : (k : ℕ) (d : Instr) → k < length (x ∷ xs) → is_straight (slice_index_or (x ∷ xs) k d).op ≡ true
-    by zero d lt = e
-    by (suc k) d lt = h k d (omega (arith, lt))
-
-straight_none : AreStraight []
-straight_none = λ k d lt. absurd (omega (arith, lt))
-
-stands_behind : (run : List Instr) (i : Instr) (next : List Instr) → Stands i next (run ++ i ∷ next)
-stands_behind [] i next = here
-stands_behind (x ∷ run) i next = below (stands_behind run i next)
-
-stands_within : {i j : Instr} {next rest code : List Instr} → Stands j rest code → Stands i next rest → Stands i next code
-stands_within here s = below s
-stands_within (below t) s = below (stands_within t s)
 
 module _ (m : Mach) (drops : ℕ → Bool) (dead : AreDead m drops) where
   abbrev q : Mach

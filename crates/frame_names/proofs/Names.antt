@@ -8,6 +8,7 @@ use Rattle.std.specs.Prelude.{slice_index_or}
 use Rattle.bs_words.specs.declared.types.Comp.TheVariants as comp
 use Rattle.bs_words.specs.declared.types.Loc.{Loc}
 use Rattle.bs_words.specs.declared.types.Loc.TheVariants as loc
+use Rattle.bs_words.proofs.Lists.{head_same, tail_same}
 use Rattle.lin_ir.specs.Descriptors.{frame_bytes, IsEntry, of_register, of_slot, ComesBefore, register_first, rising, IsDescr, Describes, AreExact, NamesLives}
 use Rattle.lin_ir.specs.Formed.{IsHome}
 use Rattle.lin_ir.specs.Meaning.{passes_frame}
@@ -19,7 +20,6 @@ use Rattle.linear_rules.proofs.Homes.{IsIn, is_first, is_later, in_of, contains_
 use Rattle.linear_rules.proofs.Marks.{all_in}
 use Rattle.linear_rules.proofs.Walked.{stands_tail}
 use Rattle.tidy_rules.specs.Regular.{IsRegular}
-use Rattle.tidy_rules.proofs.Leaving.{first_same, rest_same}
 use Rattle.tidy_rules.proofs.Living.{live_home}
 use Rattle.tidy_rules.proofs.Ends.{same_tail}
 use Rattle.frame_names.specs.Names.{location, traps_of, locations, names_at, names_by}
@@ -118,8 +118,8 @@ module _ (m : Lin) (regular : IsRegular m) (ds : List Descr) (exact : AreExact m
       let same : x.line ∷ x.next ≡ i ∷ next = same_tail (stands_tail x.stands) (stands_tail s) len in
       record {
         tries = x.tries;
-        is = subst (λ j. IsDescr m j next x.tries d) (first_same x.line i x.next next same)
-            (subst (λ js. IsDescr m x.line js x.tries d) (rest_same x.line i x.next next same) x.is);
+        is = subst (λ j. IsDescr m j next x.tries d) (head_same same)
+            (subst (λ js. IsDescr m x.line js x.tries d) (tail_same same) x.is);
       }
 
   module _ {i : Line} {next : List Line} (s : Stands i next m.code) (d : Descr) (h : IsOf i next d) where

@@ -11,7 +11,7 @@ use Rattle.lin_ir.specs.declared.descr.Descr.{Descr}
 use Rattle.lin_ir.specs.declared.lin.Line.{Line}
 use Rattle.lin_ir.specs.declared.lin.Lin.{Lin}
 use Rattle.linear_rules.proofs.Homes.{IsIn, in_of, is_first, is_later}
-use Rattle.linear_rules.proofs.Marks.{pairs_here, pairs_later}
+use Rattle.bs_words.proofs.Lists.{pairs_here, pairs_later}
 use Rattle.function_stands.proofs.Parts.{descriptor_of, left_in, same_no, shorter}
 
 -- a descriptor of a line of this code, where the whole code has so many lines

@@ -11,8 +11,9 @@ use Rattle.lin_ir.specs.declared.lin.Lin.{Lin}
 use Rattle.lin_ir.specs.declared.lin.LinOp.{LinOp}
 use Rattle.lin_ir.specs.declared.lin.LinOp.TheVariants as lin
 use Rattle.linear_rules.proofs.Homes.{IsIn, contains_of, is_first, is_later}
-use Rattle.linear_rules.proofs.Marks.{all_in, pairs_here, pairs_later}
+use Rattle.linear_rules.proofs.Marks.{all_in}
 use Rattle.linear_rules.proofs.Walked.{reached_tail, tail_in}
+use Rattle.bs_words.proofs.Lists.{pairs_here, pairs_later}
 
 -- ---- traps are pushed by lines
 

@@ -1,7 +1,7 @@
 -- A chained function stands in the image of its file.
 use Rattle.std.proofs.Common.{◌≡◌, ℕ, zero, suc, ◌+◌, ◌*◌, ◌^◌, ◌<◌, ◌≤◌, Bool, true, false, List, [], ◌∷◌, ◌++◌, length, drop, take, Option, Some, refl, sym, ap, ◌∙◌, subst, arith}
 use Rattle.std.specs.Prelude.{slice_get, slice_index}
-use Rattle.std.specs.List.{AllByRecursion, Contains}
+use Rattle.std.specs.List.{Contains}
 use Rattle.std.proofs.lemmas.Option.{none-some, same_Some}
 use Rattle.bs_words.specs.Fits.{data_start}
 use Rattle.bs_words.specs.declared.values.Value.{Value}
@@ -32,6 +32,7 @@ use Rattle.lin_ir.specs.declared.descr.Descr.{Descr}
 use Rattle.lin_ir.specs.declared.lin.Lin.{Lin}
 use Rattle.lin_ir.specs.declared.lin.Line.{Line}
 use Rattle.line_calls.specs.Points.{AreMarked, EntriesStand, IsTurn, PointStands}
+use Rattle.line_calls.proofs.Shown.{each_at}
 use Rattle.line_stands.specs.Lines.{FreeStands, LineStands, Nowhere, OffsetFits}
 use Rattle.line_stands.specs.Names.{IsRowAt, NamesStand}
 use Rattle.line_stands.specs.Parts.{PartStands, label_place}
@@ -65,11 +66,6 @@ use Rattle.function_stands.proofs.Rows.{row_found}
 use Rattle.function_stands.proofs.Splitting.{has_first, has_second, reach_first, reach_second, words_both, words_first}
 use Rattle.function_stands.proofs.Symbols.{IsInFile, of_data, of_function, symbol_placed}
 use Rattle.function_stands.proofs.Unnamed.{spare_passes, spare_unnamed, unwritten}
-
-all_at : {A : Type 0} (P : A → Type 0) (xs : List A) (k : ℕ) (x : A) → AllByRecursion P xs → slice_get xs k ≡ Some x → P x
-all_at P [] k x all e = cc
-all_at P (y ∷ xs) zero x all e = subst P (same_Some y x e) all.0
-all_at P (y ∷ xs) (suc k) x all e = all_at P xs k x all.1 e
 
 index_is : (xs : List ℕ) (k x : ℕ) → slice_get xs k ≡ Some x → slice_index xs k ≡ x
 index_is [] k x e = cc
@@ -244,7 +240,7 @@ module _ (image : Tables) (file : FileTree) (ps : List Pieces) (c : Setting) (k 
 
     external_stands : (row : External) → IsExternalOf m row → IsRowAt s row (n.external (row_of row))
     external_stands row is =
-        let laid_one = all_at (IsFunctionLaid file) ps k pieces of.can.each there in
+        let laid_one = each_at (IsFunctionLaid file) ps k pieces of.can.each there in
         let line = in_of is.line m.code is.among in
         let named_one = external_in (IsNamed file pieces.code) traps f (entry f) ds m.code is.line row is.frame laid_one.named line is.is in
         let at = row_found (externals file) (row_of row) (in_of (row_of row) (externals file) (named_one.external row refl)) in

@@ -11,11 +11,11 @@ use Rattle.mach_ir.specs.declared.mach.Instr.{Instr}
 use Rattle.mach_ir.specs.declared.mach.Mach.{Mach}
 use Rattle.mach_laws.specs.Expand.{expand}
 use Rattle.mach_laws.proofs.Places.{tries_expand}
-use Rattle.places_rules.proofs.Lists.{tail_same}
 use Rattle.pass_rules.specs.Carried.{OffsetFits, EndsInReturn, at_return, further, IsCarried}
 use Rattle.pass_rules.specs.Measures.{instr_words, code_words, one_if, code_points, exits, operands_with, other_operands}
 use Rattle.dead_rules.specs.Dropped.{without}
 use Rattle.dead_rules.proofs.Text.{Fate, falls, remains, fate, keeps_marks}
+use Rattle.bs_words.proofs.Lists.{tail_same}
 use Rattle.hoist_rules.specs.Hoisted.{moved, hoisted, MayAllMove, IsHoisted, IsKept}
 use Rattle.hoist_rules.proofs.Moved as at_entry_of
 use Rattle.hoist_rules.proofs.Live as live

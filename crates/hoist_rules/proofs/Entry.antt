@@ -10,6 +10,7 @@ use Rattle.bs_words.specs.Fits.{fits, type_of_comp, data_start}
 use Rattle.bs_words.specs.declared.types.Comp.{Comp}
 use Rattle.bs_words.specs.declared.values.Value.{Value}
 use Rattle.bs_words.specs.declared.values.Value.TheVariants as value
+use Rattle.bs_words.proofs.Lists.{first_in, head_same}
 use Rattle.mach_ir.specs.Acts.{Around, AtHandler, Act, Goes, Pushes, Jumps, Unwinds, Asks, Replaces, Ends, EndsRaising, Stuck}
 use Rattle.mach_ir.specs.Formed.{WellFormed}
 use Rattle.mach_ir.specs.Runs.{Place, asked, Continues, Pays, Waits, Tally, Run, Running, runs, onward}
@@ -25,9 +26,8 @@ use Rattle.mach_ir.specs.declared.mach.Instr.{Instr}
 use Rattle.mach_ir.specs.declared.mach.Mach.{Mach}
 use Rattle.mach_laws.proofs.General.{at}
 use Rattle.mach_laws.proofs.Simulate.{Agrees}
-use Rattle.mach_laws.proofs.Walking.{first_in}
+use Rattle.mach_laws.proofs.Runs.{running_same}
 use Rattle.places_rules.proofs.Files.{put_here, put_other}
-use Rattle.places_rules.proofs.Lists.{head_same}
 use Rattle.hoist_rules.specs.Hoisted.{FitsAlways, an_int, an_odd_val, MayMove, hoisted, MayAllMove}
 use Rattle.hoist_rules.proofs.Moved as at_entry_of
 use Rattle.hoist_rules.proofs.Moved.{member}
@@ -36,9 +36,6 @@ use Rattle.hoist_rules.proofs.Live as live
 abbrev word_in : MachOp → ℕ
 word_in (mach.Op (op.Pure (pure.Constant w))) = w
 word_in _ = 0
-
-running_same : (u v : State) (y z : Tally) → Running u y ≡ Running v z → u ≡ v
-running_same u v y z e = cc
 
 always_fits : {t : Comp} {w : ℕ} (end : ℕ) → FitsAlways t w → fits end (type_of_comp t) (value.Word w) ≡ true
 always_fits end an_int = refl

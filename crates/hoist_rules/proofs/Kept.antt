@@ -7,6 +7,7 @@ use Rattle.std.proofs.lemmas.Option.{none-some, same_Some}
 use Rattle.bs_words.specs.Memory.{Memory}
 use Rattle.bs_words.specs.declared.values.Value.{Value}
 use Rattle.bs_words.specs.declared.values.Value.TheVariants as value
+use Rattle.bs_words.proofs.Lists.{head_same, tail_same}
 use Rattle.cmm_meaning.specs.State.{Doing}
 use Rattle.mach_ir.specs.Acts.{Around, Target, On, At, Landing, AtLabel, AtHandler, Act, Goes, Pushes, Jumps, Unwinds, Asks, Replaces, Ends, EndsRaising, Stuck}
 use Rattle.mach_ir.specs.Formed.{WellFormed}
@@ -22,16 +23,14 @@ use Rattle.mach_laws.proofs.General as general
 use Rattle.mach_laws.proofs.General.{at}
 use Rattle.mach_laws.proofs.Leads.{MayLand, Within, goes_in, pushes_in, jumps_in, unwinds_in, asks_in, lands_at_handler, within}
 use Rattle.mach_laws.proofs.Level as level
-use Rattle.mach_laws.proofs.Places.{tries_expand, ending_next, ending_label, ending_land}
+use Rattle.mach_laws.proofs.Places.{tries_expand, ending_next, ending_label, ending_land, stands_of}
 use Rattle.mach_laws.proofs.Simulate.{Agrees}
-use Rattle.places_rules.proofs.Lists.{head_same, tail_same}
+use Rattle.mach_laws.proofs.Among.{left_among, right_among}
 use Rattle.places_rules.proofs.Files.{past_same, cleared, not_cleared, among_or_not, put_here, put_other, PutsBoth, put_both}
-use Rattle.places_rules.proofs.Walked.{stands_of}
 use Rattle.dead_rules.specs.Dropped.{may_go, without}
 use Rattle.dead_rules.proofs.Text.{pure_of, pure_no_frame, Fate, falls, remains, fate, keeps_marks}
 use Rattle.hoist_rules.specs.Hoisted.{MayMove, hoisted, MayAllMove}
 use Rattle.hoist_rules.proofs.Moved as at_entry_of
-use Rattle.hoist_rules.proofs.Moved.{left_among, right_among}
 use Rattle.hoist_rules.proofs.Live as live
 use Rattle.hoist_rules.proofs.Entry as entry
 use Rattle.hoist_rules.proofs.Entry.{puts_one, never_addr}

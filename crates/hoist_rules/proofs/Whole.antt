@@ -1,5 +1,5 @@
 -- What a function keeps whose constants are made at the entry.
-use Rattle.std.proofs.Common.{◌≡◌, ◌≢◌, ℕ, zero, suc, ◌+◌, ◌<◌, ◌≤◌, Bool, true, false, cond, inl, ⊎_elim, List, [], ◌∷◌, ◌++◌, length, refl, sym, ap, ◌∙◌, subst, arith}
+use Rattle.std.proofs.Common.{◌≡◌, ◌≢◌, ℕ, ◌+◌, ◌<◌, ◌≤◌, Bool, true, false, cond, inl, ⊎_elim, List, [], ◌∷◌, ◌++◌, length, refl, sym, ap, ◌∙◌, subst, arith}
 use Rattle.std.proofs.lemmas.List.Elements.{Contains-get_or, All-contains}
 use Rattle.std.specs.List.{All, AllPairs, Contains}
 use Rattle.std.specs.Prelude.{slice_index_or}
@@ -7,6 +7,7 @@ use Rattle.std.proofs.lemmas.Bool.{both_ways}
 use Rattle.bs_words.specs.declared.types.Comp.{Comp}
 use Rattle.bs_words.specs.declared.types.Comp.TheVariants as comp
 use Rattle.bs_words.specs.declared.types.Loc.TheVariants as loc
+use Rattle.bs_words.proofs.Lists.{none_in, first_in, later_in, in_cons, head_same, tail_same, none_there}
 use Rattle.mach_ir.specs.Acts.{On, At}
 use Rattle.mach_ir.specs.Formed.{IsFormed, AreDistinct, labels_in, HasPlace, place_here, place_below, HasHandler, handler_here, handler_below, LeadsTo, is_exit, LabelsStand, tries_left, leaves, IsNested, CasesAgree, WellFormed}
 use Rattle.mach_ir.specs.Keeps.{Keeps, NamesSymbol, NamesExternal, IsNamedIn}
@@ -14,7 +15,7 @@ use Rattle.mach_ir.specs.Meaning.{is_addr, after_label, from_handler, code_at, t
 use Rattle.mach_ir.specs.Placed.{WellPlaced, AllocatesFresh, IsFresh, is_straight, AreStraight}
 use Rattle.mach_ir.specs.Seats.{Seated}
 use Rattle.mach_ir.specs.Sizes.{operand_count, Size, HasSize}
-use Rattle.mach_ir.specs.Walks.{Among, may_raise, Writes, IsRegister, Stands, here, below}
+use Rattle.mach_ir.specs.Walks.{Among, may_raise, Writes, IsRegister, Stands}
 use Rattle.mach_ir.specs.declared.blocks.NewBlock.{NewBlock}
 use Rattle.mach_ir.specs.declared.op.Access.TheVariants as access
 use Rattle.mach_ir.specs.declared.op.Op.{Op}
@@ -28,10 +29,7 @@ use Rattle.mach_ir.specs.declared.reg.Reg.{Reg}
 use Rattle.mach_ir.specs.declared.mach.Instr.{Instr}
 use Rattle.mach_ir.specs.declared.mach.Mach.{Mach}
 use Rattle.mach_laws.specs.Expand.{expand, Ending, all}
-use Rattle.mach_laws.proofs.Places.{tries_expand, ending_next}
-use Rattle.mach_laws.proofs.Walking.{none_in, first_in, later_in, in_cons}
-use Rattle.places_rules.proofs.Lists.{head_same, tail_same, none_there}
-use Rattle.places_rules.proofs.Walked.{stands_of}
+use Rattle.mach_laws.proofs.Places.{tries_expand, ending_next, stands_of, stands_behind, stands_within, head_of, tail_of, straight_cons, straight_none}
 use Rattle.split_rules.proofs.Formed.{contains_of, stands_in}
 use Rattle.dead_rules.specs.Dropped.{may_go, without}
 use Rattle.dead_rules.proofs.Text.{pure_of, pure_straight, label_stays, handler_stays, mark_stays, Fate, falls, remains, fate, keeps_marks, same_labels}
@@ -42,30 +40,6 @@ use Rattle.hoist_rules.proofs.Entry as entry
 use Rattle.hoist_rules.proofs.Kept.{does_hoisted}
 
 -- ---- lists
-
-head_of : (x : Instr) (xs : List Instr) → AreStraight (x ∷ xs) → is_straight x.op ≡ true
-head_of x xs h = let lt : 0 < length (x ∷ xs) = omega arith in h 0 x lt
-
-tail_of : (x : Instr) (xs : List Instr) → AreStraight (x ∷ xs) → AreStraight xs
-tail_of x xs h = λ k d lt. h (suc k) d (omega (arith, lt))
-
-straight_cons : (x : Instr) (xs : List Instr) → is_straight x.op ≡ true → AreStraight xs → AreStraight (x ∷ xs)
-straight_cons x xs e h = by
-  where
-    by : (k : ℕ) (d : Instr) → k < length (x ∷ xs) → is_straight (slice_index_or (x ∷ xs) k d).op ≡ true
-    by zero d lt = e
-    by (suc k) d lt = h k d (omega (arith, lt))
-
-straight_none : AreStraight []
-straight_none = λ k d lt. absurd (omega (arith, lt))
-
-stands_behind : (run : List Instr) (i : Instr) (next : List Instr) → Stands i next (run ++ i ∷ next)
-stands_behind [] i next = here
-stands_behind (x ∷ run) i next = below (stands_behind run i next)
-
-stands_within : {i j : Instr} {next rest code : List Instr} → Stands j rest code → Stands i next rest → Stands i next code
-stands_within here s = below s
-stands_within (below t) s = below (stands_within t s)
 
 in_second : (i : Instr) (xs ys : List Instr) → Contains ys i → Contains (xs ++ ys) i
 in_second i [] ys c = c

@@ -25,6 +25,7 @@ use Rattle.bs_words.specs.declared.types.Comp.{Comp}
 use Rattle.bs_words.specs.declared.types.Comp.TheVariants as comp
 use Rattle.bs_words.specs.declared.types.Loc.TheVariants as loc
 use Rattle.bs_words.specs.declared.types.Ret.TheVariants as ret
+use Rattle.bs_words.proofs.Lists.{none_in}
 use Rattle.emit_rules.specs.Emitted.{part_of}
 use Rattle.emit_rules.specs.Entry.{Frame}
 use Rattle.layout_rules.specs.Words.{Named}
@@ -170,9 +171,6 @@ no_names = record { label = λ l. 0; symbol = λ name. 0; external = λ row. 0 }
 abbrev no_frame : Frame
 no_frame = record { bytes = 0; saves = false }
 
-nothing : {X : Type 0} {x : X} → Contains [] x → ⊥
-nothing (k, l, e) = omega (arith, l)
-
 module _ (s : Fixed) (at : ℕ) (only : IsCode s at (Store Sb 11 10 0)) where
   abbrev laid : Laid
   laid = record { part = λ n. at + (1 - n); frame = 0; saves = false; slots = 0; handler = λ l. 0; even = refl; room = omega arith }
@@ -197,8 +195,8 @@ module _ (s : Fixed) (at : ℕ) (only : IsCode s at (Store Sb 11 10 0)) where
   line_stands = record {
     part = part;
     names = record {
-      label = λ l i. absurd (nothing i);
-      within = λ l i. absurd (nothing i);
+      label = λ l i. absurd (none_in _ i);
+      within = λ l i. absurd (none_in _ i);
       handler = λ l. refl;
       symbol = λ name v e. absurd (cc);
       external = λ row e. absurd (no_external row e.line e.among e.frame e.is);
@@ -216,7 +214,7 @@ module _ (s : Fixed) (at : ℕ) (only : IsCode s at (Store Sb 11 10 0)) where
     operand_seats = anywhere;
     result_seats = anywhere;
     named = λ l i. absurd (no_label l i);
-    handlers = λ l i. absurd (nothing i);
+    handlers = λ l i. absurd (none_in _ i);
     spare = record { reads = λ t i. no_spare t i; on = λ t i l. absurd l; aside = λ e l i d. d };
   }
     where

@@ -33,6 +33,7 @@ use Rattle.mach_ir.specs.declared.op.Pure.{Pure}
 use Rattle.mach_ir.specs.declared.op.Pure.TheVariants as pure
 use Rattle.bs_words.specs.declared.operators.IntOp.{IntOp}
 use Rattle.bs_words.specs.declared.operators.IntOp.TheVariants as operator
+use Rattle.bs_words.proofs.Lists.{first_in, none_in}
 use Rattle.mach_ir.specs.declared.op.Right.{Right}
 use Rattle.mach_ir.specs.declared.op.Right.TheVariants as right
 use Rattle.linear_machine.specs.Follows.{FollowsStep, IsAt}
@@ -148,14 +149,8 @@ immediate_word operator.Mod w h = absurd (cc)
 
 -- ---- places
 
-first_in : {X : Type 0} (x : X) (xs : List X) → Contains (x ∷ xs) x
-first_in x xs = (0, omega arith, refl)
-
 second_in : {X : Type 0} (x y : X) (xs : List X) → Contains (x ∷ y ∷ xs) y
 second_in x y xs = (1, omega arith, refl)
-
-no_member : {X : Type 0} (x : X) → Contains [] x → ⊥
-no_member x (k, l, e) = omega (arith, l)
 
 one_member : (r : Spot) (t : Comp) → Contains (r ∷ []) (record { loc = spare; comp = t }) → r.loc ≡ spare
 one_member r t (zero, l, e) = ap (λ (x : Spot). x.loc) e
@@ -233,7 +228,7 @@ module _ (s : Fixed) (laid : Laid) (n : Named) (m : Lin) (place : Place) (named 
     -- with no result
     passes_to : (to : _) → OneOf to (targets o) → results ≡ [] → live (code_at m.code next to) → live (record { op = o; args = args; results = results } ∷ next)
     passes_to to i none l =
-        ⊎_elim (λ w. absurd (no_member (record { loc = spare; comp = w.0 }) (subst (λ rs. Contains rs (record { loc = spare; comp = w.0 })) none w.1)))
+        ⊎_elim (λ w. absurd (none_in (record { loc = spare; comp = w.0 }) (subst (λ rs. Contains rs (record { loc = spare; comp = w.0 })) none w.1)))
         (λ q. q.1) (st.spare.on to i l)
 
     -- with one

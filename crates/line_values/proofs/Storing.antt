@@ -10,6 +10,7 @@ use Rattle.bs_words.specs.declared.types.Ty.TheVariants as ty
 use Rattle.bs_words.specs.declared.values.Kind.{Kind}
 use Rattle.bs_words.specs.declared.values.Value.{Value}
 use Rattle.bs_words.specs.declared.values.Value.TheVariants.{Word, Block, Function}
+use Rattle.bs_words.proofs.Truths.{bool_same}
 use Rattle.mach_ir.specs.Acts.{Act, Around, Goes, On, Stuck, is_among, after_store, first_written, only_if, stored_act, without}
 use Rattle.rv_machine.specs.Hart.{Placed}
 use Rattle.rv_machine.specs.Memory.{Region, write}
@@ -27,7 +28,6 @@ use Rattle.linear_machine.proofs.Writing.{heap_headed}
 use Rattle.moving_laws.specs.Words.{IsReadable, held_word}
 use Rattle.moving_laws.proofs.Held.{held_below, hold}
 use Rattle.linear_machine.proofs.Statics.{hold_readable}
-use Rattle.line_values.proofs.Bytes.{bool_same}
 use Rattle.line_values.proofs.Statics.{static_stored, still_of, val_of}
 
 -- ---- the value of a cell after a store

@@ -7,6 +7,7 @@ use Rattle.bs_words.specs.Memory.{Cell, HeapBlock, InBlock, InHeader, Memory, ce
 use Rattle.bs_words.specs.Word.{add_word}
 use Rattle.bs_words.specs.declared.values.Value.{Value}
 use Rattle.bs_words.specs.declared.values.Value.TheVariants.{Word, Block, Function}
+use Rattle.bs_words.proofs.Lists.{got}
 use Rattle.mach_ir.specs.Acts.{Around, is_among, moved_by}
 use Rattle.rv_machine.specs.Hart.{Placed}
 use Rattle.rv_machine.specs.Memory.{Region, word}
@@ -32,11 +33,6 @@ block_there memory k n e = by_case (slice_get memory.blocks k) refl (sym (slice_
         × (slice_get memory.blocks k ≡ Some b) × (length b.cells ≡ n)
     by_case None h f = absurd (cc)
     by_case (Some b) h f = (b, h, let same : Some (length b.cells) ≡ Some n = f in cc)
-
-get_within : {X : Type 0} (xs : List X) (k : ℕ) → k < length xs → (x : X) × (slice_get xs k ≡ Some x)
-get_within [] k l = absurd (omega (arith, l))
-get_within (x ∷ xs) zero l = (x, refl)
-get_within (x ∷ xs) (suc k) l = get_within xs k (omega (arith, l))
 
 -- ---- addresses
 
@@ -116,7 +112,7 @@ module _ (s : Fixed) (placed : List Placed) (m : List Region) (regions : HasRegi
       by_place (suc j) q i near written =
           let here : at ≡ start_of placed k + 8 * j = omega (arith, e, q, even) in
           let within : j < length b.cells = omega (arith, inside, q) in
-          let v = get_within b.cells j within in
+          let v = got b.cells j within in
           let held : (blocks_of a).cell k j ≡ Some v.0 = unwritten_by (is_among (InBlock k j) a.unwritten)
           (cell_in (slice_get a.memory.blocks k) j) v.0 written (ap (λ o. cell_in o j) there ∙ v.1) in
           let size : words_of placed k ≡ length b.cells = h.stand.sizes k i ∙ ap size_in there in

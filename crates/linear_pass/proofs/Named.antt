@@ -7,6 +7,7 @@ use Rattle.std.specs.Prelude.{slice_index_or}
 use Rattle.bs_words.specs.declared.types.Comp.{Comp}
 use Rattle.bs_words.specs.declared.types.Loc.{Loc}
 use Rattle.bs_words.specs.declared.types.Loc.TheVariants as loc
+use Rattle.bs_words.proofs.Lists.{pairs_here, pairs_later}
 use Rattle.mach_ir.specs.Placed.{colours}
 use Rattle.lin_ir.specs.Descriptors.{IsEntry, of_register, of_slot, ComesBefore, register_first, rising, Describes, AreExact}
 use Rattle.lin_ir.specs.Formed.{IsHome, is_colour, is_slot, spare}
@@ -15,7 +16,7 @@ use Rattle.lin_ir.specs.declared.descr.Descr.{Descr}
 use Rattle.lin_ir.specs.declared.lin.Line.{Line}
 use Rattle.lin_ir.specs.declared.lin.Lin.{Lin}
 use Rattle.linear_rules.proofs.Homes.{IsIn, is_first, is_later, in_of, contains_of}
-use Rattle.linear_rules.proofs.Marks.{all_in, pairs_here, pairs_later}
+use Rattle.linear_rules.proofs.Marks.{all_in}
 use Rattle.linear_rules.proofs.Walked.{not_spare}
 use Rattle.tidy_rules.specs.Regular.{AtHomes}
 use Rattle.tidy_rules.proofs.Living.{live_home}

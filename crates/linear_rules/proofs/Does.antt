@@ -9,6 +9,7 @@ use Rattle.bs_words.specs.declared.types.Comp.TheVariants as comp
 use Rattle.bs_words.specs.declared.types.Loc.{Loc}
 use Rattle.bs_words.specs.declared.types.Loc.TheVariants as loc
 use Rattle.bs_words.specs.declared.values.Value.{Value}
+use Rattle.bs_words.proofs.Lists.{none_in, pairs_here, pairs_later, head_same, tail_same}
 use Rattle.cmm_meaning.specs.Setting.{Setting}
 use Rattle.cmm_meaning.specs.State.{Doing, Callee}
 use Rattle.mach_ir.specs.Acts.{Around, Target, On, At, AtLabel, AtHandler, Act, Goes, Pushes, Jumps, Unwinds, Asks, Replaces, Ends, EndsRaising, Stuck, drop_tries, truth_of, branches}
@@ -30,9 +31,10 @@ use Rattle.mach_ir.specs.declared.mach.Instr.{Instr}
 use Rattle.mach_ir.specs.declared.mach.Mach.{Mach}
 use Rattle.mach_ir.proofs.Keeping.{level, level_trail}
 use Rattle.mach_laws.specs.Expand.{Ending, all}
-use Rattle.mach_laws.proofs.Places.{ending_next, ending_from_handler}
+use Rattle.mach_laws.proofs.Places.{ending_next, ending_from_handler, stands_of}
 use Rattle.mach_laws.proofs.Simulate.{Agrees}
-use Rattle.mach_laws.proofs.Walking.{ending_at, none_in}
+use Rattle.mach_laws.proofs.Walking.{ending_at}
+use Rattle.mach_laws.proofs.Among.{left_among, right_among, split_among}
 use Rattle.lin_ir.specs.Meaning as lines
 use Rattle.lin_ir.specs.Meaning.{Locations, is_val}
 use Rattle.lin_ir.specs.Walks as walks
@@ -45,20 +47,14 @@ use Rattle.lin_ir.specs.declared.lin.Spot.{Spot}
 use Rattle.linear_rules.specs.Kept as kept
 use Rattle.linear_rules.specs.Kept.{ValsHeld, Begins}
 use Rattle.linear_rules.specs.Lowered.{home, spots, is_idle, line_of, bare, pops, lines_of, lowered_code}
-use Rattle.linear_rules.proofs.Homes.{IsIn, is_first, is_later, in_of, contains_of, in_among, number_in, left_among, right_among, PutAll, nil, cons, put_of, Pair, pair_in, Once, once_none, once_more, held_none, held_same, values_none, pair_held, single, clear_keeps, past_some, machine_of, one_at, killed_has, in_spots, spot_of, Typed, puts_at, typed_put, reads_all}
-use Rattle.linear_rules.proofs.Marks.{all_in, pairs_here, pairs_later, in_ending, stands_of, args_in_code, results_in_code, instr, AsLine, op_line, if_line, switch_line, try_line, handler_line, is_bare, IsIdle, idles, idle_of, bare_empty, EntryOf, entry_of}
+use Rattle.linear_rules.proofs.Homes.{IsIn, is_first, is_later, in_of, contains_of, in_among, number_in, PutAll, nil, cons, put_of, Pair, pair_in, Once, once_none, once_more, held_none, held_same, values_none, pair_held, single, clear_keeps, past_some, machine_of, one_at, killed_has, in_spots, spot_of, Typed, puts_at, typed_put, reads_all}
+use Rattle.linear_rules.proofs.Marks.{all_in, in_ending, args_in_code, results_in_code, instr, AsLine, op_line, if_line, switch_line, try_line, handler_line, is_bare, IsIdle, idles, idle_of, bare_empty, EntryOf, entry_of}
 use Rattle.linear_rules.proofs.Places.{drop_more}
 use Rattle.linear_rules.proofs.Opposite.{truth_opposite, branch_opposite}
-use Rattle.linear_rules.proofs.Standing.{split_among, same_targets, same_raises, same_destroyed, q, formed_at, label_of, label_q, at_target, handler_of, marked}
+use Rattle.linear_rules.proofs.Standing.{same_targets, same_raises, same_destroyed, q, formed_at, label_of, label_q, at_target, handler_of, marked}
 use Rattle.linear_rules.proofs.Meeting.{bare_writes, traps_to, traps_on, IsMetAcross, met_across}
 use Rattle.linear_rules.proofs.Simulate.{Arrives, both_continue, both_pay, both_deepen, both_wait, both_finish_by, both_finish, both_finish_raising, first_stuck, goes_alone, Closed, simulates}
 use Rattle.linear_rules.proofs.Turns.{Turns, goes_in, exits_in, jumps_in, unwinds_in, pushes_in, asks_in, tries_on, raised_on, IsTry, is_try, IsExit, turns}
-
-first_same : (i j : Line) (is js : List Line) → i ∷ is ≡ j ∷ js → i ≡ j
-first_same i j is js e = cc
-
-rest_same : (i j : Line) (is js : List Line) → i ∷ is ≡ j ∷ js → is ≡ js
-rest_same i j is js e = cc
 
 -- no value is asked for where a line is no frame point
 calm_at : (c : Place) (m : Lin) (j : Line) (ys : List Line) (b : Locations) (around : Around) → lines.passes_frame j.op ≡ false →
@@ -66,7 +62,7 @@ calm_at : (c : Place) (m : Lin) (j : Line) (ys : List Line) (b : Locations) (aro
 calm_at c m j ys b around e =
     record {
       held = λ k ks same frame l w.
-          absurd (true≢false (sym frame ∙ ap (λ (x : Line). lines.passes_frame x.op) (sym (first_same j k ys ks same)) ∙ e));
+          absurd (true≢false (sym frame ∙ ap (λ (x : Line). lines.passes_frame x.op) (sym (head_same same)) ∙ e));
     }
 
 -- ---- what is the same of a line of its own
@@ -312,8 +308,8 @@ module _ (c : Place) (number : ℕ → ℕ) (slots : ℕ) (p : Mach) (well : Wel
 
           first_line : (k : Line) (ks : List Line) → j ∷ ys ≡ k ∷ ks → lines.passes_frame k.op ≡ true → (l : Loc) → walks.LiveAcross Q l comp.Val k ks around.tries → is_val end (b l) ≡ true
           first_line k ks same frame l w =
-              let head : j ≡ k = first_same j k ys ks same in
-              let tail : ys ≡ ks = rest_same j k ys ks same in
+              let head : j ≡ k = head_same same in
+              let tail : ys ≡ ks = tail_same same in
               let w' : walks.LiveAcross Q l comp.Val j ys around.tries =
               subst (λ x. walks.LiveAcross Q l comp.Val x ys around.tries) (sym head) (subst (λ xs. walks.LiveAcross Q l comp.Val k xs around.tries) (sym tail) w) in
               by (ap (λ (x : Line). lines.passes_frame x.op) head ∙ frame) l w' (met_across number slots p well full f ending z tries w')
@@ -346,7 +342,7 @@ module _ (c : Place) (number : ℕ → ℕ) (slots : ℕ) (p : Mach) (well : Wel
 
                   kill : Among r.number (killed p i) → (t' : Bool) → nat_eq r.number k.number ≡ t' → ⊥
                   kill w true s' = unkilled (subst (λ m. Among m (killed p i)) (eqb-true r.number k.number s') w)
-                  kill w false s' = shared (share_of ending t o r k (is_colour (contains_of inside)) ki (right_among i.results w) v s' (ap (home number) here))
+                  kill w false s' = shared (share_of ending t o r k (is_colour (contains_of inside)) ki (right_among i.results _ w) v s' (ap (home number) here))
 
                   three : (t' : Bool) → is_at_one_of r.loc i.results ≡ t' → ⊥
                   three true s' = let y = one_at r.loc i.results s' in nowhere y.reg y.inside (ap (home number) (sym y.same ∙ here))
@@ -375,7 +371,7 @@ module _ (c : Place) (number : ℕ → ℕ) (slots : ℕ) (p : Mach) (well : Wel
           (subst (walks.Reached Q (lines.code_at Q.code ys to)) (sym t) (walks.by_step reached (walks.goes to (subst (OneOf to) (sym (same_targets z)) o))))
           (typed_put number p end well.numbers placed puts (results_are ending) cleared)
           (λ k ki x v u e. y.at k ki x e
-          (λ r v' pair ne same. share k ki x r v' v e pair ne agree (share_of ending to o r k (results_are ending r (pair_in pair)) ki (left_among (killed p i) (in_among (pair_in pair))) v ne same))
+          (λ r v' pair ne same. share k ki x r v' v e pair ne agree (share_of ending to o r k (results_are ending r (pair_in pair)) ki (left_among _ (killed p i) (in_among (pair_in pair))) v ne same))
           (λ free nowhere e'. kept k ki x v (subst (walks.Live Q (home number k.loc) k.comp (lines.code_at Q.code ys to)) t u) free nowhere e'))
           (λ w. none)))
         where
@@ -393,7 +389,7 @@ module _ (c : Place) (number : ℕ → ℕ) (slots : ℕ) (p : Mach) (well : Wel
               Known (at_file (code_at p.code next to) d after) → Shares i k r → v ≡ x.value
           share k ki x r v live e pair ne agree (one_slot same slot) =
               agree.agree r k (results_are ending r (pair_in pair)) ki same
-              (inr (subst (λ o. Among r.number (wrote_unless o (written p i))) (sym none) (left_among (killed p i) (in_among (pair_in pair))))) (inl live)
+              (inr (subst (λ o. Among r.number (wrote_unless o (written p i))) (sym none) (left_among _ (killed p i) (in_among (pair_in pair))))) (inl live)
               (record { comp = r.comp; value = v }) x (pair_held puts (once_of i.results (all_in (λ (i : Instr). AreDistinct i.results) well.distinct (in_ending ending))) r v pair) e
           share k ki x r v live e pair ne agree (moved m) = by (copied k.number m)
             where

@@ -1,5 +1,5 @@
 -- Writes and reads of registers, and of the places where they stand.
-use Rattle.std.proofs.Common.{◌≡◌, ℕ, Bool, true, false, cond, not, ◌&&◌, ◌||◌, ⊎_elim, List, [], ◌∷◌, ◌++◌, Option, Some, None, nat_eq, refl, sym, ap, ◌∙◌, subst}
+use Rattle.std.proofs.Common.{◌≡◌, ℕ, Bool, true, false, cond, not, ◌&&◌, ◌||◌, ⊎_elim, List, [], ◌∷◌, Option, Some, None, nat_eq, refl, sym, ap, ◌∙◌, subst}
 use Rattle.std.proofs.lemmas.Bool.{true≢false, eq-eqb, eqb-true, and_parts}
 use Rattle.std.specs.List.{Contains}
 use Rattle.bs_words.specs.Fits.{fits, type_of_comp}
@@ -9,15 +9,16 @@ use Rattle.bs_words.specs.declared.types.Loc.{Loc}
 use Rattle.bs_words.specs.declared.types.Loc.TheVariants as loc
 use Rattle.bs_words.specs.declared.values.Value.{Value}
 use Rattle.bs_words.specs.declared.values.Value.TheVariants as value
+use Rattle.bs_words.proofs.Lists.{none_in, first_in, later_in, in_cons}
 use Rattle.mach_ir.specs.Meaning.{File, Held, put, put_if, put_all, clear, values, with_held, is_addr, unless_addr, Destroyed, Nothing, Temporaries, Everything, is_destroyed, is_at_one_of, same_colour, killed_by, killed_among}
 use Rattle.mach_ir.specs.Placed.{IsPlaced, in_colour, in_slot}
 use Rattle.mach_ir.specs.Walks.{Among, first, later, IsRegister}
 use Rattle.mach_ir.specs.declared.reg.Reg.{Reg}
 use Rattle.mach_ir.specs.declared.mach.Mach.{Mach}
-use Rattle.mach_laws.proofs.Walking.{none_in, first_in, later_in, in_cons}
 use Rattle.lin_ir.specs.Meaning as lin
 use Rattle.lin_ir.specs.Meaning.{Locations, same_loc, as_type, unless_pointer, is_val, are_vals, is_named}
 use Rattle.lin_ir.specs.declared.lin.Spot.{Spot}
+use Rattle.mach_laws.proofs.Among.{among_number}
 use Rattle.linear_rules.specs.Lowered.{home, spot, spots}
 
 -- ---- members
@@ -46,14 +47,6 @@ pub record HasNumber (n : ℕ) (rs : List Reg) : Type 0 where
 pub number_in : {n : ℕ} {rs : List Reg} → Among n rs → HasNumber n rs
 number_in (first {r = r} e) = record { reg = r; inside = is_first; same = e }
 number_in (later a) = let h = number_in a in record { reg = h.reg; inside = is_later h.inside; same = h.same }
-
-pub left_among : {n : ℕ} {xs : List Reg} (ys : List Reg) → Among n xs → Among n (xs ++ ys)
-left_among ys (first e) = first e
-left_among ys (later z) = later (left_among ys z)
-
-pub right_among : {n : ℕ} (xs : List Reg) {ys : List Reg} → Among n ys → Among n (xs ++ ys)
-right_among [] z = z
-right_among (x ∷ xs) z = later (right_among xs z)
 
 -- ---- locations
 
@@ -143,9 +136,6 @@ held_same x y e = cc
 
 pub values_none : (vs : List Value) → None ≡ Some vs → ⊥
 values_none vs e = cc
-
-among_number : {n m : ℕ} {rs : List Reg} → n ≡ m → Among n rs → Among m rs
-among_number {rs = rs} e z = subst (λ k. Among k rs) e z
 
 pub pair_held : {end : ℕ} {a : File} {rs : List Reg} {vs : List Value} {d : File} → PutAll end a rs vs d → Once rs → (r : Reg) (v : Value) → Pair r v rs vs →
     d r.number ≡ Some (record { comp = r.comp; value = v })

@@ -1,12 +1,13 @@
 -- The marks of a Mach function, and where their labels stand in its lines.
-use Rattle.std.proofs.Common.{◌≡◌, ◌≢◌, ℕ, zero, suc, Bool, true, false, cond, ◌⊎◌, inl, inr, ⊎_elim, List, [], ◌∷◌, nat_eq, All, AllPairs, refl, sym, ap, ◌∙◌, subst, arith}
+use Rattle.std.proofs.Common.{◌≡◌, ◌≢◌, ℕ, zero, suc, Bool, true, false, cond, ◌⊎◌, inl, inr, ⊎_elim, List, [], ◌∷◌, nat_eq, All, AllPairs, refl, sym, ap, ◌∙◌, subst}
 use Rattle.std.proofs.lemmas.Bool.{true≢false, eqb-true, and_parts}
 use Rattle.std.proofs.lemmas.List.Elements.{All-head, All-tail}
 use Rattle.bs_words.specs.declared.types.Comp.{Comp}
 use Rattle.bs_words.specs.declared.types.Comp.TheVariants as comp
+use Rattle.bs_words.proofs.Lists.{pairs_here, pairs_later}
 use Rattle.mach_ir.specs.Formed.{comps, MarkHasForm, exit_form, if_form, else_form, switch_form, case_form, catch_form, with_form, try_form, leave_form, handler_form, end_form, IsFormed, formed_op, formed_mark, labels_in, HasPlace, place_here, place_below, HasHandler, handler_here, handler_below}
 use Rattle.mach_ir.specs.Meaning.{has_label, is_handler_of, after_label, from_handler, tries_past, destroyed_by, killed_by}
-use Rattle.mach_ir.specs.Walks.{InCode, in_args, in_results, further, Stands, here, below}
+use Rattle.mach_ir.specs.Walks.{InCode, in_args, in_results, further, here}
 use Rattle.mach_ir.specs.declared.op.Op.TheVariants as op
 use Rattle.mach_ir.specs.declared.op.CopyKind.{CopyKind}
 use Rattle.mach_ir.specs.declared.op.Pure.TheVariants as pure
@@ -31,12 +32,6 @@ pub all_in : {A : Type 0} (P : A → Type 0) {x : A} {xs : List A} → All P xs 
 all_in P {x} h (is_first {xs = xs}) = All-head P x xs h
 all_in P h (is_later {y = y} {xs = xs} i) = all_in P (All-tail P y xs h) i
 
-pub pairs_here : {A : Type 0} (R : A → A → Type 0) (x : A) (xs : List A) → AllPairs R (x ∷ xs) → All (R x) xs
-pairs_here R x xs h = λ k d lt. h 0 (suc k) d (omega arith) (omega (arith, lt))
-
-pub pairs_later : {A : Type 0} (R : A → A → Type 0) (x : A) (xs : List A) → AllPairs R (x ∷ xs) → AllPairs R xs
-pairs_later R x xs h = λ i j d lt le. h (suc i) (suc j) d (omega (arith, lt)) (omega (arith, le))
-
 abbrev pub Differ : ℕ → ℕ → Type 0
 Differ k l = k ≢ l
 
@@ -45,10 +40,6 @@ Differ k l = k ≢ l
 pub in_ending : {i : Instr} {next code : List Instr} → Ending (i ∷ next) code → IsIn i code
 in_ending all = is_first
 in_ending (more e) = is_later (in_ending e)
-
-pub stands_of : {i : Instr} {next code : List Instr} → Ending (i ∷ next) code → Stands i next code
-stands_of all = here
-stands_of (more e) = below (stands_of e)
 
 pub args_in_code : {i : Instr} {next code : List Instr} {r : Reg} → Ending (i ∷ next) code → IsIn r i.args → InCode r code
 args_in_code all c = in_args (contains_of c)

@@ -7,3 +7,5 @@ pub mod Leads
 pub mod Grows
 pub mod Colouring
 pub mod Identity
+pub mod Runs
+pub mod Among

@@ -26,7 +26,6 @@ use Rattle.mach_ir.specs.Walks.{InCode, in_args, in_results, further, IsRegister
 use Rattle.mach_ir.specs.declared.reg.Reg.{Reg}
 use Rattle.mach_ir.specs.declared.mach.Instr.{Instr}
 use Rattle.mach_ir.specs.declared.mach.Mach.{Mach}
-use Rattle.mach_laws.proofs.Walking.{none_in, in_cons}
 use Rattle.pass_rules.specs.Carried.{IsCarried}
 use Rattle.pass_rules.specs.Measures.{copy_words, code_words, exits}
 use Rattle.sink_rules.proofs.Chosen as sinking
@@ -38,6 +37,7 @@ use Rattle.spill_rules.specs.Chosen.{ParamsPlaced, IsSpilled, IsChosenKept}
 use Rattle.split_rules.proofs.One.{one_split}
 use Rattle.split_rules.proofs.Whole.{split_kept}
 use Rattle.split_rules.specs.Split.{IsSplit}
+use Rattle.bs_words.proofs.Lists.{none_in, in_cons}
 use Rattle.mach_passes.specs.Prepared.{IsPrepared, IsPreparable, IsKept}
 use Rattle.mach_passes.specs.Stages.{IsCommoned, HasNoRepeats, IsCleaned, IsReadied, HasSlots}
 use Rattle.repeat_rules.proofs.Form as repeats

@@ -8,16 +8,11 @@ use Rattle.image_form.specs.Tables.{Tables}
 use Rattle.rv_machine.specs.Memory.{Region, byte_in, index_in, is_inside, loaded, memory_or, or_zero, part, read, replaced, with_written, word, write, written}
 use Rattle.rv_machine.specs.Sound.{Extent, HasRegions, IsRegion, IsStackBase, extent, extents}
 use Rattle.machine_laws.proofs.Words.{set_words}
+use Rattle.bs_words.proofs.Truths.{bool_same}
 use Rattle.moving_laws.specs.Words.{IsReadable, held_word}
 use Rattle.moving_laws.proofs.Usable.{covered, covers, same_readable}
 use Rattle.moving_laws.proofs.Words.{readable_even, stored_is}
 use Rattle.moving_laws.proofs.Young.{read_is}
-
-bool_same : (p q : Bool) → (p ≡ true → q ≡ true) → (q ≡ true → p ≡ true) → p ≡ q
-bool_same true true f g = refl
-bool_same true false f g = sym (f refl)
-bool_same false true f g = g refl
-bool_same false false f g = refl
 
 inside_parts : (r : Region) (a w : ℕ) → is_inside r a w ≡ true → (r.start ≤ a) × (a + w ≤ r.start + r.bytes)
 inside_parts r a w h =

@@ -5,6 +5,7 @@ use Rattle.std.proofs.lemmas.Option.{none-some}
 use Rattle.std.proofs.lemmas.List.Elements.{All-contains}
 use Rattle.bs_words.specs.Memory.{Memory}
 use Rattle.bs_words.specs.declared.values.Value.{Value}
+use Rattle.bs_words.proofs.Lists.{first_in, later_in, head_same, tail_same}
 use Rattle.cmm_meaning.specs.State.{Doing}
 use Rattle.mach_ir.specs.Acts.{Around, Target, On, At, Landing, AtLabel, AtHandler, Act, Goes, Pushes, Jumps, Unwinds, Asks, Replaces, Ends, EndsRaising, Stuck}
 use Rattle.mach_ir.specs.Formed.{IsFormed, WellFormed}
@@ -22,14 +23,13 @@ use Rattle.mach_laws.proofs.General as general
 use Rattle.mach_laws.proofs.General.{at}
 use Rattle.mach_laws.proofs.Leads.{IsTry, is_try, MayLand, lands_at_label, lands_at_handler, Within, goes_in, pushes_in, jumps_in, unwinds_in, asks_in, within}
 use Rattle.mach_laws.proofs.Level as level
-use Rattle.mach_laws.proofs.Places.{ending_next, ending_label, ending_land}
+use Rattle.mach_laws.proofs.Places.{ending_next, ending_label, ending_land, stands_of}
 use Rattle.mach_laws.proofs.Simulate.{Agrees}
-use Rattle.mach_laws.proofs.Walking.{first_in, later_in}
+use Rattle.mach_laws.proofs.Among.{left_among, right_among, split_among}
 use Rattle.places_rules.specs.Places.{Placing, IsPlacing, placed, all_placed, placed_instr, placed_code, with_places}
 use Rattle.places_rules.proofs.Files.{values_same, past_same, cleared, not_cleared, among_or_not, PutsBoth, put_both}
-use Rattle.places_rules.proofs.Walked.{left_among, right_among, split_among, stands_of, fewer_killed, fewer_written, still_written, live_before, across_back}
+use Rattle.places_rules.proofs.Walked.{fewer_killed, fewer_written, still_written, live_before, across_back}
 use Rattle.places_rules.proofs.Instructions.{among_back, same_values, same_put, alone, as_expanded, keeps_marks}
-use Rattle.places_rules.proofs.Lists.{head_same, tail_same}
 use Rattle.places_rules.proofs.Raised.{IsRaised, Told, told_jump, told_unwind, told_ask, IsSilent, told, label_silent, try_silent}
 use Rattle.places_rules.proofs.Text.{same_label, same_handler, same_tries, was_register}
 

@@ -3,16 +3,7 @@ use Rattle.std.proofs.Common.{◌≡◌, ℕ, zero, suc, ◌<◌, ⊎_elim, List
 use Rattle.std.specs.List.{AllPairs, Contains}
 use Rattle.std.specs.Prelude.{slice_index_or}
 use Rattle.std.proofs.lemmas.List.{length-map}
-use Rattle.mach_laws.proofs.Walking.{none_in, first_in, later_in, in_cons}
-
-pub head_same : {A : Type 0} {x y : A} {xs ys : List A} → x ∷ xs ≡ y ∷ ys → x ≡ y
-head_same e = cc
-
-pub tail_same : {A : Type 0} {x y : A} {xs ys : List A} → x ∷ xs ≡ y ∷ ys → xs ≡ ys
-tail_same e = cc
-
-pub none_there : {A : Type 0} {x : A} {xs : List A} → [] ≡ x ∷ xs → ⊥
-none_there e = cc
+use Rattle.bs_words.proofs.Lists.{none_in, first_in, later_in, in_cons}
 
 -- what a member of a mapped list was
 pub record Was {A B : Type 0} (f : A → B) (xs : List A) (y : B) : Type 0 where
@@ -26,12 +17,6 @@ was f (x ∷ xs) y c =
     ⊎_elim (λ e. record { what = x; among = first_in x xs; same = e })
     (λ d. let w = was f xs y d in record { what = w.what; among = later_in x w.what xs w.among; same = w.same })
     (in_cons (f x) y (map f xs) c)
-
-pub mapped : {A B : Type 0} (f : A → B) (xs : List A) (x : A) → Contains xs x → Contains (map f xs) (f x)
-mapped f [] x c = absurd (none_in x c)
-mapped f (y ∷ ys) x c =
-    ⊎_elim (λ e. subst (λ z. Contains (f y ∷ map f ys) (f z)) e (first_in (f y) (map f ys)))
-    (λ d. later_in (f y) (f x) (map f ys) (mapped f ys x d)) (in_cons y x ys c)
 
 at_mapped : {A : Type 0} (f : A → A) (xs : List A) (k : ℕ) (d : A) → k < length xs →
     slice_index_or (map f xs) k d ≡ f (slice_index_or xs k d)

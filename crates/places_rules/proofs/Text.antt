@@ -13,8 +13,9 @@ use Rattle.mach_ir.specs.declared.mach.MachOp.{MachOp}
 use Rattle.mach_ir.specs.declared.mach.MachOp.TheVariants as mach
 use Rattle.mach_ir.specs.declared.mach.Instr.{Instr}
 use Rattle.mach_ir.specs.declared.mach.Mach.{Mach}
+use Rattle.bs_words.proofs.Lists.{mapped}
 use Rattle.places_rules.specs.Places.{Placing, placed, all_placed, placed_instr, placed_code, with_places}
-use Rattle.places_rules.proofs.Lists.{was, mapped, pairs_mapped}
+use Rattle.places_rules.proofs.Lists.{was, pairs_mapped}
 
 module _ (place : Placing) where
   -- ---- labels and tries

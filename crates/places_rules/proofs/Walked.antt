@@ -1,11 +1,12 @@
 -- What is live, joined and reached in a function whose open registers have been given places was so before: where an
 -- operation destroys less than it did, nothing that is live is the difference.
-use Rattle.std.proofs.Common.{◌≡◌, ℕ, Bool, true, false, cond, not, ◌&&◌, ◌⊎◌, inl, inr, ⊎_elim, List, [], ◌∷◌, ◌++◌, refl, sym, ap, ◌∙◌, subst}
+use Rattle.std.proofs.Common.{◌≡◌, ℕ, Bool, true, false, cond, not, ◌&&◌, ◌⊎◌, ⊎_elim, List, [], ◌∷◌, refl, sym, ap, ◌∙◌, subst}
 use Rattle.std.proofs.lemmas.Bool.{cases_Bool, eq-eqb, eqb-true, both_ways, and_parts, or_left, or_right, or_cases}
 use Rattle.std.specs.List.{Contains}
 use Rattle.std.specs.Prelude.{nat_eq}
 use Rattle.bs_words.specs.declared.types.Loc.{Loc}
 use Rattle.bs_words.specs.declared.types.Loc.TheVariants as loc
+use Rattle.bs_words.proofs.Lists.{none_in, first_in, later_in, in_cons, mapped}
 use Rattle.mach_ir.specs.Acts.{Target, On, At}
 use Rattle.mach_ir.specs.Meaning.{Destroyed, Nothing, Temporaries, Everything, destroyed_by, is_destroyed, same_colour, is_at_one_of, killed_among, killed_by, killed, passes_frame, after_label, from_handler, code_at, tries_at, tries_past}
 use Rattle.mach_ir.specs.Placed.{colours, WellPlaced}
@@ -14,11 +15,11 @@ use Rattle.mach_ir.specs.declared.reg.Reg.{Reg}
 use Rattle.mach_ir.specs.declared.mach.Instr.{Instr}
 use Rattle.mach_ir.specs.declared.mach.Mach.{Mach}
 use Rattle.mach_laws.specs.Expand.{Ending, all, more}
-use Rattle.mach_laws.proofs.Places.{ending_next, ending_label, ending_from_handler}
-use Rattle.mach_laws.proofs.Walking.{none_in, first_in, later_in, in_cons}
+use Rattle.mach_laws.proofs.Places.{ending_next, ending_label, ending_from_handler, stands_of, ending_of}
+use Rattle.mach_laws.proofs.Among.{left_among, right_among, split_among, among_of}
 use Rattle.places_rules.specs.Places.{Placing, IsPlacing, placed, all_placed, placed_instr, placed_code, with_places}
 use Rattle.places_rules.proofs.Open.{machine_open, machine_slot}
-use Rattle.places_rules.proofs.Lists.{was, mapped}
+use Rattle.places_rules.proofs.Lists.{was}
 use Rattle.places_rules.proofs.Text.{same_label, same_handler, was_register, was_at}
 use Rattle.places_rules.proofs.Instructions.{among_there, among_back}
 
@@ -153,34 +154,6 @@ killed_by_has r rs Temporaries results c e h = killed_has r rs Temporaries resul
 killed_by_has r rs Everything results c e h = killed_has r rs Everything results c e h
 
 -- ---- members by number
-
-pub left_among : {n : ℕ} (rs qs : List Reg) → Among n rs → Among n (rs ++ qs)
-left_among (r ∷ rs) qs (first e) = first e
-left_among (r ∷ rs) qs (later a) = later (left_among rs qs a)
-left_among [] qs a = elim a [ ]
-
-pub right_among : {n : ℕ} (rs qs : List Reg) → Among n qs → Among n (rs ++ qs)
-right_among [] qs a = a
-right_among (r ∷ rs) qs a = later (right_among rs qs a)
-
-pub split_among : (n : ℕ) (rs qs : List Reg) → Among n (rs ++ qs) → Among n rs ⊎ Among n qs
-split_among n [] qs a = inr a
-split_among n (r ∷ rs) qs (first e) = inl (first e)
-split_among n (r ∷ rs) qs (later a) = ⊎_elim (λ h. inl (later h)) inr (split_among n rs qs a)
-
-among_of : (r : Reg) (rs : List Reg) → Contains rs r → Among r.number rs
-among_of r [] c = absurd (none_in r c)
-among_of r (k ∷ rs) c =
-    ⊎_elim (λ e. first (ap (λ (x : Reg). x.number) e)) (λ d. later (among_of r rs d)) (in_cons k r rs c)
-
--- a code that another ends with stands in it
-pub stands_of : {i : Instr} {next code : List Instr} → Ending (i ∷ next) code → Stands i next code
-stands_of all = here
-stands_of (more e) = below (stands_of e)
-
-pub ending_of : {i : Instr} {next code : List Instr} → Stands i next code → Ending (i ∷ next) code
-ending_of here = all
-ending_of (below s) = more (ending_of s)
 
 in_code_results : {i : Instr} {next code : List Instr} {r : Reg} → Stands i next code → Contains i.results r → InCode r code
 in_code_results here c = in_results c

@@ -6,6 +6,7 @@ use Rattle.std.specs.Prelude.{nat_eq}
 use Rattle.std.proofs.lemmas.List.{length-map}
 use Rattle.bs_words.specs.declared.types.Loc.{Loc}
 use Rattle.bs_words.specs.declared.types.Loc.TheVariants as loc
+use Rattle.bs_words.proofs.Lists.{none_in, first_in, later_in, in_cons, mapped}
 use Rattle.mach_ir.specs.Formed.{WellFormed}
 use Rattle.mach_ir.specs.Keeps.{Keeps, IsLoose, is_open, is_slot, NamesSymbol, NamesExternal, IsNamedIn}
 use Rattle.mach_ir.specs.Placed.{IsPlaced, in_colour, in_slot, MayShare, WellPlaced, FullyPlaced}
@@ -22,10 +23,9 @@ use Rattle.mach_ir.specs.declared.mach.MachOp.TheVariants as mach
 use Rattle.mach_ir.specs.declared.reg.Reg.{Reg}
 use Rattle.mach_ir.specs.declared.mach.Instr.{Instr}
 use Rattle.mach_ir.specs.declared.mach.Mach.{Mach}
-use Rattle.mach_laws.proofs.Walking.{none_in, first_in, later_in, in_cons}
 use Rattle.places_rules.specs.Places.{Placing, IsPlacing, placed, all_placed, placed_instr, placed_code, with_places, IsSlot, SlotsGrow}
 use Rattle.places_rules.proofs.Kept.{does_placed}
-use Rattle.places_rules.proofs.Lists.{was, mapped}
+use Rattle.places_rules.proofs.Lists.{was}
 use Rattle.places_rules.proofs.Text.{was_register}
 use Rattle.places_rules.proofs.Open.{slot_open, machine_slot, same_slot}
 use Rattle.places_rules.proofs.Walked.{machine_stays, colour_stays, joined_before, no_addr_before}

@@ -5,11 +5,11 @@ use Rattle.std.proofs.lemmas.Bool.{both_ways}
 use Rattle.std.proofs.lemmas.Option.{none-some, same_Some}
 use Rattle.bs_words.specs.Fits.{fits, type_of_comp}
 use Rattle.bs_words.specs.declared.values.Value.{Value}
+use Rattle.bs_words.proofs.Lists.{none_in, first_in, later_in, in_cons}
 use Rattle.mach_ir.specs.Formed.{AreDistinct}
 use Rattle.mach_ir.specs.Meaning.{File, put, put_if, put_all, with_held, values}
 use Rattle.mach_ir.specs.Walks.{Among, first, later}
 use Rattle.mach_ir.specs.declared.reg.Reg.{Reg}
-use Rattle.mach_laws.proofs.Walking.{none_in, first_in, later_in, in_cons}
 use Rattle.places_rules.proofs.Files.{put_here, put_other}
 use Rattle.reload_rules.specs.Reloaded.{is_renewed, fresh, number_after, renewed}
 use Rattle.reload_rules.proofs.Numbers.{IsFor, for_this, for_other, after_true, after_rises, for_from, for_in}

@@ -9,6 +9,7 @@ use Rattle.std.proofs.lemmas.List.Elements.{All-contains}
 use Rattle.bs_words.specs.Fits.{fits, type_of_comp}
 use Rattle.bs_words.specs.Memory.{Memory}
 use Rattle.bs_words.specs.declared.values.Value.{Value}
+use Rattle.bs_words.proofs.Lists.{none_in, in_cons, head_same, tail_same}
 use Rattle.mach_ir.specs.Acts.{Around, Target, On, At, Landing, AtLabel, AtHandler, Act, Goes, Pushes, Jumps, Unwinds, Asks, Replaces, Ends, EndsRaising, Stuck}
 use Rattle.mach_ir.specs.Formed.{IsFormed, WellFormed, AreDistinct}
 use Rattle.mach_ir.specs.Placed.{WellPlaced}
@@ -30,16 +31,14 @@ use Rattle.mach_laws.proofs.General as general
 use Rattle.mach_laws.proofs.General.{at}
 use Rattle.mach_laws.proofs.Leads.{IsTry, is_try, MayLand, lands_at_label, lands_at_handler, Within, goes_in, pushes_in, jumps_in, unwinds_in, asks_in, within}
 use Rattle.mach_laws.proofs.Level.{begins_at}
-use Rattle.mach_laws.proofs.Places.{ending_next, ending_label, ending_land, ending_from_handler, label_expand, handler_expand}
+use Rattle.mach_laws.proofs.Places.{ending_next, ending_label, ending_land, ending_from_handler, label_expand, handler_expand, stands_of}
 use Rattle.mach_laws.proofs.Simulate.{Agrees}
-use Rattle.mach_laws.proofs.Walking.{none_in, in_cons}
-use Rattle.places_rules.proofs.Lists.{head_same, tail_same}
+use Rattle.mach_laws.proofs.Among.{left_among, right_among, split_among, number_among, among_of}
 use Rattle.places_rules.proofs.Files.{past_same, cleared, not_cleared, among_or_not, put_here, put_other, put_both}
-use Rattle.places_rules.proofs.Walked.{left_among, right_among, split_among, stands_of}
 use Rattle.places_rules.proofs.Raised.{IsRaised, Told, told_jump, told_unwind, told_ask, IsSilent, told, label_silent, try_silent}
 use Rattle.liveness.proofs.Bounds.{killed_is_colour}
 use Rattle.split_rules.proofs.Formed.{contains_of}
-use Rattle.split_rules.proofs.Text.{number_among, number_in, args_in, results_in}
+use Rattle.split_rules.proofs.Text.{args_in, results_in}
 use Rattle.spill_rules.specs.Spilled.{copied}
 use Rattle.spill_rules.proofs.Kept.{values_held, FitsIn, put_fits, put_holds, clear_fits, frame_fits}
 use Rattle.reload_rules.specs.Reloaded.{reads_registers, writes_registers, is_renewed, fresh, number_after, reloads, spills}
@@ -236,7 +235,7 @@ module _ (m : Mach) (s : ℕ → ℕ) (free top : ℕ) (formed : WellFormed m) (
           register = w;
           among = made_register m s free top formed placed is (stands_of ending) (for_operand g);
           origin = made_origin m s free top formed placed is r j (stands_of ending) (for_operand g);
-          live = read (number_in w i.args (for_in (reads_registers i.op) g));
+          live = read (among_of w i.args (for_in (reads_registers i.op) g));
           value = h.made r.number w g lt;
         }
 
@@ -321,7 +320,7 @@ module _ (m : Mach) (s : ℕ → ℕ) (free top : ℕ) (formed : WellFormed m) (
               made_here = known.0 n r (for_this t)
 
               among : Among r.number i.args
-              among = number_in r i.args (for_in (reads_registers i.op) made_here)
+              among = among_of r i.args (for_in (reads_registers i.op) made_here)
 
               is_reg : IsRegister m r
               is_reg = made_register m s free top formed placed is (stands_of ending) (for_operand made_here)
@@ -394,7 +393,7 @@ module _ (m : Mach) (s : ℕ → ℕ) (free top : ℕ) (formed : WellFormed m) (
             origin = made_origin m s free top formed placed is r j (stands_of ending) (for_result g);
             live = inr
                 (wrote_all y.raised quiet (written m i) w.number
-                (left_among i.results (killed m i) (number_in w i.results (for_in (writes_registers i.op) g))));
+                (left_among i.results (killed m i) (among_of w i.results (for_in (writes_registers i.op) g))));
             value = same;
           }
 
@@ -499,10 +498,10 @@ module _ (m : Mach) (s : ℕ → ℕ) (free top : ℕ) (formed : WellFormed m) (
               is_reg = made_register m s free top formed placed is (stands_of ending) (for_result made_here)
 
               h : Held
-              h = (held r.number (number_in r i.results result)).0
+              h = (held r.number (among_of r i.results result)).0
 
               holds_h : d r.number ≡ Some h
-              holds_h = (held r.number (number_in r i.results result)).1
+              holds_h = (held r.number (among_of r i.results result)).1
 
               fits_so : (h.comp ≡ r.comp) × (fits limit (type_of_comp h.comp) h.value ≡ true)
               fits_so = fit r is_reg h holds_h
@@ -544,7 +543,7 @@ module _ (m : Mach) (s : ℕ → ℕ) (free top : ℕ) (formed : WellFormed m) (
                     origin = refl;
                     live = inr
                         (wrote_all y.raised quiet (written m i) k.number
-                        (left_among i.results (killed m i) (subst (λ n. Among n i.results) g (number_in r i.results result))));
+                        (left_among i.results (killed m i) (subst (λ n. Among n i.results) g (among_of r i.results result))));
                     value = ap d (sym g) ∙ as_put ∙ sym (put_here r h.value e k.number g);
                   }
 
@@ -587,7 +586,7 @@ module _ (m : Mach) (s : ℕ → ℕ) (free top : ℕ) (formed : WellFormed m) (
             of k.0 k.2 (was_in (writes_registers i.op) (first_result i next) i.results k.0 k.1)
           where
             of : (k : Reg) → k.number ≡ x → WasIn (writes_registers i.op) (first_result i next) i.results k → Among x i.results
-            of k e (was_own c t) = subst (λ n. Among n i.results) e (number_in k i.results c)
+            of k e (was_own c t) = subst (λ n. Among n i.results) e (among_of k i.results c)
             of k e (was_fresh y w g h) =
                 let le = made_free m s free top formed placed is stands (for_result g) in
                 let number : y ≡ k.number = ap (λ (r : Reg). r.number) h in absurd (omega (arith, lt, le, number, e))
@@ -659,9 +658,9 @@ module _ (m : Mach) (s : ℕ → ℕ) (free top : ℕ) (formed : WellFormed m) (
             (split_among x (main_for i next).results (killed q (main_for i next)) z)
           where
             of : (k : Reg) → WasIn (writes_registers i.op) (first_result i next) i.results k → ⊥
-            of k (was_own c t) = silent k.number (left_among i.results (killed m i) (number_in k i.results c))
+            of k (was_own c t) = silent k.number (left_among i.results (killed m i) (among_of k i.results c))
             of k (was_fresh y w g h) =
-                silent w.number (left_among i.results (killed m i) (number_in w i.results (for_in (writes_registers i.op) g)))
+                silent w.number (left_among i.results (killed m i) (among_of w i.results (for_in (writes_registers i.op) g)))
 
         silent_none : IsSilent m i → (o : Option Value) → (x : ℕ) → Among x (wrote_unless o (written q (main_for i next))) → ⊥
         silent_none silent o x z = main_silent silent x (unless_among o (written q (main_for i next)) x z)
@@ -707,7 +706,7 @@ module _ (m : Mach) (s : ℕ → ℕ) (free top : ℕ) (formed : WellFormed m) (
                   origin = refl;
                   live = inr
                       (wrote_all y.raised quiet (written m i) r.number
-                      (left_among i.results (killed m i) (subst (λ n. Among n i.results) g (number_in k i.results c))));
+                      (left_among i.results (killed m i) (subst (λ n. Among n i.results) g (among_of k i.results c))));
                   value = ap d (sym g) ∙ p.own k c t ∙ ap p.file g;
                 }
             of k g (was_fresh x w h t) =
@@ -739,7 +738,7 @@ module _ (m : Mach) (s : ℕ → ℕ) (free top : ℕ) (formed : WellFormed m) (
         past_to vs d e p y quiet (At l) o =
             let silent = label_silent m (form_of ending) l o in
             let unspilled = λ (x : ℕ) (r : Reg) (z : Contains i.results r) (t : is_renewed (writes_registers i.op) r ≡ true) (g : r.number ≡ x).
-            silent r.number (left_among i.results (killed m i) (number_in r i.results z)) in
+            silent r.number (left_among i.results (killed m i) (among_of r i.results z)) in
             let rel : Agrees m (written m i) (at (after_label l m.code) d y) → Linked (after_label l m.code) y y d p.file =
             λ (agreed : Agrees m (written m i) (at (after_label l m.code) d y)).
             record {
@@ -890,7 +889,7 @@ module _ (m : Mach) (s : ℕ → ℕ) (free top : ℕ) (formed : WellFormed m) (
             read = vs;
             reads = sym
                 (values_renewed a gone.file (reads_registers i.op) (first_operand next) i.args
-                (λ r z t. ((gone.holds).holds).itself r.number (read (number_in r i.args z)))
+                (λ r z t. ((gone.holds).holds).itself r.number (read (among_of r i.args z)))
                 (λ x w g. (gone.holds).made x w g (for_below (reads_registers i.op) g)))
                 ∙ e;
             alike = acts_same i next a gone.file ending gone.holds y (mach_act c.setting i.op vs y) (within c.setting i.op vs y)

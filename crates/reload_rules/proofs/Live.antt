@@ -15,13 +15,12 @@ use Rattle.mach_ir.specs.declared.reg.Reg.{Reg}
 use Rattle.mach_ir.specs.declared.mach.Instr.{Instr}
 use Rattle.mach_ir.specs.declared.mach.Mach.{Mach}
 use Rattle.mach_laws.specs.Expand.{expand, Ending}
-use Rattle.mach_laws.proofs.Places.{label_expand, handler_expand, ending_next, ending_label, ending_from_handler}
-use Rattle.mach_laws.proofs.Walking.{none_in, in_cons}
+use Rattle.mach_laws.proofs.Places.{label_expand, handler_expand, ending_next, ending_label, ending_from_handler, stands_of}
+use Rattle.mach_laws.proofs.Among.{left_among, right_among, split_among, number_among, among_of}
 use Rattle.places_rules.proofs.Raised.{label_silent}
-use Rattle.places_rules.proofs.Walked.{left_among, right_among, split_among, stands_of}
 use Rattle.split_rules.proofs.Formed.{contains_of}
-use Rattle.split_rules.proofs.Text.{number_among, number_in}
 use Rattle.spill_rules.specs.Spilled.{copied}
+use Rattle.bs_words.proofs.Lists.{none_in, in_cons}
 use Rattle.reload_rules.specs.Reloaded.{reads_registers, writes_registers, is_renewed, fresh, number_after, number_past, reloads, spills, results_from, past_instr, renewed_instr}
 use Rattle.reload_rules.proofs.Killed.{same_killed}
 use Rattle.reload_rules.proofs.Numbers.{IsFor, for_this, for_other, WasIn, was_own, was_fresh, after_true, after_false, for_from, for_below, for_in, was_in, own_stays, for_stands}
@@ -207,7 +206,7 @@ module _ (m : Mach) (s : ℕ → ℕ) (free top : ℕ) (formed : WellFormed m) (
       free
       (left_among (main_of i next).results (killed q (main_of i next))
       (subst (λ x. Among x (main_of i next).results) r.2
-      (number_in r.0 (main_of i next).results (own_stays (writes_registers i.op) (results_at i next) i.results r.0 r.1 t)))))
+      (among_of r.0 (main_of i next).results (own_stays (writes_registers i.op) (results_at i next) i.results r.0 r.1 t)))))
       (cases_Bool (is_renewed (writes_registers i.op) r.0)))
       (λ a. free (right_among (main_of i next).results (killed q (main_of i next)) (subst (Among x) (sym (killed_same i next)) a)))
       (split_among x i.results (killed m i) w)
@@ -215,7 +214,7 @@ module _ (m : Mach) (s : ℕ → ℕ) (free top : ℕ) (formed : WellFormed m) (
   pub writes_fresh : (x : ℕ) (i : Instr) (next : List Instr) (w : Reg) → ForResult i next x w → Writes q (main_of i next) x
   writes_fresh x i next w h =
       left_among (main_of i next).results (killed q (main_of i next))
-      (number_in (fresh x w) (main_of i next).results (for_stands (writes_registers i.op) h))
+      (among_of (fresh x w) (main_of i next).results (for_stands (writes_registers i.op) h))
 
   -- ---- one step
 
@@ -234,13 +233,13 @@ module _ (m : Mach) (s : ℕ → ℕ) (free top : ℕ) (formed : WellFormed m) (
   read_case z (reload {i = i} r ending g h) a =
       inl
       (read
-      (subst (λ n. Among n i.args) (one_number r a) (number_in r i.args (for_in (reads_registers i.op) g))))
+      (subst (λ n. Among n i.args) (one_number r a) (among_of r i.args (for_in (reads_registers i.op) g))))
   read_case z (passes_operand {i = i} {next = next} {n = n} {rs = rs} r h) a = read_case (Reading i next n rs) h a
   read_case {x} z (main {i = i} {next = next} ending h) a = by (number_among (main_of i next).args a)
     where
       of : (k : Reg) → k.number ≡ x → WasIn (reads_registers i.op) (operands_at next) i.args k →
           Live m x (i ∷ next) ⊎ FreshOperand i next (results_at i next) x
-      of k e (was_own c t) = inl (read (subst (λ n. Among n i.args) e (number_in k i.args c)))
+      of k e (was_own c t) = inl (read (subst (λ n. Among n i.args) e (among_of k i.args c)))
       of k e (was_fresh y w g same) =
           let number : y ≡ x = ap (λ (r : Reg). r.number) same ∙ e in
           inr

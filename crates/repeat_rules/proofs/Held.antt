@@ -6,6 +6,7 @@ use Rattle.std.proofs.lemmas.Option.{same_Some}
 use Rattle.bs_words.specs.declared.types.Comp.{Comp}
 use Rattle.bs_words.specs.declared.types.Comp.TheVariants as comp
 use Rattle.bs_words.specs.declared.values.Value.{Value}
+use Rattle.bs_words.proofs.Lists.{first_in}
 use Rattle.combine_rules.proofs.Files.{PutAll, nil, cons, put_view, put_of, put_same, values_has, frame_loses}
 use Rattle.mach_ir.specs.Acts.{Around, On, Goes}
 use Rattle.mach_ir.specs.Meaning.{Held, File, put, put_all, clear, killed, values, past_frame, unless_addr, is_addr, passes_frame, mach_act}
@@ -16,11 +17,10 @@ use Rattle.mach_ir.specs.declared.reg.Reg.{Reg}
 use Rattle.mach_ir.specs.declared.mach.Instr.{Instr}
 use Rattle.mach_ir.specs.declared.mach.Mach.{Mach}
 use Rattle.mach_laws.specs.Expand.{Ending}
-use Rattle.mach_laws.proofs.Walking.{first_in}
+use Rattle.mach_laws.proofs.Among.{number_among}
 use Rattle.places_rules.proofs.Files.{put_other}
 use Rattle.repeat_rules.specs.Repeated.{is_operator, allocates, Ends, itself}
 use Rattle.repeat_rules.proofs.Acting.{Grown, gives_value, gives_still}
-use Rattle.split_rules.proofs.Text.{number_among}
 use Rattle.repeat_rules.proofs.Standing.{operator_straight, operator_same, straight_kills, straight_frame, Standing, Earlier, just_now, earlier, earlier_of}
 
 -- ---- files

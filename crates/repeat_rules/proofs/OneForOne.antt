@@ -8,6 +8,7 @@ use Rattle.std.proofs.lemmas.Bool.{both_ways}
 use Rattle.std.proofs.lemmas.Option.{same_Some}
 use Rattle.bs_words.specs.declared.types.Comp.TheVariants as comp
 use Rattle.bs_words.specs.declared.types.Loc.TheVariants as loc
+use Rattle.bs_words.proofs.Lists.{none_in, first_in, later_in, in_cons, head_same, tail_same, none_there}
 use Rattle.mach_ir.specs.Acts.{Target, On, At}
 use Rattle.mach_ir.specs.Formed.{labels_in, labels_of, LeadsTo, HasPlace, place_here, place_below, HasHandler, handler_here, handler_below, is_exit, LabelsStand, tries_left, leaves, IsNested, CasesAgree, WellFormed}
 use Rattle.mach_ir.specs.Placed.{MayShare, WellPlaced}
@@ -24,8 +25,7 @@ use Rattle.mach_ir.specs.declared.mach.Instr.{Instr}
 use Rattle.mach_ir.specs.declared.mach.Mach.{Mach}
 use Rattle.mach_laws.specs.Expand.{expand, Ending, all, more, KeepsMarks, no_label, not_labelled, no_handler, not_handled, bounds_try, no_bound, not_bound}
 use Rattle.mach_laws.proofs.Places.{label_expand, handler_expand, tries_expand, ending_from_handler}
-use Rattle.mach_laws.proofs.Walking.{none_in, first_in, later_in, in_cons, ending_at}
-use Rattle.places_rules.proofs.Lists.{head_same, tail_same, none_there}
+use Rattle.mach_laws.proofs.Walking.{ending_at}
 use Rattle.mach_laws.proofs.Simulate.{Agrees}
 use Rattle.repeat_rules.specs.Kept.{OwnOrigins}
 use Rattle.split_rules.proofs.Formed.{contains_of, stands_in}

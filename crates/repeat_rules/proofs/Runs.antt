@@ -11,7 +11,7 @@ use Rattle.mach_ir.specs.declared.mach.MachOp.TheVariants as mach
 use Rattle.mach_ir.specs.declared.mach.Instr.{Instr}
 use Rattle.mach_ir.specs.declared.mach.Mach.{Mach}
 use Rattle.mach_laws.specs.Expand.{Ending, all, more}
-use Rattle.places_rules.proofs.Lists.{head_same, tail_same, none_there}
+use Rattle.bs_words.proofs.Lists.{head_same, tail_same, none_there}
 
 -- ---- the code before a place
 

@@ -6,6 +6,7 @@ use Rattle.std.specs.List.{Contains}
 use Rattle.std.specs.Prelude.{slice_index_or}
 use Rattle.std.proofs.lemmas.Bool.{both_ways}
 use Rattle.bs_words.specs.declared.types.Comp.TheVariants as comp
+use Rattle.bs_words.proofs.Lists.{first_in, later_in, in_cons}
 use Rattle.mach_ir.specs.Acts.{Landing}
 use Rattle.mach_ir.specs.Meaning.{Nothing, is_handler_of, after_label, from_handler, landing_code, destroyed_by, killed_by, killed, passes_frame}
 use Rattle.mach_ir.specs.Placed.{is_straight}
@@ -19,7 +20,6 @@ use Rattle.mach_ir.specs.declared.mach.MachOp.TheVariants as mach
 use Rattle.mach_ir.specs.declared.mach.Instr.{Instr}
 use Rattle.mach_ir.specs.declared.mach.Mach.{Mach}
 use Rattle.mach_laws.specs.Expand.{Ending, expand}
-use Rattle.mach_laws.proofs.Walking.{first_in, later_in, in_cons}
 use Rattle.repeat_rules.specs.Repeated.{is_operator, allocates, Ends, StillStands, Repeats, again, in_place, with_moves, IsBefore}
 use Rattle.repeat_rules.proofs.OneForOne.{in_append, in_front, of_pure, op_same, Made, made_to, before_of}
 use Rattle.repeat_rules.proofs.Form.{operator_pure, Fate, unchanged, moved, fate, alike}

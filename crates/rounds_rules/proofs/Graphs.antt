@@ -9,7 +9,8 @@ use Rattle.mach_ir.specs.declared.mach.Mach.{Mach}
 use Rattle.mach_ir.specs.declared.reg.Reg.{Reg}
 use Rattle.colouring.proofs.Found.{one_of_number}
 use Rattle.lin_laws.proofs.Unique.{ordered_same}
-use Rattle.places_rules.proofs.Lists.{was, mapped}
+use Rattle.places_rules.proofs.Lists.{was}
+use Rattle.bs_words.proofs.Lists.{mapped}
 
 abbrev Lower : Node → Node → Type 0
 Lower x y = x.reg.number < y.reg.number

@@ -20,13 +20,13 @@ use Rattle.mach_ir.specs.declared.op.Leaving.TheVariants as leaving
 use Rattle.mach_ir.specs.declared.op.Op.{Op}
 use Rattle.mach_ir.specs.declared.op.Op.TheVariants as op
 use Rattle.bs_words.specs.declared.types.Comp.{Comp}
+use Rattle.bs_words.proofs.Lists.{first_in, later_in}
 use Rattle.mach_ir.specs.declared.reg.Reg.{Reg}
 use Rattle.mach_ir.specs.declared.mach.MachOp.TheVariants as mach
 use Rattle.mach_ir.specs.declared.mach.Instr.{Instr}
 use Rattle.mach_ir.specs.declared.mach.Mach.{Mach}
 use Rattle.mach_ir.proofs.Keeping.{keeps_itself, keeps_then}
 use Rattle.mach_laws.proofs.Colouring.{colouring_of}
-use Rattle.mach_laws.proofs.Walking.{first_in, later_in}
 use Rattle.pass_rules.specs.Carried.{IsCarried, OffsetFits}
 use Rattle.pass_rules.specs.Measures.{code_words, copy_words, other_operands}
 use Rattle.places_rules.specs.Places.{Placing, all_placed, placed_code, recoloured, rest_in_slots, last_resort, or_slot, ColoursLow}

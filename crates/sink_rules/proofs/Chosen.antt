@@ -13,11 +13,10 @@ use Rattle.mach_ir.specs.declared.mach.MachOp.TheVariants as mach
 use Rattle.mach_ir.specs.declared.mach.Instr.{Instr}
 use Rattle.mach_ir.specs.declared.mach.Mach.{Mach}
 use Rattle.mach_laws.specs.Expand.{expand, Ending, all}
-use Rattle.mach_laws.proofs.Places.{ending_from_handler}
-use Rattle.mach_laws.proofs.Walking.{none_in, first_in, later_in, in_cons, ending_at}
-use Rattle.places_rules.proofs.Lists.{tail_same}
-use Rattle.places_rules.proofs.Walked.{stands_of, ending_of}
+use Rattle.mach_laws.proofs.Places.{ending_from_handler, stands_of, ending_of}
+use Rattle.mach_laws.proofs.Walking.{ending_at}
 use Rattle.spill_rules.specs.Chosen.{LivesOver, lives}
+use Rattle.bs_words.proofs.Lists.{none_in, first_in, later_in, in_cons, tail_same}
 use Rattle.sink_rules.specs.Chosen.{IsRunTo, IsSunkAt, IsSunkSomewhere, IsChosen, IsSunk}
 use Rattle.sink_rules.specs.Sunk.{Plan, to_itself, moves_of, sunk_instr, IsPlan, IsKept}
 use Rattle.sink_rules.proofs.Runs.{stale_at_call, reached_at_call, live_from_call, run_operation, begins_once}

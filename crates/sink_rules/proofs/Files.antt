@@ -7,16 +7,16 @@ use Rattle.std.specs.Prelude.{nat_eq}
 use Rattle.bs_words.specs.declared.types.Comp.{Comp}
 use Rattle.bs_words.specs.declared.types.Comp.TheVariants as comp
 use Rattle.bs_words.specs.declared.types.Loc.TheVariants as loc
+use Rattle.bs_words.proofs.Lists.{none_in, in_cons}
 use Rattle.mach_ir.specs.Formed.{WellFormed}
 use Rattle.mach_ir.specs.Meaning.{Held, File, put, is_addr, past_frame, unless_addr, Destroyed, Nothing, Temporaries, Everything, destroyed_by, is_destroyed, is_at_one_of, killed_among, killed_by, killed}
 use Rattle.mach_ir.specs.Walks.{Among, IsRegister, is_colour}
 use Rattle.mach_ir.specs.declared.reg.Reg.{Reg}
 use Rattle.mach_ir.specs.declared.mach.Instr.{Instr}
 use Rattle.mach_ir.specs.declared.mach.Mach.{Mach}
-use Rattle.mach_laws.proofs.Walking.{none_in, in_cons}
 use Rattle.liveness.proofs.Bounds.{killed_is_colour}
 use Rattle.places_rules.proofs.Files.{put_here, put_other}
-use Rattle.split_rules.proofs.Text.{number_among}
+use Rattle.mach_laws.proofs.Among.{number_among}
 
 -- ---- a register that is put back
 

@@ -9,6 +9,7 @@ use Rattle.bs_words.specs.Fits.{fits, type_of_comp}
 use Rattle.bs_words.specs.declared.types.Comp.TheVariants as comp
 use Rattle.bs_words.specs.declared.types.Loc.TheVariants as loc
 use Rattle.bs_words.specs.declared.values.Value.{Value}
+use Rattle.bs_words.proofs.Lists.{first_in, later_in, head_same, tail_same, none_there}
 use Rattle.mach_ir.specs.Acts.{Around, Target, On, At, Landing, AtLabel, AtHandler}
 use Rattle.mach_ir.specs.Formed.{IsFormed, WellFormed}
 use Rattle.mach_ir.specs.Runs.{Place, Continues, entered}
@@ -25,15 +26,13 @@ use Rattle.mach_laws.proofs.General as general
 use Rattle.mach_laws.proofs.General.{at}
 use Rattle.mach_laws.proofs.Leads.{IsTry, is_try, MayLand, lands_at_label, lands_at_handler}
 use Rattle.mach_laws.proofs.Level as level
-use Rattle.mach_laws.proofs.Places.{ending_next, handler_expand}
+use Rattle.mach_laws.proofs.Places.{ending_next, handler_expand, stands_of}
 use Rattle.mach_laws.proofs.Simulate.{Agrees}
-use Rattle.mach_laws.proofs.Walking.{first_in, later_in}
+use Rattle.mach_laws.proofs.Among.{split_among, number_among}
 use Rattle.places_rules.proofs.Files.{not_cleared, among_or_not, PutsBoth, put_both}
-use Rattle.places_rules.proofs.Lists.{head_same, tail_same, none_there}
 use Rattle.places_rules.proofs.Raised.{IsSilent, label_silent, try_silent}
-use Rattle.places_rules.proofs.Walked.{split_among, stands_of}
 use Rattle.split_rules.proofs.Formed.{contains_of}
-use Rattle.split_rules.proofs.Text.{number_among, results_in}
+use Rattle.split_rules.proofs.Text.{results_in}
 use Rattle.spill_rules.proofs.Kept.{FitsIn, put_fits, put_holds, clear_fits, frame_fits}
 use Rattle.sink_rules.specs.Sunk.{Plan, to_itself, moves_of, IsPlan}
 use Rattle.sink_rules.specs.Walks as walks

@@ -1,5 +1,5 @@
 -- Straight runs to a call: what goes on along them, and that each code has one place where its run to a call begins.
-use Rattle.std.proofs.Common.{◌≡◌, ℕ, ◌<◌, ◌≤◌, true, false, ◌⊎◌, inl, inr, ⊎_elim, List, [], ◌∷◌, ◌++◌, length, refl, sym, ap, ◌∙◌, subst, arith}
+use Rattle.std.proofs.Common.{◌≡◌, ℕ, ◌<◌, true, false, ◌⊎◌, inl, inr, ⊎_elim, List, [], ◌∷◌, ◌++◌, length, refl, sym, ap, ◌∙◌, subst, arith}
 use Rattle.std.specs.List.{All, Contains}
 use Rattle.std.proofs.lemmas.Bool.{both_ways}
 use Rattle.std.proofs.lemmas.List.Elements.{All-head, All-tail, All-contains}
@@ -13,8 +13,8 @@ use Rattle.mach_ir.specs.declared.mach.MachOp.TheVariants as mach
 use Rattle.mach_ir.specs.declared.mach.Instr.{Instr}
 use Rattle.mach_ir.specs.declared.mach.Mach.{Mach}
 use Rattle.mach_laws.specs.Expand.{Ending, all, more}
-use Rattle.mach_laws.proofs.Walking.{first_in, later_in}
-use Rattle.places_rules.proofs.Lists.{head_same}
+use Rattle.mach_laws.proofs.Places.{ending_short}
+use Rattle.bs_words.proofs.Lists.{first_in, later_in, head_same}
 use Rattle.sink_rules.specs.Chosen.{IsRunTo}
 use Rattle.sink_rules.specs.Walks as walks
 use Rattle.sink_rules.specs.Walks.{Stale}
@@ -86,19 +86,15 @@ one_ends all e = inr e
 one_ends (more d) all = inl (more d)
 one_ends (more d) (more e) = one_ends d e
 
-longer : {rest code : List Instr} → Ending rest code → length rest ≤ length code
-longer all = omega arith
-longer (more e) = let le = longer e in omega (arith, le)
-
 stands_further : {i : Instr} {next rest code : List Instr} → Ending rest code → Stands i next rest → Stands i next code
 stands_further all s = s
 stands_further (more e) s = below (stands_further e s)
 
--- an ending of a run and of what comes after, longer than that, begins the run or stands behind an instruction of it
+-- an ending of a run and of what comes after, ending_short than that, begins the run or stands behind an instruction of it
 within : (run : List Instr) (call : Instr) (after rest : List Instr) → Ending rest (run ++ call ∷ after) → length after < length rest →
     (rest ≡ run ++ call ∷ after) ⊎ ((i : Instr) × Stands i rest (run ++ call ∷ after) × Contains run i)
 within [] call after rest all lt = inl refl
-within [] call after rest (more e) lt = let le = longer e in absurd (omega (arith, lt, le))
+within [] call after rest (more e) lt = let le = ending_short e in absurd (omega (arith, lt, le))
 within (j ∷ run) call after rest all lt = inl refl
 within (j ∷ run) call after rest (more e) lt =
     ⊎_elim (λ h. inr (j, subst (λ xs. Stands j rest (j ∷ xs)) h here, first_in j run))

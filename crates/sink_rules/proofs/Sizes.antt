@@ -16,10 +16,9 @@ use Rattle.mach_ir.specs.declared.reg.Reg.{Reg}
 use Rattle.mach_ir.specs.declared.mach.Instr.{Instr}
 use Rattle.mach_ir.specs.declared.mach.Mach.{Mach}
 use Rattle.mach_laws.specs.Expand.{expand, Ending, all, more}
-use Rattle.mach_laws.proofs.Places.{ending_next}
-use Rattle.mach_laws.proofs.Walking.{first_in, later_in}
+use Rattle.mach_laws.proofs.Places.{ending_next, stands_of}
 use Rattle.places_rules.proofs.Lists.{was}
-use Rattle.places_rules.proofs.Walked.{stands_of}
+use Rattle.bs_words.proofs.Lists.{first_in, later_in}
 use Rattle.sink_rules.specs.Sunk.{Plan, to_itself, moves_of, sunk_instr, sunk, IsPlan}
 
 -- ---- registers and their numbers

@@ -6,6 +6,7 @@ use Rattle.std.proofs.lemmas.List.Elements.{All-contains, Contains-append_left}
 use Rattle.std.proofs.Math.Nat.{le_antisymm}
 use Rattle.bs_words.specs.declared.types.Comp.{Comp}
 use Rattle.bs_words.specs.declared.types.Loc.TheVariants as loc
+use Rattle.bs_words.proofs.Lists.{none_in, first_in, later_in, mapped, head_same}
 use Rattle.mach_ir.specs.Acts.{Target, On}
 use Rattle.mach_ir.specs.Formed.{comps, MarkHasForm, exit_form, if_form, else_form, switch_form, case_form, catch_form, with_form, try_form, leave_form, handler_form, end_form, IsFormed, formed_op, formed_mark, WellFormed}
 use Rattle.mach_ir.specs.Forms as forms
@@ -21,14 +22,15 @@ use Rattle.mach_ir.specs.declared.mach.Mark.{Mark}
 use Rattle.mach_ir.specs.declared.mach.MachOp.TheVariants as mach
 use Rattle.mach_ir.specs.declared.mach.Instr.{Instr}
 use Rattle.mach_ir.specs.declared.mach.Mach.{Mach}
-use Rattle.mach_laws.specs.Expand.{expand, Ending, all, more}
-use Rattle.mach_laws.proofs.Places.{ending_next}
-use Rattle.mach_laws.proofs.Walking.{none_in, first_in, later_in, drop_ending}
+use Rattle.mach_laws.specs.Expand.{expand, Ending}
+use Rattle.mach_laws.proofs.Places.{ending_next, ending_short, ending_of}
+use Rattle.mach_laws.proofs.Walking.{drop_ending}
+use Rattle.mach_laws.proofs.Among.{number_among, among_of}
 use Rattle.places_rules.proofs.Open.{machine_open}
-use Rattle.places_rules.proofs.Lists.{was, mapped, head_same}
+use Rattle.places_rules.proofs.Lists.{was}
 use Rattle.split_rules.proofs.Formed.{contains_of}
 use Rattle.split_rules.proofs.Result.{comes_write}
-use Rattle.split_rules.proofs.Text.{number_among, number_in, args_in}
+use Rattle.split_rules.proofs.Text.{args_in}
 use Rattle.split_rules.specs.Writes.{Comes, from_entry, from_write, past, past_raise, IsWrite, by_entry, by_instr}
 use Rattle.spill_rules.specs.Chosen.{LivesOver, Lost, over, still, IsReloaded, IsChosen, IsSpilled, ParamsPlaced, IsNeededSlot, IsChosenKept}
 use Rattle.spill_rules.specs.Spilled.{Plan, copied, reload, spill, reloads_of, spills_of, has_operands, has_results, operands_of, results_of, spilled_instr, spilled, IsPlan, IsKept}
@@ -39,14 +41,6 @@ use Rattle.spill_rules.proofs.Whole.{spilled_keeps, spilled_size, few_reloads, f
 
 -- ---- places of a code
 
-pub ending_of : {i : Instr} {next code : List Instr} → Stands i next code → Ending (i ∷ next) code
-ending_of here = all
-ending_of (below s) = more (ending_of s)
-
-pub short : {rest code : List Instr} → Ending rest code → length rest ≤ length code
-short all = omega arith
-short (more e) = let le = short e in omega (arith, le)
-
 -- what a code ends with is told by how long it is
 pub same_rest : {a b code : List Instr} → Ending a code → Ending b code → length a ≡ length b → a ≡ b
 same_rest {code = code} e h len = sym (drop_ending e) ∙ ap (λ k. drop (length code - k) code) len ∙ drop_ending h
@@ -56,7 +50,7 @@ pub same_instr : {i j : Instr} {next rest code : List Instr} → Stands i next c
 same_instr s t len = same_rest (ending_of s) (ending_of t) (ap suc len)
 
 pub not_whole : {i : Instr} {next code : List Instr} → Stands i next code → length next ≡ length code → ⊥
-not_whole s e = let le = short (ending_of s) in omega (arith, le, e)
+not_whole s e = let le = ending_short (ending_of s) in omega (arith, le, e)
 
 -- ---- what has results goes on
 
@@ -181,7 +175,7 @@ module _ (m : Mach) (plan : Plan) (formed : WellFormed m) (params : ParamsPlaced
       let h = b.reloaded in
       live_next r s c (same_rest (ending_next (ending_of b.stands)) (ending_next (ending_of s)) a.len)
       (began m r.number b.comes
-      (read (subst (λ n. Among n (b.reader).args) h.number (number_in h.register (b.reader).args h.operand))))
+      (read (subst (λ n. Among n (b.reader).args) h.number (among_of h.register (b.reader).args h.operand))))
 
   minus : (a b : ℕ) → a + b - a ≡ b
   minus a b = omega arith

@@ -6,6 +6,7 @@ use Rattle.std.proofs.lemmas.List.Elements.{All-contains}
 use Rattle.bs_words.specs.Memory.{Memory}
 use Rattle.bs_words.specs.declared.types.Loc.TheVariants as loc
 use Rattle.bs_words.specs.declared.values.Value.{Value}
+use Rattle.bs_words.proofs.Lists.{head_same, tail_same}
 use Rattle.cmm_meaning.specs.State.{Doing}
 use Rattle.mach_ir.specs.Acts.{Around, Target, On, At, Landing, AtLabel, AtHandler, Act, Goes, Pushes, Jumps, Unwinds, Asks, Replaces, Ends, EndsRaising, Stuck}
 use Rattle.mach_ir.specs.Formed.{IsFormed, WellFormed}
@@ -22,17 +23,16 @@ use Rattle.mach_laws.proofs.General as general
 use Rattle.mach_laws.proofs.General.{at}
 use Rattle.mach_laws.proofs.Leads.{IsTry, is_try, MayLand, lands_at_label, lands_at_handler, Within, goes_in, pushes_in, jumps_in, unwinds_in, asks_in, within}
 use Rattle.mach_laws.proofs.Level as level
-use Rattle.mach_laws.proofs.Places.{ending_next, ending_label, ending_land}
+use Rattle.mach_laws.proofs.Places.{ending_next, ending_label, ending_land, stands_of}
 use Rattle.mach_laws.proofs.Simulate.{Agrees}
-use Rattle.places_rules.proofs.Lists.{head_same, tail_same}
+use Rattle.mach_laws.proofs.Among.{left_among, right_among, split_among, number_among}
 use Rattle.places_rules.proofs.Files.{past_same, cleared, not_cleared, among_or_not, PutsToo, put_twice, put_both}
-use Rattle.places_rules.proofs.Walked.{left_among, right_among, split_among, stands_of}
 use Rattle.places_rules.proofs.Raised.{IsRaised, Told, told_jump, told_unwind, told_ask, IsSilent, told, label_silent, try_silent}
 use Rattle.split_rules.specs.Renamed.{Naming, all_numbered, renamed_code, renamed}
 use Rattle.split_rules.specs.Split.{IsNaming}
 use Rattle.split_rules.specs.Writes.{from_entry, from_write}
 use Rattle.split_rules.proofs.Formed.{contains_of}
-use Rattle.split_rules.proofs.Text.{same_label, same_handler, same_tries, alone, as_expanded, keeps_marks, was_register, among_named, number_among}
+use Rattle.split_rules.proofs.Text.{same_label, same_handler, same_tries, alone, as_expanded, keeps_marks, was_register, among_named}
 use Rattle.split_rules.proofs.Walked.{new, killed_same, killed_stays, result_back, arg_back, wrote_old, StandsFor, stands_on, stands_aside, live_before, across_back}
 
 -- ---- files

@@ -3,6 +3,7 @@ use Rattle.std.proofs.Common.{◌≡◌, ◌≢◌, ℕ, suc, ◌+◌, ◌≤◌
 use Rattle.std.specs.List.{Contains}
 use Rattle.std.proofs.lemmas.List.{length-map}
 use Rattle.bs_words.specs.declared.types.Loc.TheVariants as loc
+use Rattle.bs_words.proofs.Lists.{mapped}
 use Rattle.mach_ir.specs.Formed.{WellFormed}
 use Rattle.mach_ir.specs.Keeps.{Keeps, IsLoose, is_open, is_slot, NamesSymbol, NamesExternal, IsNamedIn}
 use Rattle.mach_ir.specs.Placed.{colours, IsPlaced, in_colour, in_slot, MayShare, WellPlaced}
@@ -14,7 +15,7 @@ use Rattle.mach_ir.specs.declared.reg.Reg.{Reg}
 use Rattle.mach_ir.specs.declared.mach.Instr.{Instr}
 use Rattle.mach_ir.specs.declared.mach.Mach.{Mach}
 use Rattle.places_rules.proofs.Open.{machine_open}
-use Rattle.places_rules.proofs.Lists.{was, mapped}
+use Rattle.places_rules.proofs.Lists.{was}
 use Rattle.split_rules.specs.Renamed.{Naming, numbered, all_numbered, renamed_code, renamed}
 use Rattle.split_rules.specs.Split.{IsNaming, IsDense, IsSplit, IsKept}
 use Rattle.split_rules.proofs.Formed.{contains_of, was_instr, renamed_formed}

@@ -11,12 +11,12 @@ use Rattle.bs_words.specs.declared.types.Loc.{Loc}
 use Rattle.bs_words.specs.declared.types.Loc.TheVariants as loc
 use Rattle.bs_words.specs.declared.values.Value.{Value}
 use Rattle.bs_words.specs.declared.values.Value.TheVariants as value
+use Rattle.bs_words.proofs.Lists.{none_in}
 use Rattle.mach_ir.specs.Acts.{Around, Target}
 use Rattle.mach_ir.specs.Meaning.{is_destroyed}
 use Rattle.mach_ir.specs.Runs.{Place, Step, Tally}
 use Rattle.mach_ir.specs.Keeps.{Alike}
 use Rattle.mach_ir.specs.Walks.{OneOf}
-use Rattle.mach_laws.proofs.Walking.{none_in}
 use Rattle.lin_ir.specs.Formed.{comps, FlowHasForm, label_form, jump_form, exit_form, branch_form, switch_form, push_form, pop_form, enter_form, IsFormed, formed_op, formed_flow, is_colour, is_slot, IsLocation, is_home, is_spare, Locates, WellFormed}
 use Rattle.lin_ir.specs.Meaning.{NamedAt, State, Locations, same_loc, put, put_if, put_all, clear, destroyed_by, with_held, as_type, values, is_named, is_val, are_vals, unless_pointer, unless_misnamed, past_frame, passes_frame, code_at, after_label, on_act, lin_act}
 use Rattle.lin_ir.specs.Meaning as poison

@@ -6,6 +6,7 @@ use Rattle.bs_words.specs.Memory.{Memory}
 use Rattle.bs_words.specs.declared.types.Comp.TheVariants as comp
 use Rattle.bs_words.specs.declared.types.Loc.{Loc}
 use Rattle.bs_words.specs.declared.values.Value.{Value}
+use Rattle.bs_words.proofs.Lists.{head_same, tail_same}
 use Rattle.cmm_meaning.specs.State.{Doing}
 use Rattle.mach_ir.specs.Acts.{Around, On, At}
 use Rattle.mach_ir.specs.Runs.{Place, Step, Continues, first_tally, entered}
@@ -27,11 +28,12 @@ use Rattle.linear_rules.proofs.Walked.{Tail, tail_next, tail_stands, reached_tai
 use Rattle.mach_ir.specs.declared.mach.MachOp.{MachOp}
 use Rattle.mach_ir.specs.declared.op.Op.TheVariants as op
 use Rattle.mach_ir.specs.declared.op.Pure.TheVariants as pure
+use Rattle.mach_laws.proofs.Runs.{alike_goes}
 use Rattle.tidy_rules.specs.Keeps.{Begins, KeepsLin}
 use Rattle.tidy_rules.specs.Leaving.{bare, LabelsBetween, none_between, label_between, IsUseless, unreached, unread, skipped, LeavesOut}
 use Rattle.tidy_rules.proofs.Turns.{turns}
-use Rattle.tidy_rules.proofs.Simulate.{Arrives, both_continue, first_stuck, goes_alone, Answers, stays, stuck, steps, Closed, Leads, acts, simulates, alike_goes}
-use Rattle.tidy_rules.proofs.Leaving.{K, rest, first_same, rest_same, useless_landing, there, target_rest, handler_rest, live_across, no_addr_rest, in_code}
+use Rattle.tidy_rules.proofs.Simulate.{Arrives, both_continue, first_stuck, goes_alone, Answers, stays, stuck, steps, Closed, Leads, acts, simulates}
+use Rattle.tidy_rules.proofs.Leaving.{K, rest, useless_landing, there, target_rest, handler_rest, live_across, no_addr_rest, in_code}
 
 module _ (c : Place) (m : Lin) (goes : ℕ → Bool)
     (each : (i : Line) (next : List Line) → Stands i next m.code → goes (length next) ≡ true → IsUseless m i next) where
@@ -74,8 +76,8 @@ module _ (c : Place) (m : Lin) (goes : ℕ → Bool)
     held_back vals =
         record {
           held = λ k ks same frame l w.
-              let head : i ≡ k = first_same i k (L next) ks same in
-              let tail : L next ≡ ks = rest_same i k (L next) ks same in
+              let head : i ≡ k = head_same same in
+              let tail : L next ≡ ks = tail_same same in
               vals.held i next refl (ap (λ (x : Line). passes_frame x.op) head ∙ frame) l
               (live_across m goes each
               (subst (λ x. walks.LiveAcross R l comp.Val x (L next) a.tries) (sym head)
@@ -131,7 +133,7 @@ module _ (c : Place) (m : Lin) (goes : ℕ → Bool)
   label_calm k js f a =
       record {
         held = λ i next same frame l w. absurd
-            (true≢false (sym frame ∙ ap (λ (x : Line). passes_frame x.op) (sym (first_same (bare (flow.Label k)) i js next same))));
+            (true≢false (sym frame ∙ ap (λ (x : Line). passes_frame x.op) (sym (head_same same))));
       }
 
   lagging : (k : ℕ) (js : List Line) (f : Locations) (a : Around) {x : Step State} → Answer (at js f a) x → Answer (at (bare (flow.Label k) ∷ js) f a) x

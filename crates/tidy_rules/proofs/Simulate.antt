@@ -4,7 +4,7 @@ use Rattle.bs_words.specs.declared.types.Ret.{Ret}
 use Rattle.bs_words.specs.declared.values.Value.{Value}
 use Rattle.cmm_meaning.specs.State.{Doing, Asked}
 use Rattle.mach_ir.specs.Acts.{Around, Target, On, At, AtLabel, AtHandler, Act, Goes, Pushes, Jumps, Unwinds, Asks, Replaces, Ends, EndsRaising, Stuck}
-use Rattle.mach_ir.specs.Runs.{Place, Step, Continues, Pays, Deepens, Waits, FinishesBy, Finishes, FinishesRaising, IsStuck, Tally, Run, Running, Asking, Ended, Wrong, runs, paid, came_back, kept_of, handed, onward}
+use Rattle.mach_ir.specs.Runs.{Place, Step, Continues, Pays, Deepens, Waits, FinishesBy, Finishes, FinishesRaising, IsStuck, Tally, Run, Running, Ended, Wrong, runs, paid, came_back, kept_of, handed, onward}
 use Rattle.mach_ir.specs.Keeps.{Alike, both_running, both_asking, both_ended}
 use Rattle.mach_ir.specs.Walks.{OneOf}
 use Rattle.lin_ir.specs.Meaning.{State, Locations, put_all, clear, destroyed_by, code_at, after_label, at_handler, wrote, on_act}
@@ -12,32 +12,9 @@ use Rattle.lin_ir.specs.Walks.{targets, may_raise, tries_after}
 use Rattle.lin_ir.specs.declared.lin.Line.{Line}
 use Rattle.lin_ir.specs.declared.lin.Lin.{Lin}
 use Rattle.linear_rules.specs.Kept.{step, run, ValsHeld, Proper}
+use Rattle.mach_laws.proofs.Runs.{none_below, running_same}
 use Rattle.tidy_rules.specs.Keeps.{SameRound}
 use Rattle.tidy_rules.proofs.Turns.{is_bare, Turns, goes_in, exits_in, jumps_in, unwinds_in, pushes_in, asks_in}
-
-none_below : {A : Type 0} (k : ℕ) → k < 0 → A
-none_below k le = absurd (omega (arith, le))
-
-running_same : (u v : State) (y z : Tally) → Running u y ≡ Running v z → u ≡ v
-running_same u v y z e = cc
-
-abbrev IsRun : Run State → Run State → Type 0
-IsRun a b = a ≡ b
-
-asking_wrong : (call : Asked) (t : Tally) → IsRun (Asking call t) Wrong → ⊥
-asking_wrong call t e = cc
-
-ended_wrong : (d : Doing) (t : Tally) → IsRun (Ended d t) Wrong → ⊥
-ended_wrong d t e = cc
-
-running_wrong : (s : State) (t : Tally) → Running s t ≡ Wrong → ⊥
-running_wrong s t e = cc
-
--- a run that reports what another does is nowhere stuck
-pub alike_goes : {S : Type 0} {Suit : S → State → Type 0} {a : Run S} {b : Run State} → Alike Suit a b → b ≡ Wrong → ⊥
-alike_goes (both_running {u = u} {t = t} e) q = running_wrong u t q
-alike_goes (both_asking {call = call} {t = t}) q = asking_wrong call t q
-alike_goes (both_ended {doing = d} {t = t}) q = ended_wrong d t q
 
 -- The second function is known by its steps, and by what is asked of a state from which it takes one.
 module _ (c : Place) (m : Lin) (second : State → Step State) (Fair : State → Type 0) (R : State → State → Type 0) where

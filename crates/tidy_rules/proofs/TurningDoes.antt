@@ -4,6 +4,7 @@ use Rattle.std.proofs.lemmas.Bool.{true≢false}
 use Rattle.bs_words.specs.Memory.{Memory, sizes}
 use Rattle.bs_words.specs.declared.types.Comp.TheVariants as comp
 use Rattle.bs_words.specs.declared.values.Value.{Value}
+use Rattle.bs_words.proofs.Lists.{head_same, tail_same}
 use Rattle.cmm_meaning.specs.State.{Doing}
 use Rattle.mach_ir.specs.Acts.{Around, Target, On, At, opposite, truth_of, branches}
 use Rattle.mach_ir.specs.Runs.{Place, Step, Continues, first_tally, entered}
@@ -26,14 +27,14 @@ use Rattle.linear_rules.specs.Lowered.{opposite_test}
 use Rattle.linear_rules.proofs.Homes.{in_of, contains_of}
 use Rattle.linear_rules.proofs.Opposite.{truth_opposite}
 use Rattle.linear_rules.proofs.Walked.{tail_all}
+use Rattle.mach_laws.proofs.Runs.{alike_goes}
 use Rattle.tidy_rules.specs.Keeps.{Begins, KeepsLin}
 use Rattle.tidy_rules.specs.Leaving.{bare}
 use Rattle.tidy_rules.specs.Regular.{IsRegular}
 use Rattle.tidy_rules.specs.Turning as turning
 use Rattle.tidy_rules.specs.Turning.{branch_line}
 use Rattle.tidy_rules.proofs.Turns.{turns}
-use Rattle.tidy_rules.proofs.Simulate.{Arrives, both_continue, both_pay, first_stuck, goes_alone, Answers, stays, stuck, steps, Closed, Leads, acts, simulates, alike_goes}
-use Rattle.tidy_rules.proofs.Leaving.{first_same, rest_same}
+use Rattle.tidy_rules.proofs.Simulate.{Arrives, both_continue, both_pay, first_stuck, goes_alone, Answers, stays, stuck, steps, Closed, Leads, acts, simulates}
 use Rattle.tidy_rules.proofs.Turning.{T, R, Where, Stand, image, Own, same, other_way, exits, View, own, past_label, past_jump, head_line, own_image, view, Moves, live_across, no_addr_turned, handler_turned, image_some, stands_none}
 use Rattle.tidy_rules.proofs.TurningLines.{From, was_line, new_line, new_flow, from_line}
 
@@ -63,7 +64,7 @@ module _ (m r : Lin) (h : turning.Turns m r) (well : WellFormed m) where
     -- ---- what is asked at frame points
 
     passes_none : (i k : Line) (is ks : List Line) → i ∷ is ≡ k ∷ ks → passes_frame i.op ≡ false → passes_frame k.op ≡ true → ⊥
-    passes_none i k is ks e none frame = true≢false (sym frame ∙ ap (λ (j : Line). passes_frame j.op) (sym (first_same i k is ks e)) ∙ none)
+    passes_none i k is ks e none frame = true≢false (sym frame ∙ ap (λ (j : Line). passes_frame j.op) (sym (head_same e)) ∙ none)
 
     flow_held : (j : Line) (js : List Line) (g : Locations) (a : Around) → passes_frame j.op ≡ false → ValsHeld c Q (at (j ∷ js) g a)
     flow_held j js g a none = record { held = λ k ks same frame l w. absurd (passes_none j k js ks same none frame) }
@@ -74,8 +75,8 @@ module _ (m r : Lin) (h : turning.Turns m r) (well : WellFormed m) where
     line_held {i} {next} {ks} g a moves reached vals =
         record {
           held = λ k js same frame l w.
-              let head : i ≡ k = first_same i k ks js same in
-              let tail : ks ≡ js = rest_same i k ks js same in
+              let head : i ≡ k = head_same same in
+              let tail : ks ≡ js = tail_same same in
               vals.held i next refl (ap (λ (k : Line). passes_frame k.op) head ∙ frame) l
               (live_across m r h well moves reached
               (subst (λ k. LiveAcross Q l comp.Val k ks a.tries) (sym head) (subst (λ js. LiveAcross Q l comp.Val k js a.tries) (sym tail) w)));
