@@ -18,10 +18,8 @@ use Rattle.mach_ir.specs.Placed.{is_straight, AreStraight, IsFresh}
 use Rattle.mach_ir.specs.Walks.{Among, first, later, Stands, Writes}
 use Rattle.mach_ir.specs.declared.blocks.NewBlock.{NewBlock}
 use Rattle.mach_ir.specs.declared.op.Access.TheVariants as access
-use Rattle.mach_ir.specs.declared.op.Op.{Op}
 use Rattle.mach_ir.specs.declared.op.Op.TheVariants as op
 use Rattle.mach_ir.specs.declared.reg.Reg.{Reg}
-use Rattle.mach_ir.specs.declared.mach.Mark.{Mark}
 use Rattle.mach_ir.specs.declared.mach.MachOp.{MachOp}
 use Rattle.mach_ir.specs.declared.mach.MachOp.TheVariants as mach
 use Rattle.mach_ir.specs.declared.mach.Instr.{Instr}
@@ -29,6 +27,7 @@ use Rattle.mach_ir.specs.declared.mach.Mach.{Mach}
 use Rattle.mach_laws.specs.Expand.{Ending}
 use Rattle.mach_laws.proofs.Places.{ending_next, stands_of, straight_cons}
 use Rattle.mach_laws.proofs.Among.{left_among, split_among, number_among}
+use Rattle.mach_laws.proofs.Instructions.{same_op, no_mark, no_comps, length_comps}
 use Rattle.split_rules.proofs.Formed.{contains_of}
 
 -- ---- allocations that are formed
@@ -37,34 +36,17 @@ pub record IsAllocation (i : Instr) (blocks : List NewBlock) : Type 0 where
   pub is : i ≡ allocation blocks i.results
   pub sized : length i.results ≡ length blocks
 
-no_args : (rs : List Reg) → comps rs ≡ [] → rs ≡ []
-no_args [] e = refl
-no_args (r ∷ rs) e = absurd (none r.comp (comps rs) e)
-  where
-    none : (t : Comp) (ts : List Comp) → t ∷ ts ≡ [] → ⊥
-    none t ts e = cc
-
-length_comps : (rs : List Reg) → length (comps rs) ≡ length rs
-length_comps [] = refl
-length_comps (r ∷ rs) = ap suc (length_comps rs)
-
 of_form : (blocks : List NewBlock) (ts ds : List Comp) → HasForm (op.Access (access.Alloc blocks)) ts ds →
     (ts ≡ []) × (length ds ≡ length blocks)
 of_form blocks ts ds (form.allocates n a le e) = (refl, e)
 
-is_op : (f g : Op) → mach.Op f ≡ mach.Op g → f ≡ g
-is_op f g e = cc
-
-no_mark : (f : Mark) (g : Op) → mach.Mark f ≡ mach.Op g → ⊥
-no_mark f g e = cc
-
 pub formed_allocation : {i : Instr} → IsFormed i → (blocks : List NewBlock) → Allocates i blocks → IsAllocation i blocks
 formed_allocation (formed_op {f = f} {args = args} {results = results} h) blocks e =
-    let same : f ≡ op.Access (access.Alloc blocks) = is_op f (op.Access (access.Alloc blocks)) e in
+    let same : f ≡ op.Access (access.Alloc blocks) = same_op f (op.Access (access.Alloc blocks)) e in
     let k = of_form blocks (comps args) (comps results) (subst (λ g. HasForm g (comps args) (comps results)) same h) in
     record {
       is = ap (λ g. record { op = mach.Op g; args = args; results = results }) same
-          ∙ ap (λ rs. record { op = mach.Op (op.Access (access.Alloc blocks)); args = rs; results = results }) (no_args args k.0);
+          ∙ ap (λ rs. record { op = mach.Op (op.Access (access.Alloc blocks)); args = rs; results = results }) (no_comps args k.0);
       sized = sym (length_comps results) ∙ k.1;
     }
 formed_allocation (formed_mark {f = f} h) blocks e = absurd (no_mark f (op.Access (access.Alloc blocks)) e)

@@ -3,13 +3,14 @@ use Rattle.std.proofs.Common.{◌≡◌, ℕ, suc, ◌+◌, Bool, true, false, c
 use Rattle.std.specs.Prelude.{nat_eq}
 use Rattle.std.proofs.lemmas.Bool.{true≢false, eq-eqb, eqb-true}
 use Rattle.std.proofs.lemmas.List.{length-append, append-nil}
-use Rattle.std.proofs.lemmas.Option.{none-some, same_Some}
+use Rattle.std.proofs.lemmas.Option.{none-some}
 use Rattle.bs_words.specs.Fits.{fits, type_of_comp}
 use Rattle.bs_words.specs.declared.types.Comp.{Comp}
 use Rattle.bs_words.specs.declared.types.Comp.TheVariants as comp
 use Rattle.bs_words.specs.declared.values.Value.{Value}
 use Rattle.bs_words.specs.declared.values.Value.TheVariants as value
 use Rattle.mach_laws.proofs.Among.{among_number}
+use Rattle.mach_laws.proofs.Files.{PutAll, nil, cons, put_other, put_same}
 use Rattle.combine_rules.specs.Kept.{holds_block}
 use Rattle.mach_ir.specs.Acts.{Around, On, Goes, new_blocks, with_block, fresh_block}
 use Rattle.mach_ir.specs.Keeps.{ahead}
@@ -17,39 +18,12 @@ use Rattle.mach_ir.specs.Meaning.{Held, File, put, put_if, put_all, clear, value
 use Rattle.mach_ir.specs.Walks.{Among, first, later}
 use Rattle.mach_ir.specs.declared.blocks.NewBlock.{NewBlock}
 use Rattle.mach_ir.specs.declared.reg.Reg.{Reg}
-use Rattle.places_rules.proofs.Files.{put_here, put_other}
 
 -- ---- writes, one by one
-
-pub data PutAll (end : ℕ) (a : File) : List Reg → List Value → File → Type 0 where
-  nil : PutAll end a [] [] a
-  cons : {r : Reg} {v : Value} {rs : List Reg} {vs : List Value} {d : File} → fits end (type_of_comp r.comp) v ≡ true → PutAll end a rs vs d → PutAll end a (r ∷ rs) (v ∷ vs) (put r v d)
-
-pub data PutView (end : ℕ) (rs : List Reg) (vs : List Value) (a : File) : Option File → Type 0 where
-  is_stuck : PutView end rs vs a None
-  is_put : {d : File} → PutAll end a rs vs d → PutView end rs vs a (Some d)
-
-view_if : {end : ℕ} {rs : List Reg} {vs : List Value} {a : File} {o : Option File} (r : Reg) (v : Value) (b : Bool) → fits end (type_of_comp r.comp) v ≡ b → PutView end rs vs a o → PutView end (r ∷ rs) (v ∷ vs) a (put_if b r v o)
-view_if r v false e x = is_stuck
-view_if r v true e is_stuck = is_stuck
-view_if r v true e (is_put p) = is_put (cons e p)
-
-pub put_view : (end : ℕ) (rs : List Reg) (vs : List Value) (a : File) → PutView end rs vs a (put_all end rs vs a)
-put_view end [] [] a = is_put nil
-put_view end [] (v ∷ vs) a = is_stuck
-put_view end (r ∷ rs) [] a = is_stuck
-put_view end (r ∷ rs) (v ∷ vs) a = view_if r v (fits end (type_of_comp r.comp) v) refl (put_view end rs vs a)
-
-pub put_of : {end : ℕ} {rs : List Reg} {vs : List Value} {a d : File} (o : Option File) → PutView end rs vs a o → o ≡ Some d → PutAll end a rs vs d
-put_of o is_stuck e = absurd (none-some _ e)
-put_of {end} {rs} {vs} {a} o (is_put p) e = subst (λ x. PutAll end a rs vs x) (same_Some _ _ e) p
 
 pub put_is : {end : ℕ} {a : File} {rs : List Reg} {vs : List Value} {d : File} → PutAll end a rs vs d → put_all end rs vs a ≡ Some d
 put_is nil = refl
 put_is {end} {a = a} (cons {r = r} {v = v} {rs = rs} {vs = vs} {d = d} e p) = ap (λ o. put_if (fits end (type_of_comp r.comp) v) r v o) (put_is p) ∙ ap (λ b. put_if b r v (Some d)) e
-
-pub put_same : (r : Reg) (v : Value) (f : File) → put r v f r.number ≡ Some (record { comp = r.comp; value = v })
-put_same r v f = put_here r v f r.number refl
 
 -- ---- where one file has all that another has
 

@@ -40,6 +40,7 @@ use Rattle.mach_ir.specs.declared.mach.Mach.{Mach}
 use Rattle.mach_laws.specs.Expand.{Ending}
 use Rattle.mach_laws.proofs.Places.{ending_next, tries_expand, stands_of, ending_of}
 use Rattle.mach_laws.proofs.Among.{left_among}
+use Rattle.mach_laws.proofs.Instructions.{same_op, no_mark, length_comps}
 use Rattle.split_rules.proofs.Formed.{contains_of, stands_in}
 
 -- ---- labels, places, tries and marks
@@ -186,10 +187,6 @@ pairs_of_distinct (one_more {r = r} {rs = rs} free h) = λ i j d lt within. by (
     by ih zero (suc j) d lt within = λ e. free (moved 0 (slice_index_or rs j d).number e (among_at rs j d (omega (arith, within))))
     by ih (suc i) (suc j) d lt within = ih i j d (omega (arith, lt)) (omega (arith, within))
 
-comps_length : (rs : List Reg) → length (comps rs) ≡ length rs
-comps_length [] = refl
-comps_length (r ∷ rs) = ap suc (comps_length rs)
-
 -- ---- allocations
 
 -- what an allocation that is formed has
@@ -202,18 +199,12 @@ record Sound (blocks : List NewBlock) (count : ℕ) : Type 0 where
 sound_form : (blocks : List NewBlock) (ts ds : List Comp) → HasForm (op.Access (access.Alloc blocks)) ts ds → Sound blocks (length ds)
 sound_form blocks ts ds (form.allocates n a le e) = record { some = n; each = a; few = le; sized = e }
 
-op_is : (f g : Op) → mach.Op f ≡ mach.Op g → f ≡ g
-op_is f g e = cc
-
-mark_is : (f : Mark) (g : Op) → mach.Mark f ≡ mach.Op g → ⊥
-mark_is f g e = cc
-
 sound : {i : Instr} → IsFormed i → (blocks : List NewBlock) → Allocates i blocks → Sound blocks (length i.results)
 sound (formed_op {f = f} {args = args} {results = results} h) blocks e =
-    subst (Sound blocks) (comps_length results)
+    subst (Sound blocks) (length_comps results)
     (sound_form blocks (comps args) (comps results)
-    (subst (λ g. HasForm g (comps args) (comps results)) (op_is f (op.Access (access.Alloc blocks)) e) h))
-sound (formed_mark {f = f} h) blocks e = absurd (mark_is f (op.Access (access.Alloc blocks)) e)
+    (subst (λ g. HasForm g (comps args) (comps results)) (same_op f (op.Access (access.Alloc blocks)) e) h))
+sound (formed_mark {f = f} h) blocks e = absurd (no_mark f (op.Access (access.Alloc blocks)) e)
 
 not_empty : (xs ys : List NewBlock) → xs ≢ [] → xs ++ ys ≢ []
 not_empty [] ys n = λ e. n refl
@@ -279,7 +270,7 @@ module _ (m : Mach) (is : IsCombinable m) where
 
       counts : length (comps (i.results ++ (scan (Some (bytes_of blocks)) next).results)) ≡ length (blocks ++ (scan (Some (bytes_of blocks)) next).blocks)
       counts =
-          let a0 = comps_length (i.results ++ (scan (Some (bytes_of blocks)) next).results) in
+          let a0 = length_comps (i.results ++ (scan (Some (bytes_of blocks)) next).results) in
           let a1 = length-append i.results (scan (Some (bytes_of blocks)) next).results in
           let a2 = length-append blocks (scan (Some (bytes_of blocks)) next).blocks in
           let a3 = (sound_at (ending_of s) blocks a).sized in
@@ -339,7 +330,7 @@ module _ (m : Mach) (is : IsCombinable m) where
   tries_from {j} w = ap (tries_past j.op) (tries_after w)
 
   mark_apart : (j : Instr) (k : Mark) → j.op ≡ mach.Mark k → (blocks : List NewBlock) → Allocates j blocks → ⊥
-  mark_apart j k e blocks a = mark_is k (op.Access (access.Alloc blocks)) (sym e ∙ a)
+  mark_apart j k e blocks a = no_mark k (op.Access (access.Alloc blocks)) (sym e ∙ a)
 
   leads_apart : (j : Instr) (l : ℕ) → LeadsTo j.op l → (blocks : List NewBlock) → Allocates j blocks → ⊥
   leads_apart j l o blocks a = by (subst (λ f. LeadsTo f l) a o)

@@ -28,7 +28,7 @@ piece o i (mach.Op (op.Access (access.Alloc blocks))) after =
     cond (joins o blocks) [] (allocation (blocks ++ after.blocks) (i.results ++ after.results) ∷ [])
 piece o i _ after = i ∷ []
 
-eq_less : (a b : ℕ) → a < b → nat_eq a b ≡ false
+pub eq_less : (a b : ℕ) → a < b → nat_eq a b ≡ false
 eq_less a b lt =
     ⊎_elim (λ e. let same = eqb-true a b e in absurd (omega (arith, same, lt))) (λ e. e) (cases_Bool (nat_eq a b))
 

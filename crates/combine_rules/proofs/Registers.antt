@@ -16,8 +16,6 @@ use Rattle.mach_ir.specs.declared.mach.MachOp.{MachOp}
 use Rattle.mach_ir.specs.declared.mach.MachOp.TheVariants as mach
 use Rattle.mach_ir.specs.declared.mach.Instr.{Instr}
 
--- ---- members
-
 -- ---- what goes to the open allocation
 
 -- the straight run here has an allocation that writes this register

@@ -54,7 +54,7 @@ use Rattle.linear_machine.specs.Straight.{Changes}
 use Rattle.linear_machine.specs.View.{Fixed, IsCode, Stands, View}
 use Rattle.linear_machine.proofs.Beginning.{nothing_below}
 use Rattle.linear_machine.proofs.Formats.{sets_imm}
-use Rattle.linear_machine.proofs.Immediates.{low_12, up}
+use Rattle.machine_laws.proofs.Immediates.{low_12, up}
 use Rattle.linear_machine.proofs.Keeping.{heap_kept}
 use Rattle.linear_machine.proofs.Likes.{like_readable}
 use Rattle.linear_machine.proofs.Moving.{hart_of, heads_of}
@@ -62,17 +62,11 @@ use Rattle.linear_machine.proofs.Sequences.{set_changes, sets_as}
 use Rattle.linear_machine.proofs.Serving.{hart_is, with_memory}
 use Rattle.linear_machine.proofs.Standing.{own_past}
 use Rattle.linear_machine.proofs.Steps.{one_step, ready, ready_stands, other_number}
-use Rattle.line_calls.proofs.Shown.{each_at, val_shown}
+use Rattle.line_calls.proofs.Shown.{each_at, val_shown, in_table}
 use Rattle.linking.specs.Assembled.{IsStub, Setup}
 use Rattle.linking.specs.Carries.{Comes, Near, Outer}
-use Rattle.line_calls.specs.Calls.{IsInTable}
 use Rattle.linking_machine.specs.Standing.{Back, Shows, fixed_of}
 use Rattle.linking_machine.proofs.Carrying.{values_shown}
-
-in_table : (image : Tables) (count : ℕ) (v : Value) → IsKnown image count v → IsInTable image v
-in_table image count (Word w) k = tt
-in_table image count (Block b o) k = tt
-in_table image count (Function f) k = k
 
 -- what the machine shows of a value is what the text shows
 shown_is : (image : Tables) (count : ℕ) (v : Value) → IsKnown image count v → shown image v ≡ observed (layout_of image) v

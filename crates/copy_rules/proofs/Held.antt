@@ -7,7 +7,7 @@ use Rattle.std.proofs.lemmas.Option.{none-some, same_Some}
 use Rattle.bs_words.specs.declared.types.Comp.TheVariants as comp
 use Rattle.bs_words.specs.declared.values.Value.{Value}
 use Rattle.bs_words.proofs.Lists.{first_in, later_in}
-use Rattle.combine_rules.proofs.Files.{PutAll, nil, cons, put_same, frame_loses}
+use Rattle.combine_rules.proofs.Files.{frame_loses}
 use Rattle.copy_rules.specs.Propagated.{move, ReadFor, again, IsBefore}
 use Rattle.mach_ir.specs.Acts.{Around, On, Goes}
 use Rattle.mach_ir.specs.Formed.{WellFormed}
@@ -20,9 +20,9 @@ use Rattle.mach_ir.specs.declared.mach.Instr.{Instr}
 use Rattle.mach_ir.specs.declared.mach.Mach.{Mach}
 use Rattle.mach_laws.specs.Expand.{Ending}
 use Rattle.mach_laws.proofs.Among.{number_among}
-use Rattle.places_rules.proofs.Files.{put_other}
+use Rattle.mach_laws.proofs.Files.{PutAll, nil, cons, put_other, put_same, put_of}
 use Rattle.repeat_rules.specs.Repeated.{allocates, itself}
-use Rattle.repeat_rules.proofs.Held.{Fresh, stays, past_kept, put_all_of}
+use Rattle.repeat_rules.proofs.Held.{Fresh, stays, past_kept}
 use Rattle.repeat_rules.proofs.Standing.{straight_kills, straight_frame}
 use Rattle.copy_rules.proofs.Live.{standing_register, read_here}
 use Rattle.copy_rules.proofs.Standing.{Standing, Earlier, just_now, earlier, earlier_of, ReadAt, from_source, as_it_is}
@@ -99,7 +99,7 @@ module _ (m : Mach) (formed : WellFormed m) where
   pub written_typed : (end : ℕ) (rs ks : List Reg) (vs : List Value) (a d : File) → ((r : Reg) → Contains rs r → IsRegister m r) →
       Typed a → put_all end rs vs (clear ks a) ≡ Some d → Typed d
   written_typed end rs ks vs a d known typed e =
-      put_typed (put_all_of end rs vs (clear ks a) d e) known
+      put_typed (put_of end rs vs (clear ks a) d e) known
       (λ r i h g. typed r i h (clear_loses ks a r.number h g))
 
   pub past_typed : (t : Bool) (a : File) → Typed a → Typed (past_frame t a)
@@ -153,7 +153,7 @@ module _ (m : Mach) (formed : WellFormed m) where
             let is : d ≡ put copy v a =
             put_is
             (subst (λ us. PutAll c.setting.end a (copy ∷ []) us d) known
-            (put_all_of c.setting.end (copy ∷ []) ws a d puts)) in
+            (put_of c.setting.end (copy ∷ []) ws a d puts)) in
             let of_copy : d copy.number ≡ Fresh copy v = ap (λ (file : File). file copy.number) is ∙ put_same copy v a in
             record {
               value = v;
@@ -174,7 +174,7 @@ module _ (m : Mach) (formed : WellFormed m) where
         put_all c.setting.end i.results ws (clear (killed m i) (past_frame (passes_frame i.op) a)) ≡ Some d →
         a r.number ≡ Fresh r v → d r.number ≡ Fresh r v
     still i r v st free kept a d ws puts e =
-        stays (put_all_of c.setting.end i.results ws (clear (killed m i) a') d puts) r.number free
+        stays (put_of c.setting.end i.results ws (clear (killed m i) a') d puts) r.number free
         ∙ ap (λ (file : File). file r.number) (calm i a' st)
         ∙ past_kept (passes_frame i.op) r v a (λ s. straight_frame i.op st ∙ kept s) e
       where

@@ -25,9 +25,8 @@ use Rattle.mach_laws.proofs.General as general
 use Rattle.mach_laws.proofs.General.{at}
 use Rattle.mach_laws.proofs.Leads.{Within, asks_in, within}
 use Rattle.mach_laws.proofs.Level as levels
-use Rattle.mach_laws.proofs.Places.{tries_expand, stands_of}
+use Rattle.mach_laws.proofs.Places.{tries_expand, stands_of, results_in}
 use Rattle.mach_laws.proofs.Simulate.{Agrees}
-use Rattle.split_rules.proofs.Text.{results_in}
 use Rattle.repeat_rules.specs.Kept.{OwnOrigins}
 use Rattle.repeat_rules.proofs.Acting.{GoesOn, is_stuck, goes_on, straight_on}
 use Rattle.repeat_rules.proofs.OneForOne as one

@@ -16,10 +16,9 @@ use Rattle.mach_ir.specs.declared.mach.MachOp.{MachOp}
 use Rattle.mach_ir.specs.declared.mach.Instr.{Instr}
 use Rattle.mach_ir.specs.declared.mach.Mach.{Mach}
 use Rattle.mach_laws.specs.Expand.{Ending, all, expand}
-use Rattle.mach_laws.proofs.Places.{stands_of, ending_of}
+use Rattle.mach_laws.proofs.Places.{stands_of, ending_of, args_in}
 use Rattle.mach_laws.proofs.Among.{number_among, among_of}
 use Rattle.split_rules.proofs.Formed.{contains_of, stands_in}
-use Rattle.split_rules.proofs.Text.{args_in}
 use Rattle.repeat_rules.specs.Repeated.{allocates}
 use Rattle.repeat_rules.proofs.OneForOne as one
 use Rattle.repeat_rules.proofs.OneForOne.{in_append, in_front, both}

@@ -9,9 +9,7 @@ use Rattle.mach_ir.specs.declared.mach.Mach.{Mach}
 use Rattle.repeat_rules.proofs.OneForOne as same
 use Rattle.repeat_rules.proofs.OneForOne.{in_append}
 use Rattle.repeat_rules.proofs.Runs.{Order, together, first_one, first_other, order}
-
-only_same : {r s : Reg} → r ∷ [] ≡ s ∷ [] → r ≡ s
-only_same e = cc
+use Rattle.repeat_rules.proofs.One.{only_same}
 
 -- none writes the copy after the move that made it one
 written_later : {made : List Instr} (c s : Reg) (w : IsCopy made c s) (k : Reg) (mid after : List Instr) →

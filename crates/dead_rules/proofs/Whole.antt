@@ -27,8 +27,6 @@ use Rattle.dead_rules.proofs.Kept.{does_dropped}
 use Rattle.dead_rules.proofs.Live.{label_is, handler_is, used_there, IsMain, was_main, was_register, joined_back, no_addr_back}
 use Rattle.dead_rules.proofs.Text.{pure_of, pure_on, pure_straight, label_stays, handler_stays, mark_stays, Fate, falls, remains, fate, keeps_marks, same_labels}
 
--- ---- lists
-
 module _ (m : Mach) (drops : ℕ → Bool) (dead : AreDead m drops) where
   abbrev q : Mach
   q = dropped drops m

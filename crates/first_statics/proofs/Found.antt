@@ -17,13 +17,14 @@ use Rattle.cmm_data.proofs.Laws.{end_of_items-above}
 use Rattle.cmm_data.proofs.Steps.{length-bytes_at}
 use Rattle.cmm_data.proofs.Walk.{sound-first}
 use Rattle.cmm_tree.specs.Tree.{DatumTree, Val, Address, DataItemTree, DataListTree, FileTree, functions}
-use Rattle.image_rules.proofs.Placed.{end_of_lists-above}
+use Rattle.image_rules.proofs.Placed.{end_of_lists-above, items_length, cells_enough}
 use Rattle.layout_rules.specs.Laid.{address_of_place}
 use Rattle.linear_machine.specs.Contents.{static_in}
 use Rattle.moving_laws.specs.Stands.{Among}
+use Rattle.moving_laws.proofs.Walk.{among_append}
 use Rattle.accepted_files.specs.Given.{IsGiven}
-use Rattle.first_statics.proofs.Cells.{IsCell, cells_are, cells_enough, cell_at as cell_behind}
-use Rattle.first_statics.proofs.Lists.{AreSound, IsFirstSound, first_sound, items_length, items_bytes, statics_from, word_at, words_from, own_bytes, own_fill}
+use Rattle.first_statics.proofs.Cells.{IsCell, cells_are, cell_at as cell_behind}
+use Rattle.first_statics.proofs.Lists.{AreSound, IsFirstSound, first_sound, items_bytes, statics_from, word_at, words_from, own_bytes, own_fill}
 use Rattle.first_statics.proofs.Symbols.{IsOfFile, symbol_of_file}
 
 -- ---- the cell at an address, as the first list that has it
@@ -148,11 +149,6 @@ module _ (file : FileTree) (entries : List ℕ) (low : (f : ℕ) → address_of_
 
 -- ---- root cells
 
-pub among_both : (x : ℕ) (xs ys : List ℕ) → Among x (xs ++ ys) → Among x xs ⊎ Among x ys
-among_both x [] ys h = inr h
-among_both x (a ∷ xs) ys (inl e) = inl (inl e)
-among_both x (a ∷ xs) ys (inr h) = ⊎_elim (λ own. inl (inr own)) (λ later. inr later) (among_both x xs ys h)
-
 -- what a root cell holds
 abbrev pub IsRootValue : ℕ → ℕ → Value → Type 0
 IsRootValue n end (Word w) = (w % 2 ≡ 1) ⊎ ((data_start ≤ w) × (w ≤ end))
@@ -229,7 +225,7 @@ root_item file address (i ∷ items) r small within none given among =
     let next = address + size_at address i.datum in
     let sound = sound-first address i items within none in
     ⊎_elim (first sound.rule) (λ later. second (root_item file next items r small sound.within sound.behind given.1 later))
-    (among_both r (root_at address i.datum) (roots_among (items_from next items)) among)
+    (among_append r (root_at address i.datum) (roots_among (items_from next items)) among)
   where
     next : ℕ
     next = address + size_at address i.datum
@@ -269,7 +265,7 @@ item_low : (address : ℕ) (items : List DataItemTree) (r : ℕ) → Among r (ro
 item_low address [] r among = absurd among
 item_low address (i ∷ items) r among =
     let next = address + size_at address i.datum in
-    ⊎_elim (own address i.datum r) (λ later. let l = item_low next items r later in omega (arith, l)) (among_both r (root_at address i.datum) (roots_among (items_from next items)) among)
+    ⊎_elim (own address i.datum r) (λ later. let l = item_low next items r later in omega (arith, l)) (among_append r (root_at address i.datum) (roots_among (items_from next items)) among)
   where
     by : (b : Bool) (address r : ℕ) → Among r (cond b (address ∷ []) []) → address ≤ r
     by true address r (inl e) = omega (arith, e)
@@ -284,7 +280,7 @@ split_roots : (end : ℕ) (d : DataListTree) (lists : List DataListTree) (r : �
 split_roots end d lists r among =
     let own = items_from (start_behind end) d.items in
     let later = items_of_lists (lists_behind (end_behind end d) lists) in
-    among_both r (roots_among own) (roots_among later)
+    among_append r (roots_among own) (roots_among later)
     (subst (Among r) (flat_map-append (λ (i : PlacedItem). root_at i.address i.datum) own later) among)
 
 pub root_low : (end : ℕ) (lists : List DataListTree) (r : ℕ) → Among r (roots_among (items_of_lists (lists_behind end lists))) → end ≤ r

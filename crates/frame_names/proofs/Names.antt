@@ -9,19 +9,20 @@ use Rattle.bs_words.specs.declared.types.Comp.TheVariants as comp
 use Rattle.bs_words.specs.declared.types.Loc.{Loc}
 use Rattle.bs_words.specs.declared.types.Loc.TheVariants as loc
 use Rattle.bs_words.proofs.Lists.{head_same, tail_same}
-use Rattle.lin_ir.specs.Descriptors.{frame_bytes, IsEntry, of_register, of_slot, ComesBefore, register_first, rising, IsDescr, Describes, AreExact, NamesLives}
+use Rattle.lin_ir.specs.Descriptors.{frame_bytes, IsEntry, of_register, of_slot, ComesBefore, IsDescr, Describes, AreExact, NamesLives}
 use Rattle.lin_ir.specs.Formed.{IsHome}
 use Rattle.lin_ir.specs.Meaning.{passes_frame}
 use Rattle.lin_ir.specs.Walks.{Stands, LiveAt}
 use Rattle.lin_ir.specs.declared.descr.Descr.{Descr}
 use Rattle.lin_ir.specs.declared.lin.Line.{Line}
 use Rattle.lin_ir.specs.declared.lin.Lin.{Lin}
-use Rattle.linear_rules.proofs.Homes.{IsIn, is_first, is_later, in_of, contains_of}
+use Rattle.linear_rules.proofs.Homes.{IsIn, is_first, is_later, in_of, contains_of, in_map}
 use Rattle.linear_rules.proofs.Marks.{all_in}
 use Rattle.linear_rules.proofs.Walked.{stands_tail}
 use Rattle.tidy_rules.specs.Regular.{IsRegular}
 use Rattle.tidy_rules.proofs.Living.{live_home}
 use Rattle.tidy_rules.proofs.Ends.{same_tail}
+use Rattle.lin_laws.proofs.Forms.{not_before}
 use Rattle.frame_names.specs.Names.{location, traps_of, locations, names_at, names_by}
 
 -- ---- entries
@@ -51,13 +52,6 @@ entry_of m traps (loc.Machine r) h = (2 * r + 1, of_register)
 entry_of m traps (loc.Slot k) h = (8 * k + 16 * traps, of_slot)
 entry_of m traps loc.Unset h = elim h [ ]
 
-not_before : (a : ℕ) → ComesBefore a a → ⊥
-not_before a (register_first one two) = apart (a % 2) one two
-  where
-    apart : (k : ℕ) → k ≡ 1 → k ≡ 0 → ⊥
-    apart k e f = omega (arith, e, f)
-not_before a (rising same lt) = omega (arith, lt)
-
 traps_are : (size frame traps : ℕ) → size ≡ frame + 16 * traps → (size - frame) / 16 ≡ traps
 traps_are size frame traps e = omega (arith, e)
 
@@ -75,10 +69,6 @@ mapped {A} {B} f y (x ∷ xs) z = by (f x) refl (map f xs) z (mapped f y xs)
     by : (k : B) → f x ≡ k → (ks : List B) → IsIn y (k ∷ ks) → (IsIn y ks → Mapped f y xs) → Mapped f y (x ∷ xs)
     by k e ks is_first ih = record { of = x; among = is_first; is = e }
     by k e ks (is_later z) ih = let h = ih z in record { of = h.of; among = is_later h.among; is = h.is }
-
-in_map : {A B : Type 0} (f : A → B) {x : A} {xs : List A} → IsIn x xs → IsIn (f x) (map f xs)
-in_map f is_first = is_first
-in_map f (is_later z) = is_later (in_map f z)
 
 -- the descriptor that is found, if there is one
 data Finds (m : Lin) (left : ℕ) (ds : List Descr) : List Loc → Type 0 where

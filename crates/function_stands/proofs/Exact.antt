@@ -12,7 +12,8 @@ use Rattle.lin_ir.specs.declared.lin.Line.{Line}
 use Rattle.lin_ir.specs.declared.lin.Lin.{Lin}
 use Rattle.linear_rules.proofs.Homes.{IsIn, in_of, is_first, is_later}
 use Rattle.bs_words.proofs.Lists.{pairs_here, pairs_later}
-use Rattle.function_stands.proofs.Parts.{descriptor_of, left_in, same_no, shorter}
+use Rattle.tidy_rules.proofs.TurningShape.{not_same}
+use Rattle.function_stands.proofs.Parts.{descriptor_of, left_in, shorter}
 
 -- a descriptor of a line of this code, where the whole code has so many lines
 record Points (total : ℕ) (code : List Line) (d : Descr) : Type 0 where
@@ -114,7 +115,7 @@ module _ (total : ℕ) where
     where
       skipped : (ds : List Descr) → descriptor_of ds (j ∷ js) (length next) ≡ descriptor_of (left_in ds j) js (length next)
       skipped ds = ap (λ b. cond b (descriptor (passes_frame j.op) ds) (descriptor_of (left_in ds j) js (length next)))
-          (same_no (length js) (length next) (shorter stands))
+          (not_same (length js) (length next) (shorter stands))
 
       moved : (ds left : List Descr) → left_in ds j ≡ left → Own whole left js next → Own whole ds (j ∷ js) next
       moved ds left e o = record {

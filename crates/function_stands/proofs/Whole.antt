@@ -46,6 +46,7 @@ use Rattle.linear_rules.proofs.Walked.{Tail, stands_tail, tail_next}
 use Rattle.mach_ir.specs.Acts.{On, row_of}
 use Rattle.mach_ir.specs.declared.op.External.{External}
 use Rattle.laid_files.specs.Made.{IsChained}
+use Rattle.laid_files.proofs.Functions.{point_among}
 use Rattle.moving_laws.specs.Values.{HasFunctions, IsKnown, function_at, value_word}
 use Rattle.rv_pieces.specs.declared.piece.Piece.{Piece}
 use Rattle.rv_pieces.specs.declared.piece.Pieces.{Pieces}
@@ -60,7 +61,7 @@ use Rattle.function_stands.proofs.Free.{falls_in, free_place}
 use Rattle.function_stands.proofs.Handlers.{pushed, pushed_stands}
 use Rattle.function_stands.proofs.Labels.{entry_past, label_past, label_place_is}
 use Rattle.function_stands.proofs.Parts.{AreFound, PartFound, found_second, Place, descriptor_of, line_part, place_first, place_moved, place_rises, place_within}
-use Rattle.function_stands.proofs.Points.{external_in, found_marked, no_descriptor, none_marked, point_saves}
+use Rattle.function_stands.proofs.Points.{external_in, found_marked, no_descriptor, none_marked}
 use Rattle.function_stands.proofs.Reaching.{reach_moved}
 use Rattle.function_stands.proofs.Rows.{row_found}
 use Rattle.function_stands.proofs.Splitting.{has_first, has_second, reach_first, reach_second, words_both, words_first}
@@ -348,7 +349,7 @@ module _ (image : Tables) (file : FileTree) (ps : List Pieces) (c : Setting) (k 
         end = subst (λ (t : Tables). c.end ≡ data_start + length t.bytes) (sym same) of.end;
         marks = line_marked (passes_frame i.op) refl;
         mark = λ point. let d = point_described point in (d.of, d.is);
-        saves = λ point. point_saves m.code stands point;
+        saves = λ point. point_among _ _ m.code stands point;
         described = λ e is at.
             let own = own_descr e is in
             is_described m well named lives laid refl refl i next tries e at stands own.0 own.1;

@@ -19,10 +19,9 @@ use Rattle.mach_ir.specs.declared.mach.MachOp.{MachOp}
 use Rattle.mach_ir.specs.declared.mach.MachOp.TheVariants as mach
 use Rattle.mach_ir.specs.declared.mach.Instr.{Instr}
 use Rattle.mach_ir.specs.declared.mach.Mach.{Mach}
-use Rattle.split_rules.proofs.Text.{results_in}
 use Rattle.hoist_rules.specs.Hoisted.{makes, FitsAlways, an_int, an_odd_val, MayMove}
 use Rattle.hoist_rules.specs.Chosen.{IsLoopRound, IsWide, IsMoved}
-use Rattle.mach_laws.proofs.Places.{shorter}
+use Rattle.mach_laws.proofs.Places.{shorter, results_in}
 use Rattle.mach_laws.proofs.Among.{split_among, left_among}
 use Rattle.hoist.specs.Constants.{is_wide, fits_always, is_open, constant_of, can_hold, are_none, holds_wide, makes_wide}
 use Rattle.hoist.specs.Loops.{label_of, exit_of, EndsFrom, IsFirstCall, IsCalmWide}

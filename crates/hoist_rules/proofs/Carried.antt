@@ -1,6 +1,6 @@
 -- Constants that are made at the entry are as many words as before, and no frame point or exit is new; and what a function
 -- keeps then, whole.
-use Rattle.std.proofs.Common.{◌≡◌, ℕ, suc, ◌+◌, ◌≤◌, Bool, true, false, cond, inl, inr, ◌⊎◌, ⊎_elim, List, [], ◌∷◌, ◌++◌, length, refl, sym, ap, ◌∙◌, subst, arith}
+use Rattle.std.proofs.Common.{◌≡◌, ℕ, ◌+◌, ◌≤◌, Bool, cond, inl, inr, ◌⊎◌, ⊎_elim, List, ◌∷◌, ◌++◌, length, refl, sym, ap, ◌∙◌, subst, arith}
 use Rattle.std.specs.Prelude.{slice_index_or}
 use Rattle.std.proofs.lemmas.List.Elements.{Contains-get_or, All-contains}
 use Rattle.std.proofs.Math.Nat.{le_of_eq}
@@ -13,6 +13,7 @@ use Rattle.mach_laws.specs.Expand.{expand}
 use Rattle.mach_laws.proofs.Places.{tries_expand}
 use Rattle.pass_rules.specs.Carried.{OffsetFits, EndsInReturn, at_return, further, IsCarried}
 use Rattle.pass_rules.specs.Measures.{instr_words, code_words, one_if, code_points, exits, operands_with, other_operands}
+use Rattle.pass_rules.proofs.Carried.{exit_one, ends_second}
 use Rattle.dead_rules.specs.Dropped.{without}
 use Rattle.dead_rules.proofs.Text.{Fate, falls, remains, fate, keeps_marks}
 use Rattle.bs_words.proofs.Lists.{tail_same}
@@ -20,14 +21,6 @@ use Rattle.hoist_rules.specs.Hoisted.{moved, hoisted, MayAllMove, IsHoisted, IsK
 use Rattle.hoist_rules.proofs.Moved as at_entry_of
 use Rattle.hoist_rules.proofs.Live as live
 use Rattle.hoist_rules.proofs.Whole as whole
-
-exit_one : (b : Bool) (n : ℕ) → cond b (suc n) n ≡ cond b 1 0 + n
-exit_one true n = omega arith
-exit_one false n = omega arith
-
-ends_second : (xs ys : List Instr) → EndsInReturn ys → EndsInReturn (xs ++ ys)
-ends_second [] ys e = e
-ends_second (x ∷ xs) ys e = further (ends_second xs ys e)
 
 module _ (m : Mach) (moves : ℕ → Bool) (may : MayAllMove m moves) (formed : WellFormed m) where
   abbrev q : Mach

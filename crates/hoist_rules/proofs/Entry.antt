@@ -27,7 +27,8 @@ use Rattle.mach_ir.specs.declared.mach.Mach.{Mach}
 use Rattle.mach_laws.proofs.General.{at}
 use Rattle.mach_laws.proofs.Simulate.{Agrees}
 use Rattle.mach_laws.proofs.Runs.{running_same}
-use Rattle.places_rules.proofs.Files.{put_here, put_other}
+use Rattle.mach_laws.proofs.Files.{put_other}
+use Rattle.places_rules.proofs.Files.{put_here}
 use Rattle.hoist_rules.specs.Hoisted.{FitsAlways, an_int, an_odd_val, MayMove, hoisted, MayAllMove}
 use Rattle.hoist_rules.proofs.Moved as at_entry_of
 use Rattle.hoist_rules.proofs.Moved.{member}

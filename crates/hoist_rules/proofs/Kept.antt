@@ -26,7 +26,8 @@ use Rattle.mach_laws.proofs.Level as level
 use Rattle.mach_laws.proofs.Places.{tries_expand, ending_next, ending_label, ending_land, stands_of}
 use Rattle.mach_laws.proofs.Simulate.{Agrees}
 use Rattle.mach_laws.proofs.Among.{left_among, right_among}
-use Rattle.places_rules.proofs.Files.{past_same, cleared, not_cleared, among_or_not, put_here, put_other, PutsBoth, put_both}
+use Rattle.mach_laws.proofs.Files.{put_other}
+use Rattle.places_rules.proofs.Files.{past_same, cleared, not_cleared, among_or_not, put_here, PutsBoth, put_both}
 use Rattle.dead_rules.specs.Dropped.{may_go, without}
 use Rattle.dead_rules.proofs.Text.{pure_of, pure_no_frame, Fate, falls, remains, fate, keeps_marks}
 use Rattle.hoist_rules.specs.Hoisted.{MayMove, hoisted, MayAllMove}

@@ -18,7 +18,6 @@ use Rattle.mach_ir.specs.Sizes.{operand_count, Size, HasSize}
 use Rattle.mach_ir.specs.Walks.{Among, may_raise, Writes, IsRegister, Stands}
 use Rattle.mach_ir.specs.declared.blocks.NewBlock.{NewBlock}
 use Rattle.mach_ir.specs.declared.op.Access.TheVariants as access
-use Rattle.mach_ir.specs.declared.op.Op.{Op}
 use Rattle.mach_ir.specs.declared.op.Op.TheVariants as op
 use Rattle.mach_ir.specs.declared.op.Pure.TheVariants as pure
 use Rattle.mach_ir.specs.declared.mach.Mark.{Mark}
@@ -30,6 +29,7 @@ use Rattle.mach_ir.specs.declared.mach.Instr.{Instr}
 use Rattle.mach_ir.specs.declared.mach.Mach.{Mach}
 use Rattle.mach_laws.specs.Expand.{expand, Ending, all}
 use Rattle.mach_laws.proofs.Places.{tries_expand, ending_next, stands_of, stands_behind, stands_within, head_of, tail_of, straight_cons, straight_none}
+use Rattle.mach_laws.proofs.Instructions.{no_op}
 use Rattle.split_rules.proofs.Formed.{contains_of, stands_in}
 use Rattle.dead_rules.specs.Dropped.{may_go, without}
 use Rattle.dead_rules.proofs.Text.{pure_of, pure_straight, label_stays, handler_stays, mark_stays, Fate, falls, remains, fate, keeps_marks, same_labels}
@@ -51,9 +51,6 @@ place_second (x ∷ xs) ys p = place_below (place_second xs ys p)
 
 is_one : (c : Comp) → c ≡ comp.Addr → is_addr c ≡ true
 is_one c e = ap is_addr e
-
-no_mark : (f : Op) (g : Mark) → mach.Op f ≡ mach.Mark g → ⊥
-no_mark f g e = cc
 
 module _ (m : Mach) (moves : ℕ → Bool) (may : MayAllMove m moves) where
   abbrev q : Mach
@@ -86,7 +83,7 @@ module _ (m : Mach) (moves : ℕ → Bool) (may : MayAllMove m moves) where
   -- ---- what moves is no mark, and leaves nothing
 
   never_mark : {i : Instr} {next : List Instr} → MayMove m i next → (g : Mark) → i.op ≡ mach.Mark g → ⊥
-  never_mark v g e = no_mark _ g (sym (ap (λ (i : Instr). i.op) v.is) ∙ e)
+  never_mark v g e = no_op _ g (sym (ap (λ (i : Instr). i.op) v.is) ∙ e)
 
   never_leads : {i : Instr} {next : List Instr} → MayMove m i next → (l : ℕ) → LeadsTo i.op l → ⊥
   never_leads v l o = no_label (live.only_on m moves may v o)

@@ -117,7 +117,7 @@ in_order (x ∷ xs) pairs = (first xs pairs, in_order xs (λ i j d lt within. pa
     first [] pairs = tt
     first (y ∷ ys) pairs = next_entry x y (pairs 0 1 0 (omega arith) (omega arith))
 
-point_among : (i : Line) (next code : List Line) → Stands i next code → passes_frame i.op ≡ true → has_frame_point code ≡ true
+pub point_among : (i : Line) (next code : List Line) → Stands i next code → passes_frame i.op ≡ true → has_frame_point code ≡ true
 point_among i next _ here e = ap (λ b. b || has_frame_point next) e
 point_among i next _ (below {j} {is} s) e = ap (λ b. passes_frame j.op || b) (point_among i next is s e) ∙ or_true (passes_frame j.op)
   where

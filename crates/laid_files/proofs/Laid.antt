@@ -108,7 +108,7 @@ three false b c e = absurd (let z : false ≡ true = e in cc)
 three true false c e = absurd (let z : false ≡ true = e in cc)
 three true true false e = absurd (let z : false ≡ true = e in cc)
 
-comp_same : (a b : Comp) → comp_byte a ≡ comp_byte b → a ≡ b
+pub comp_same : (a b : Comp) → comp_byte a ≡ comp_byte b → a ≡ b
 comp_same comp.Int comp.Int e = refl
 comp_same comp.Int comp.Val e = absurd (omega (arith, e))
 comp_same comp.Int comp.Addr e = absurd (omega (arith, e))
@@ -126,19 +126,19 @@ comp_same comp.Float comp.Val e = absurd (omega (arith, e))
 comp_same comp.Float comp.Addr e = absurd (omega (arith, e))
 comp_same comp.Float comp.Float e = refl
 
-no_unit : (c : Comp) → comp_byte c ≡ 3 → ⊥
+pub no_unit : (c : Comp) → comp_byte c ≡ 3 → ⊥
 no_unit comp.Int e = omega (arith, e)
 no_unit comp.Val e = omega (arith, e)
 no_unit comp.Addr e = omega (arith, e)
 no_unit comp.Float e = omega (arith, e)
 
-ret_same : (a b : Ret) → ret_byte a ≡ ret_byte b → a ≡ b
+pub ret_same : (a b : Ret) → ret_byte a ≡ ret_byte b → a ≡ b
 ret_same ret.Unit ret.Unit e = refl
 ret_same ret.Unit (ret.Comp c) e = absurd (no_unit c (sym e))
 ret_same (ret.Comp c) ret.Unit e = absurd (no_unit c e)
 ret_same (ret.Comp c) (ret.Comp d) e = ap ret.Comp (comp_same c d e)
 
-comps_same : (xs ys : List Comp) → map comp_byte xs ≡ map comp_byte ys → xs ≡ ys
+pub comps_same : (xs ys : List Comp) → map comp_byte xs ≡ map comp_byte ys → xs ≡ ys
 comps_same [] [] e = refl
 comps_same [] (y ∷ ys) e = absurd (cc)
 comps_same (x ∷ xs) [] e = absurd (cc)

@@ -17,9 +17,10 @@ use Rattle.rv_isa.proofs.RoundTrip.{decoded-encoded}
 use Rattle.rv_pieces.specs.Named.{PieceFits}
 use Rattle.rv_pieces.specs.declared.piece.Piece.{Piece}
 use Rattle.rv_pieces.specs.declared.piece.Piece.TheVariants as piece
+use Rattle.linear_rules.specs.Lowered.{is_among}
 use Rattle.laid_parts.specs.Decoded.{NamesAs, Decodes}
 use Rattle.laid_parts.specs.Laid.{is_reserved}
-use Rattle.laid_parts.specs.Named.{is_among, sources, targets, piece_sources}
+use Rattle.laid_parts.specs.Named.{sources, targets, piece_sources}
 use Rattle.laid_parts.proofs.Registers.{is-apart, hits}
 
 -- ---- truth values: whether a register that is written or read is the one that is asked for

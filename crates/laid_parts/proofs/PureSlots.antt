@@ -26,12 +26,13 @@ use Rattle.std.proofs.lemmas.Bool.{or_parts}
 use Rattle.std.proofs.Math.Bool.{or-false}
 use Rattle.mach_ir.specs.declared.op.Pure.{Pure}
 use Rattle.mach_ir.specs.Seats.{AreSeated, InOrder, AfterFirst, in_order, after_first}
+use Rattle.lin_laws.proofs.Forms.{symbol_inv, copy_inv, register_inv, same_loc_is}
 use Rattle.laid_parts.specs.Laid.{lies_at, lie_at, is_aside, NamesSlots, CarriesSlots, moves_nothing, names}
 use Rattle.laid_parts.specs.Stack.{at_first}
 use Rattle.laid_parts.proofs.Words.{Part, in_part, same, is_sp}
 use Rattle.laid_parts.proofs.Clean.{at_first_clean}
 use Rattle.laid_parts.proofs.SlotParts.{IsWithinFrame, in_register, in_frame, copied-slot, operator_register-slots, operator_constant-slots, constant_line-slots, symbol_line-slots}
-use Rattle.laid_parts.proofs.Each.{is_numbered, constant_inv, symbol_inv, copy_inv, register_inv, with_inv, same_is, no_move, no_self_copy}
+use Rattle.laid_parts.proofs.Each.{is_numbered, constant_inv, with_inv, no_move, no_self_copy}
 
 -- ---- slots that lines name, by how many operands they have
 
@@ -131,7 +132,7 @@ module _ (m : Lin) (t : ℕ) (b : 8 * m.slots + 16 * t < 1073741824) (f : Frame)
     where
       by : (q : Bool) → same_loc x.loc y.loc ≡ q →
           CarriesSlots f t (record { op = lin.Op (op.Pure (pure.Copy kind)); args = x ∷ []; results = y ∷ [] }) (cond q [] (copied t x.loc y.loc))
-      by true k = moves_nothing (x, y, is_self_move (same_is x.loc y.loc k))
+      by true k = moves_nothing (x, y, is_self_move (same_loc_is x.loc y.loc k))
       by false w =
           names (no_self_copy x y (is_numbered (All-head (λ (s : Spot). IsLocation m s.loc) x [] a)) w)
           (slots_of t (λ c n. in_part c (same c

@@ -21,7 +21,8 @@ use Rattle.rv_pieces.specs.declared.piece.Piece.{Piece}
 use Rattle.emit_rules.specs.Instructions.{low_12, with_immediate, addi, operation, shift, lui, addiw, load, store}
 use Rattle.emit_rules.specs.Constants.{is_word_32, above_12, constant_32, higher, shifted, constant_shifted, constant, sum_to, lowered}
 use Rattle.emit_rules.specs.Slots.{far_stack, stack_load, stack_store, slot_offset, fetched, kept}
-use Rattle.laid_parts.specs.Named.{is_among, piece_sources, piece_targets, is_source, is_target}
+use Rattle.linear_rules.specs.Lowered.{is_among}
+use Rattle.laid_parts.specs.Named.{piece_sources, piece_targets, is_source, is_target}
 use Rattle.laid_parts.specs.Laid.{is_reserved}
 
 -- ---- truth values

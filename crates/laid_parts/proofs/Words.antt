@@ -14,7 +14,8 @@ use Rattle.emit_rules.specs.Instructions.{low_12, load, store}
 use Rattle.emit_rules.specs.Constants.{above_12}
 use Rattle.emit_rules.specs.Slots.{far_stack, stack_load, stack_store}
 use Rattle.emit_rules.proofs.Values.{by_12, by_32, first_is}
-use Rattle.laid_parts.specs.Named.{is_among, piece_targets}
+use Rattle.linear_rules.specs.Lowered.{is_among}
+use Rattle.laid_parts.specs.Named.{piece_targets}
 use Rattle.laid_parts.specs.Stack.{Form, Unknown, Is, FromSp, Held, after, loaded, stored, is_loaded, is_stored, piece_made, plus, word_at}
 use Rattle.laid_parts.proofs.Registers.{regroup, or_grouped}
 

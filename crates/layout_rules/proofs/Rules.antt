@@ -16,12 +16,12 @@ use Rattle.rv_pieces.specs.declared.piece.Piece.{Piece}
 use Rattle.rv_pieces.specs.declared.piece.Piece.TheVariants.{Known, Label, Branch, Jump, Row, LabelAddress, Call, TailCall, SymbolAddress, ExternalNumber, Descriptor}
 use Rattle.rv_pieces.specs.declared.piece.Pieces.{Pieces}
 
-branch_some : (f : Form) → 1 ≤ branch_words f
+pub branch_some : (f : Form) → 1 ≤ branch_words f
 branch_some Near = omega arith
 branch_some Middle = omega arith
 branch_some Far = omega arith
 
-jump_some : (f : Form) → 1 ≤ jump_words f
+pub jump_some : (f : Form) → 1 ≤ jump_words f
 jump_some Near = omega arith
 jump_some Middle = omega arith
 jump_some Far = omega arith

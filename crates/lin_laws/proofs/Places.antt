@@ -14,7 +14,7 @@ use Rattle.bs_words.proofs.Lists.{drop_none}
 use Rattle.lin_laws.specs.Graph.{place_of, place_at, position, AreNumbersOf}
 use Rattle.lin_laws.specs.declared.position.Position.{Position}
 
--- ---- members of lists
+-- ---- tables
 
 pub table_at : {A B : Type 0} (h : A → B) (xs : List A) (q : ℕ) (x : A) (d : B) → slice_get xs q ≡ Some x →
     slice_index_or (map h xs) q d ≡ h x

@@ -27,8 +27,6 @@ use Rattle.bs_words.specs.declared.types.Loc.TheVariants as loc
 use Rattle.bs_words.specs.declared.types.Ret.TheVariants as ret
 use Rattle.bs_words.proofs.Lists.{none_in}
 use Rattle.emit_rules.specs.Emitted.{part_of}
-use Rattle.emit_rules.specs.Entry.{Frame}
-use Rattle.layout_rules.specs.Words.{Named}
 use Rattle.layout_rules.specs.declared.form.Form.TheVariants.{Near}
 use Rattle.lin_ir.specs.Formed.{IsLocation, NamesLabel, formed_op, goes_to, is_colour, is_home, pushes, spare}
 use Rattle.lin_ir.specs.Meaning.{Locations, NamedAt, step}
@@ -55,6 +53,7 @@ use Rattle.line_stands.specs.Parts.{PartStands}
 use Rattle.line_values.specs.Followed.{plain_store}
 use Rattle.line_values.proofs.Following.{plain_followed}
 use Rattle.line_values.proofs.Statics.{first_at, is_in}
+use Rattle.line_values.proofs.Example.{no_names, no_frame}
 
 abbrev whole : StaticList
 whole = record { start = 0x10000000; size = 8; cells = Word 0 ∷ [] }
@@ -164,12 +163,6 @@ puts = record { op = lin.Op (op.Access (access.Store chunk.U8 0)); args = to ∷
 
 abbrev one : Lin
 one = record { name = []; params = []; result = ret.Unit; slots = 0; code = puts ∷ [] }
-
-abbrev no_names : Named
-no_names = record { label = λ l. 0; symbol = λ name. 0; external = λ row. 0 }
-
-abbrev no_frame : Frame
-no_frame = record { bytes = 0; saves = false }
 
 module _ (s : Fixed) (at : ℕ) (only : IsCode s at (Store Sb 11 10 0)) where
   abbrev laid : Laid

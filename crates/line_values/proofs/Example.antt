@@ -48,10 +48,10 @@ abbrev one : Lin
 one = record { name = []; params = []; result = ret.Unit; slots = 0; code = makes ∷ [] }
 
 -- nothing is named
-abbrev no_names : Named
+abbrev pub no_names : Named
 no_names = record { label = λ l. 0; symbol = λ name. 0; external = λ row. 0 }
 
-abbrev no_frame : Frame
+abbrev pub no_frame : Frame
 no_frame = record { bytes = 0; saves = false }
 
 -- t0 is not read

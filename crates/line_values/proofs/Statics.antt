@@ -19,6 +19,7 @@ use Rattle.moving_laws.specs.Words.{held_word}
 use Rattle.moving_laws.proofs.Held.{IsHeld, hold, hold_other, hold_same, readable_hold, word_hold}
 use Rattle.moving_laws.proofs.Rewriting.{start_inside}
 use Rattle.moving_laws.proofs.Words.{same_or_not}
+use Rattle.moving_laws.proofs.Fitting.{int_still}
 use Rattle.linear_machine.specs.Contents.{static_in, statics_of}
 use Rattle.linear_machine.specs.Relation.{HeapStands, StandsFor}
 use Rattle.linear_machine.specs.Statics.{AreBehind, IsCellList, StaticsLie}
@@ -39,11 +40,6 @@ val_of image count end (Word w) l known e =
     (or_cases (w % 2 == 1) (nat_le data_start w && nat_le w end) e)
 val_of image count end (Block k o) l known e = (eqb-true o 0 e, known.0)
 val_of image count end (Function f) l known e = known
-
-pub still_of : (end : ℕ) (v : Value) → fits end ty.Int v ≡ true → IsStill v
-still_of end (Word w) e = tt
-still_of end (Block k o) e = absurd (cc)
-still_of end (Function f) e = tt
 
 -- ---- lists of cells
 
@@ -250,7 +246,7 @@ module _ (s : Fixed) (placed : List Placed) (m : List Region) (regions : HasRegi
   kind_by true r e =
       let ends = h.lie.ends in
       inl (val_of s.image (length placed) (end_of_data a.memory) x (omega (arith, ends)) stands.known e, h.lie.root at r)
-  kind_by false r e = inr (still_of (end_of_data a.memory) x e, λ i. let f = h.lie.roots at i in absurd (cc))
+  kind_by false r e = inr (int_still (end_of_data a.memory) x e, λ i. let f = h.lie.roots at i in absurd (cc))
 
   kind_here : (IsVal s.image (length placed) x × Among at (root_cells s.image)) ⊎ (IsStill x × (Among at (root_cells s.image) → ⊥))
   kind_here =

@@ -65,7 +65,7 @@ heap_as s placed m a unwritten tries raised e h =
     subst (λ u. HeapStands s placed m (record { memory = a.memory; unwritten = u; tries = tries; raised = raised })) e
     (record { old = h.old; readable = h.readable; stand = h.stand; heads = h.heads; fits = h.fits; statics = h.statics; lie = h.lie })
 
-none_left : (cells : List Cell) → nat_eq (length cells) 0 ≡ true → cells ≡ []
+pub none_left : (cells : List Cell) → nat_eq (length cells) 0 ≡ true → cells ≡ []
 none_left [] e = refl
 none_left (x ∷ xs) e = let n = eqb-true (length (x ∷ xs)) 0 e in absurd (omega (arith, n))
 

@@ -54,7 +54,7 @@ unfolding add_word
 block_address start o low high most = omega (arith, low, high, most)
 
 -- a block ends below the young area's top
-words_end : (bs : List Placed) (k : ℕ) → AllByRecursion IsInHeap bs → k < length bs → start_of bs k + 8 * words_of bs k ≤ 0x38010000
+pub words_end : (bs : List Placed) (k : ℕ) → AllByRecursion IsInHeap bs → k < length bs → start_of bs k + 8 * words_of bs k ≤ 0x38010000
 words_end [] k all l = absurd (omega (arith, l))
 words_end (b ∷ bs) zero all l = all.0.high
 words_end (b ∷ bs) (suc k) all l = words_end bs k all.1 (omega (arith, l))

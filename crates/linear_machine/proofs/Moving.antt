@@ -1,8 +1,7 @@
 -- The state of a function over a service that moves the blocks.
-use Rattle.std.proofs.Common.{◌≡◌, ℕ, suc, ◌+◌, ◌-◌, ◌*◌, ◌%◌, ◌<◌, ◌≤◌, inl, inr, Bool, true, false, cond, nat_eq, List, [], ◌∷◌, ◌++◌, length, map, reverse, Option, Some, None, slice_get, slice_index, refl, ap, arith, ◌∙◌, sym, subst, ⊎_elim, append-nil}
-use Rattle.std.proofs.lemmas.Bool.{eqb-true}
+use Rattle.std.proofs.Common.{◌≡◌, ℕ, suc, ◌+◌, ◌-◌, ◌*◌, ◌%◌, ◌<◌, ◌≤◌, inl, inr, Bool, true, false, cond, List, [], ◌∷◌, ◌++◌, length, map, reverse, Option, Some, None, slice_get, slice_index, refl, ap, arith, ◌∙◌, sym, subst, ⊎_elim, append-nil}
 use Rattle.std.proofs.lemmas.List.{reverse-append, reverse-reverse, length-map}
-use Rattle.bs_words.specs.Memory.{Cell, HeapBlock, InHeader}
+use Rattle.bs_words.specs.Memory.{HeapBlock, InHeader}
 use Rattle.bs_words.specs.declared.types.Loc.{Loc}
 use Rattle.bs_words.specs.declared.types.Loc.TheVariants as loc
 use Rattle.bs_words.specs.declared.values.Value.{Value}
@@ -27,7 +26,7 @@ use Rattle.moving_laws.proofs.Fitting.{val_fits}
 use Rattle.linear_machine.specs.Contents.{blocks_of, header_in, size_in, statics_of}
 use Rattle.linear_machine.specs.Relation.{AreCarried, Below, HeapStands, IsDescribed, IsLocation, Laid, RegistersHold, ReturnStands, StandsFor, Waits, Within, all_of, traps_of, waiting_of}
 use Rattle.linear_machine.specs.View.{Fixed, IsLike, View}
-use Rattle.linear_machine.proofs.Frames.{named_val, own_chain, own_waits, poisoned_named, poisoned_some, val_held}
+use Rattle.linear_machine.proofs.Frames.{named_val, own_chain, own_waits, poisoned_named, poisoned_some, val_held, none_left}
 use Rattle.linear_machine.proofs.Keeping.{heap_kept, traps_at_all, traps_kept, waits_kept}
 use Rattle.linear_machine.proofs.Likes.{like_readable, like_regions}
 
@@ -116,12 +115,8 @@ rises_top a (b ∷ bs) r = let q = rises_top (end_of b) bs r.3 in let e = r.0 in
 
 -- ---- a memory in which every block is whole
 
-none_unwritten : (cells : List Cell) → nat_eq (length cells) 0 ≡ true → cells ≡ []
-none_unwritten [] e = refl
-none_unwritten (x ∷ xs) e = let n = eqb-true (length (x ∷ xs)) 0 e in absurd (omega (arith, n))
-
 header_whole : (a : Around) (k : ℕ) (b : HeapBlock) → is_complete a ≡ true → slice_get a.memory.blocks k ≡ Some b → (blocks_of a).header k ≡ Some b.header
-header_whole a k b whole there = ap (λ u. cond (is_among (InHeader k) u) None (header_in (slice_get a.memory.blocks k))) (none_unwritten a.unwritten whole)
+header_whole a k b whole there = ap (λ u. cond (is_among (InHeader k) u) None (header_in (slice_get a.memory.blocks k))) (none_left a.unwritten whole)
     ∙ ap header_in there
 
 header_one : (b : Bool) (o : Option HeapBlock) (w : ℕ) → cond b None (header_in o) ≡ Some w → (x : HeapBlock) × (o ≡ Some x) × (x.header ≡ w)

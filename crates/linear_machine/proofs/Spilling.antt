@@ -14,12 +14,13 @@ use Rattle.moving_laws.specs.Words.{IsReadable}
 use Rattle.moving_laws.proofs.Held.{held_other}
 use Rattle.moving_laws.proofs.Usable.{formed_regions, stack_readable}
 use Rattle.moving_laws.proofs.Words.{readable_write, word_same}
+use Rattle.lin_laws.proofs.Forms.{same_slot}
 use Rattle.linear_machine.specs.Files.{IsPut}
 use Rattle.linear_machine.specs.Relation.{AreCarried, Below, Laid, ReturnStands, StandsFor, Within, all_of}
 use Rattle.linear_machine.specs.Straight.{IsPast}
 use Rattle.linear_machine.specs.View.{Fixed, View}
 use Rattle.linear_machine.proofs.Keeping.{heap_kept, traps_at_all, traps_kept, waits_kept}
-use Rattle.linear_machine.proofs.Standing.{AreScratch, same_slot, within_past}
+use Rattle.linear_machine.proofs.Standing.{AreScratch, within_past}
 
 module _ (s : Fixed) (laid : Laid) (v : View) (young : List Placed) (taken : ℕ) (file : Loc → Option Value) (a : Around) (c : Below)
     (within : Within s laid v young taken file a c) where

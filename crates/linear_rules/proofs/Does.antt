@@ -2,6 +2,7 @@
 use Rattle.std.proofs.Common.{◌≡◌, ◌≢◌, ℕ, zero, suc, Bool, true, false, cond, ◌⊎◌, inl, inr, ⊎_elim, List, [], ◌∷◌, map, Option, Some, None, nat_eq, refl, sym, ap, ◌∙◌, subst}
 use Rattle.std.proofs.lemmas.Bool.{true≢false, eq-eqb, eqb-true, eqb-false}
 use Rattle.std.specs.List.{Contains}
+use Rattle.std.proofs.lemmas.Option.{none-some, same_Some}
 use Rattle.bs_words.specs.Fits.{fits, type_of_comp}
 use Rattle.bs_words.specs.Memory.{Memory, sizes}
 use Rattle.bs_words.specs.declared.types.Comp.{Comp}
@@ -35,6 +36,8 @@ use Rattle.mach_laws.proofs.Places.{ending_next, ending_from_handler, stands_of}
 use Rattle.mach_laws.proofs.Simulate.{Agrees}
 use Rattle.mach_laws.proofs.Walking.{ending_at}
 use Rattle.mach_laws.proofs.Among.{left_among, right_among, split_among}
+use Rattle.mach_laws.proofs.Instructions.{instr}
+use Rattle.mach_laws.proofs.Files.{put_of, PutAll, nil, cons}
 use Rattle.lin_ir.specs.Meaning as lines
 use Rattle.lin_ir.specs.Meaning.{Locations, is_val}
 use Rattle.lin_ir.specs.Walks as walks
@@ -44,17 +47,18 @@ use Rattle.lin_ir.specs.declared.lin.LinOp.TheVariants as lin
 use Rattle.lin_ir.specs.declared.lin.Line.{Line}
 use Rattle.lin_ir.specs.declared.lin.Lin.{Lin}
 use Rattle.lin_ir.specs.declared.lin.Spot.{Spot}
+use Rattle.lin_laws.proofs.Forms.{not_slot}
 use Rattle.linear_rules.specs.Kept as kept
 use Rattle.linear_rules.specs.Kept.{ValsHeld, Begins}
 use Rattle.linear_rules.specs.Lowered.{home, spots, is_idle, line_of, bare, pops, lines_of, lowered_code}
-use Rattle.linear_rules.proofs.Homes.{IsIn, is_first, is_later, in_of, contains_of, in_among, number_in, PutAll, nil, cons, put_of, Pair, pair_in, Once, once_none, once_more, held_none, held_same, values_none, pair_held, single, clear_keeps, past_some, machine_of, one_at, killed_has, in_spots, spot_of, Typed, puts_at, typed_put, reads_all}
-use Rattle.linear_rules.proofs.Marks.{all_in, in_ending, args_in_code, results_in_code, instr, AsLine, op_line, if_line, switch_line, try_line, handler_line, is_bare, IsIdle, idles, idle_of, bare_empty, EntryOf, entry_of}
+use Rattle.linear_rules.proofs.Homes.{IsIn, is_first, is_later, in_of, contains_of, in_among, number_in, Pair, pair_in, Once, once_none, once_more, values_none, pair_held, single, clear_keeps, past_some, machine_of, one_at, killed_has, in_spots, spot_of, Typed, puts_at, typed_put, reads_all, in_map}
+use Rattle.linear_rules.proofs.Marks.{all_in, in_ending, args_in_code, results_in_code, AsLine, op_line, if_line, switch_line, try_line, handler_line, is_bare, IsIdle, idles, idle_of, bare_empty, EntryOf, entry_of}
 use Rattle.linear_rules.proofs.Places.{drop_more}
 use Rattle.linear_rules.proofs.Opposite.{truth_opposite, branch_opposite}
 use Rattle.linear_rules.proofs.Standing.{same_targets, same_raises, same_destroyed, q, formed_at, label_of, label_q, at_target, handler_of, marked}
 use Rattle.linear_rules.proofs.Meeting.{bare_writes, traps_to, traps_on, IsMetAcross, met_across}
 use Rattle.linear_rules.proofs.Simulate.{Arrives, both_continue, both_pay, both_deepen, both_wait, both_finish_by, both_finish, both_finish_raising, first_stuck, goes_alone, Closed, simulates}
-use Rattle.linear_rules.proofs.Turns.{Turns, goes_in, exits_in, jumps_in, unwinds_in, pushes_in, asks_in, tries_on, raised_on, IsTry, is_try, IsExit, turns}
+use Rattle.mach_laws.proofs.Turns.{Turns, goes_in, exits_in, jumps_in, unwinds_in, pushes_in, asks_in, tries_on, raised_on, IsTry, is_try, IsExit, turns}
 
 -- no value is asked for where a line is no frame point
 calm_at : (c : Place) (m : Lin) (j : Line) (ys : List Line) (b : Locations) (around : Around) → lines.passes_frame j.op ≡ false →
@@ -172,13 +176,6 @@ not_unset r (in_slot e) u = out r.origin (sym e ∙ u)
   where
     out : (n : ℕ) → loc.Slot n ≡ loc.Unset → ⊥
     out n e = cc
-
-not_slot : (m k : ℕ) → loc.Machine m ≡ loc.Slot k → ⊥
-not_slot m k e = cc
-
-in_map : {A B : Type 0} (f : A → B) {x : A} {xs : List A} → IsIn x xs → IsIn (f x) (map f xs)
-in_map f is_first = is_first
-in_map f (is_later i) = is_later (in_map f i)
 
 record FromMap {A B : Type 0} (f : A → B) (y : B) (xs : List A) : Type 0 where
   from : A
@@ -397,7 +394,7 @@ module _ (c : Place) (number : ℕ → ℕ) (slots : ℕ) (p : Mach) (well : Wel
               by h =
                   let s = single h.0.value puts h.2 r v pair k.number ne in
                   let old = (clear_keeps (killed p i) a' k.number x (sym s.1 ∙ e)).0 in
-                  s.0 ∙ ap (λ (k : Held). k.value) (held_same h.0 x (sym h.1 ∙ old))
+                  s.0 ∙ ap (λ (k : Held). k.value) (same_Some h.0 x (sym h.1 ∙ old))
 
           kept : (k : Reg) → IsRegister p k → (x : Held) → Live p k.number (code_at p.code next to) → walks.Live Q (home number k.loc) k.comp (lines.code_at Q.code ys to) (walks.tries_after f around.tries) →
               (Among k.number i.results → ⊥) → ((r : Reg) → IsIn r i.results → home number r.loc ≡ home number k.loc → ⊥) →
@@ -736,7 +733,7 @@ module _ (c : Place) (number : ℕ → ℕ) (slots : ℕ) (p : Mach) (well : Wel
             let comps : x.comp ≡ k.comp = type ∙ ap (λ (k : Reg). k.comp) m in
             ap b (sym place)
             ∙ rel x arg h (read (first refl)) (subst (λ l. walks.Live Q l x.comp (L next) around.tries) (sym place) (subst (λ t. walks.Live Q (home number k.loc) t (L next) around.tries) (sym comps) u)) s
-            ∙ ap (λ (z : Held). Some z.value) (held_same (record { comp = d.comp; value = h.value }) y e)
+            ∙ ap (λ (z : Held). Some z.value) (same_Some (record { comp = d.comp; value = h.value }) y e)
         kept h s k ki y v u false t e = rel k ki y (mach_walks.on (λ w. out w) (goes On this) v) u e
           where
             out : Among k.number (d ∷ []) → ⊥
@@ -807,7 +804,7 @@ module _ (c : Place) (number : ℕ → ℕ) (slots : ℕ) (p : Mach) (well : Wel
     trails_of x y e = subst (Trails x) e (level_trail x)
 
     begun_with : {rs : List Reg} {vs : List Value} {d : File} → PutAll end (λ n. None) rs vs d → (n : ℕ) (x : Held) → d n ≡ Some x → Among n rs
-    begun_with nil n x e = absurd (held_none x e)
+    begun_with nil n x e = absurd (none-some x e)
     begun_with (cons {r = r} {v = v} {rs = rs} {d = d} fit ps) n x e = by (nat_eq r.number n) refl e (λ u. begun_with ps n x u)
       where
         by : (t : Bool) → nat_eq r.number n ≡ t → cond t (Some (record { comp = r.comp; value = v })) (d n) ≡ Some x → (d n ≡ Some x → Among n rs) → Among n (r ∷ rs)
@@ -843,9 +840,9 @@ module _ (c : Place) (number : ℕ → ℕ) (slots : ℕ) (p : Mach) (well : Wel
             let puts = put_of end p.params arguments (λ n. None) a e in
             let y = puts_at number p end well.numbers placed (λ l. None) puts params_are in
             let r : Related (at_file p.code a (entered memory)) (at_lines Q.code y.file (entered memory)) =
-            related all (whole refl) (sym well.nested.at_entry) walks.at_entry (typed_put number p end well.numbers placed puts params_are (λ r ri x e. absurd (held_none x e)))
+            related all (whole refl) (sym well.nested.at_entry) walks.at_entry (typed_put number p end well.numbers placed puts params_are (λ r ri x e. absurd (none-some x e)))
             (λ k ki x v w e. y.at k ki x e
-            (λ r v' pair ne same. absurd (params_apart r k (pair_in pair) ki (begun_with puts k.number x e) v ne same)) (λ free nowhere e. absurd (held_none x e)))
+            (λ r v' pair ne same. absurd (params_apart r k (pair_in pair) ki (begun_with puts k.number x e) v ne same)) (λ free nowhere e. absurd (none-some x e)))
             (λ w. refl) in
             subst (Begins c p Q arguments memory doings) (same_state (at_file p.code a (entered memory)) s g)
             (record {

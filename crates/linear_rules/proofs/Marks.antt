@@ -5,7 +5,7 @@ use Rattle.std.proofs.lemmas.List.Elements.{All-head, All-tail}
 use Rattle.bs_words.specs.declared.types.Comp.{Comp}
 use Rattle.bs_words.specs.declared.types.Comp.TheVariants as comp
 use Rattle.bs_words.proofs.Lists.{pairs_here, pairs_later}
-use Rattle.mach_ir.specs.Formed.{comps, MarkHasForm, exit_form, if_form, else_form, switch_form, case_form, catch_form, with_form, try_form, leave_form, handler_form, end_form, IsFormed, formed_op, formed_mark, labels_in, HasPlace, place_here, place_below, HasHandler, handler_here, handler_below}
+use Rattle.mach_ir.specs.Formed.{MarkHasForm, exit_form, if_form, else_form, switch_form, case_form, catch_form, with_form, try_form, leave_form, handler_form, end_form, IsFormed, formed_op, formed_mark, labels_in, HasPlace, place_here, place_below, HasHandler, handler_here, handler_below}
 use Rattle.mach_ir.specs.Meaning.{has_label, is_handler_of, after_label, from_handler, tries_past, destroyed_by, killed_by}
 use Rattle.mach_ir.specs.Walks.{InCode, in_args, in_results, further, here}
 use Rattle.mach_ir.specs.declared.op.Op.TheVariants as op
@@ -18,13 +18,15 @@ use Rattle.mach_ir.specs.declared.mach.MachOp.{MachOp}
 use Rattle.mach_ir.specs.declared.mach.MachOp.TheVariants as mach
 use Rattle.mach_ir.specs.declared.mach.Instr.{Instr}
 use Rattle.mach_laws.specs.Expand.{Ending, all, more}
+use Rattle.mach_laws.proofs.Instructions.{instr, no_comps}
 use Rattle.lin_ir.specs.Meaning as lines
 use Rattle.lin_ir.specs.declared.lin.Flow.TheVariants as flow
 use Rattle.lin_ir.specs.declared.lin.LinOp.{LinOp}
 use Rattle.lin_ir.specs.declared.lin.LinOp.TheVariants as lin
 use Rattle.lin_ir.specs.declared.lin.Line.{Line}
+use Rattle.lin_laws.proofs.Forms.{same_loc_is}
 use Rattle.linear_rules.specs.Lowered.{opposite_test, same_comp, is_idle, line_of, bare, pops, lines_of, lowered_code}
-use Rattle.linear_rules.proofs.Homes.{IsIn, is_first, is_later, same_loc_is, contains_of}
+use Rattle.linear_rules.proofs.Homes.{IsIn, is_first, is_later, contains_of}
 
 -- ---- lists
 
@@ -50,9 +52,6 @@ results_in_code all c = in_results (contains_of c)
 results_in_code (more e) c = further (results_in_code e c)
 
 -- ---- kinds of instructions
-
-abbrev pub instr : MachOp → List Reg → List Reg → Instr
-instr f args results = record { op = f; args = args; results = results }
 
 -- one line with its operands and results stands for it
 pub data AsLine : MachOp → LinOp → Type 0 where
@@ -127,13 +126,6 @@ idle_labels {i} is w = by i.op i.args i.results w
     by f args results (idles e u) = refl
 
 -- ---- forms
-
-no_comps : (rs : List Reg) → comps rs ≡ [] → rs ≡ []
-no_comps [] e = refl
-no_comps (r ∷ rs) e = absurd (not_none r.comp (comps rs) e)
-  where
-    not_none : (t : Comp) (ts : List Comp) → t ∷ ts ≡ [] → ⊥
-    not_none t ts e = cc
 
 bare_form : {f : Mark} {args results : List Comp} → MarkHasForm f args results → is_bare (mach.Mark f) ≡ true → (args ≡ []) × (results ≡ [])
 bare_form exit_form e = (refl, refl)

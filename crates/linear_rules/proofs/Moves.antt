@@ -45,7 +45,7 @@ no_move f e z = let c = copies_of z in out f (op.Pure (pure.Copy c.kind)) (sym e
     out : (f : Flow) (g : Op) → lin.Flow f ≡ lin.Op g → ⊥
     out f g e = cc
 
-same_comp_is : (t : Comp) → same_comp t t ≡ true
+pub same_comp_is : (t : Comp) → same_comp t t ≡ true
 same_comp_is comp.Int = refl
 same_comp_is comp.Val = refl
 same_comp_is comp.Addr = refl

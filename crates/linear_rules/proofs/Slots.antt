@@ -71,10 +71,10 @@ module _ (ns : List ℕ) where
       by true le = omega (arith, le)
       by false le = omega (arith, le)
 
-above_first : (n l : ℕ) → n < max (suc n) l
+pub above_first : (n l : ℕ) → n < max (suc n) l
 above_first n l = omega arith
 
-above_later : (k n l : ℕ) → k < l → k < max (suc n) l
+pub above_later : (k n l : ℕ) → k < l → k < max (suc n) l
 above_later k n l lt = omega (arith, lt)
 
 pub among_below : (k : ℕ) (ns : List ℕ) → is_among k ns ≡ true → k < limit_of ns
@@ -98,10 +98,6 @@ limit_few (n ∷ ns) m h =
     by k false e = e
 
 -- ---- which slots occur
-
-or_true : (t : Bool) → t || true ≡ true
-or_true true = refl
-or_true false = refl
 
 slot_first : (k : ℕ) (l : Loc) (ks : List ℕ) → l ≡ loc.Slot k → is_among k (slot_of l ks) ≡ true
 slot_first k l ks e = subst (λ l. is_among k (slot_of l ks) ≡ true) (sym e) (ap (λ t. t || is_among k ks) (eq-eqb k k refl))

@@ -12,6 +12,7 @@ use Rattle.mach_ir.specs.declared.mach.Instr.{Instr}
 use Rattle.mach_ir.specs.declared.mach.Mach.{Mach}
 use Rattle.mach_laws.specs.Expand.{Ending, all, more}
 use Rattle.mach_laws.proofs.Places.{ending_next, ending_from_handler, stands_of}
+use Rattle.mach_laws.proofs.Instructions.{instr}
 use Rattle.lin_ir.specs.Meaning as lines
 use Rattle.lin_ir.specs.Walks as walks
 use Rattle.lin_ir.specs.declared.lin.Flow.TheVariants as flow
@@ -21,7 +22,7 @@ use Rattle.lin_ir.specs.declared.lin.Line.{Line}
 use Rattle.lin_ir.specs.declared.lin.Lin.{Lin}
 use Rattle.linear_rules.specs.Lowered.{is_idle, line_of, bare, pops, lines_of, lowered_code, numbered}
 use Rattle.linear_rules.proofs.Homes.{IsIn, is_first, is_later}
-use Rattle.linear_rules.proofs.Marks.{all_in, in_ending, instr, AsLine, op_line, if_line, switch_line, try_line, handler_line, is_bare, IsIdle, idle_of, idle_tries, label_lowered, EntryOf, entry_of}
+use Rattle.linear_rules.proofs.Marks.{all_in, in_ending, AsLine, op_line, if_line, switch_line, try_line, handler_line, is_bare, IsIdle, idle_of, idle_tries, label_lowered, EntryOf, entry_of}
 use Rattle.linear_rules.proofs.Places.{drop_more, place_tries, before_place, at_left, pops_length}
 
 pub handler_ending : {h : ℕ} {rest code : List Instr} → Ending rest code → HasHandler h rest → HasHandler h code

@@ -1,6 +1,6 @@
 -- Where a run begins its entry is about to begin, and below it there is only the stub.
-use Rattle.std.proofs.Common.{◌≡◌, inl, ℕ, suc, ◌+◌, ◌-◌, ◌/◌, ◌≤◌, true, false, nat_le, List, [], ◌∷◌, Some, length, map, refl, ap, ◌∙◌, arith}
-use Rattle.std.proofs.lemmas.Bool.{lt-leb, and_right, cond-false, and_parts}
+use Rattle.std.proofs.Common.{◌≡◌, inl, ℕ, suc, ◌-◌, ◌/◌, ◌≤◌, true, false, List, [], ◌∷◌, Some, length, map, refl, ap, ◌∙◌, arith}
+use Rattle.std.proofs.lemmas.Bool.{cond-false, and_parts}
 use Rattle.bs_words.specs.Fits.{fits, type_of_comp}
 use Rattle.bs_words.specs.declared.types.Comp.{Comp}
 use Rattle.bs_words.specs.declared.values.Value.TheVariants.{Word}
@@ -13,6 +13,7 @@ use Rattle.image_form.specs.Image.{AreTables}
 use Rattle.image_form.specs.Tables.{Tables}
 use Rattle.machine_laws.proofs.Starting.{start_sound}
 use Rattle.moving_laws.specs.Values.{HasFunctions}
+use Rattle.moving_laws.proofs.Bottom.{past_region}
 use Rattle.rv_machine.specs.Loading.{IsRoom}
 use Rattle.rv_machine.specs.Memory.{Region, is_inside, or_zero, read, word}
 use Rattle.rv_machine.specs.Observation.{young_start}
@@ -31,9 +32,6 @@ use Rattle.linking_machine.specs.Standing.{Shows, fixed_of}
 use Rattle.linking_machine.proofs.Carrying.{words_all}
 
 -- ---- the limit word at the start
-
-past_region : (r : Region) (x : ℕ) → r.start + r.bytes ≤ x → is_inside r x 8 ≡ false
-past_region r x l = and_right (nat_le r.start x) (nat_le (x + 8) (r.start + r.bytes)) (lt-leb (x + 8) (r.start + r.bytes) (omega (arith, l)))
 
 in_domain : (rs : List Region) → read (domain_region ∷ rs) domain_start 8 ≡ Some limit_at_rest
 unfolding domain_region

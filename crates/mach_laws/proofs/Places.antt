@@ -1,15 +1,17 @@
 -- The places of code that is replaced instruction by instruction.
-use Rattle.std.proofs.Common.{◌≡◌, ℕ, Bool, true, false, cond, ⊎_elim, List, [], ◌∷◌, ◌++◌, length, refl, sym, ap, ◌∙◌, ◌≤◌, arith, ◌<◌, suc, zero}
+use Rattle.std.proofs.Common.{◌≡◌, ℕ, Bool, true, false, cond, ⊎_elim, List, [], ◌∷◌, ◌++◌, length, refl, sym, ap, ◌∙◌, ◌≤◌, arith, ◌<◌}
 use Rattle.std.proofs.lemmas.Bool.{cases_Bool, true≢false}
-use Rattle.std.specs.Prelude.{slice_index_or}
+use Rattle.std.proofs.lemmas.List.Elements.{All-head, All-tail, All-cons, All-nil}
+use Rattle.std.specs.List.{Contains}
 use Rattle.mach_ir.specs.Acts.{Landing, AtLabel, AtHandler}
 use Rattle.mach_ir.specs.Meaning.{has_label, is_handler_of, after_label, from_handler, at_handler, landing_code, tries_at, tries_past}
 use Rattle.mach_ir.specs.declared.mach.Mark.TheVariants as mark
 use Rattle.mach_ir.specs.declared.mach.MachOp.{MachOp}
 use Rattle.mach_ir.specs.declared.mach.MachOp.TheVariants as mach
 use Rattle.mach_ir.specs.declared.mach.Instr.{Instr}
-use Rattle.mach_ir.specs.Walks.{Stands, here, below}
+use Rattle.mach_ir.specs.Walks.{Stands, here, below, InCode, in_args, further, in_results}
 use Rattle.mach_ir.specs.Placed.{is_straight, AreStraight}
+use Rattle.mach_ir.specs.declared.reg.Reg.{Reg}
 use Rattle.mach_laws.specs.Expand.{expand, NoLabel, no_label, not_labelled, NoHandler, no_handler, not_handled, bounds_try, NoBound, no_bound, not_bound, KeepsMarks, Ending, all, more}
 
 label_past : (l : ℕ) (xs ys : List Instr) → NoLabel l xs → after_label l (xs ++ ys) ≡ after_label l ys
@@ -108,9 +110,9 @@ ending_handler [] [] = all
 ending_handler [] (i ∷ is) = more (ending_handler [] is)
 ending_handler (l ∷ tries) code = ending_from_handler l code
 
-pub ending_land : (to : Landing) (here code : List Instr) → Ending (landing_code code here to) code
-ending_land (AtLabel l) here code = ending_label l code
-ending_land AtHandler here code = ending_handler (tries_at here) code
+pub ending_land : (to : Landing) (rest code : List Instr) → Ending (landing_code code rest to) code
+ending_land (AtLabel l) rest code = ending_label l code
+ending_land AtHandler rest code = ending_handler (tries_at rest) code
 
 pub ending_short : {rest code : List Instr} → Ending rest code → length rest ≤ length code
 ending_short all = omega arith
@@ -140,17 +142,21 @@ stands_within (below t) s = below (stands_within t s)
 -- ---- straight code
 
 pub head_of : (x : Instr) (xs : List Instr) → AreStraight (x ∷ xs) → is_straight x.op ≡ true
-head_of x xs h = let lt : 0 < length (x ∷ xs) = omega arith in h 0 x lt
+head_of = All-head (λ (i : Instr). is_straight i.op ≡ true)
 
 pub tail_of : (x : Instr) (xs : List Instr) → AreStraight (x ∷ xs) → AreStraight xs
-tail_of x xs h = λ k d lt. h (suc k) d (omega (arith, lt))
+tail_of = All-tail (λ (i : Instr). is_straight i.op ≡ true)
 
 pub straight_cons : (x : Instr) (xs : List Instr) → is_straight x.op ≡ true → AreStraight xs → AreStraight (x ∷ xs)
-straight_cons x xs e h = by
-  where
-    by : (k : ℕ) (d : Instr) → k < length (x ∷ xs) → is_straight (slice_index_or (x ∷ xs) k d).op ≡ true
-    by zero d lt = e
-    by (suc k) d lt = h k d (omega (arith, lt))
+straight_cons = All-cons (λ (i : Instr). is_straight i.op ≡ true)
 
 pub straight_none : AreStraight []
-straight_none = λ k d lt. absurd (omega (arith, lt))
+straight_none = All-nil (λ (i : Instr). is_straight i.op ≡ true)
+
+pub args_in : {i : Instr} {next code : List Instr} {r : Reg} → Stands i next code → Contains i.args r → InCode r code
+args_in here c = in_args c
+args_in (below s) c = further (args_in s c)
+
+pub results_in : {i : Instr} {next code : List Instr} {r : Reg} → Stands i next code → Contains i.results r → InCode r code
+results_in here c = in_results c
+results_in (below s) c = further (results_in s c)

@@ -13,10 +13,10 @@ running_same u v y z e = cc
 abbrev pub IsRun : {S : Type 0} → Run S → Run S → Type 0
 IsRun a b = a ≡ b
 
-pub asking_wrong : {S : Type 0} (call : Asked) (t : Tally) → IsRun {S} (Asking call t) Wrong → ⊥
+pub asking_wrong : {S : Type 0} (call : Asked) (t : Tally) → IsRun {S = S} (Asking call t) Wrong → ⊥
 asking_wrong call t e = cc
 
-pub ended_wrong : {S : Type 0} (d : Doing) (t : Tally) → IsRun {S} (Ended d t) Wrong → ⊥
+pub ended_wrong : {S : Type 0} (d : Doing) (t : Tally) → IsRun {S = S} (Ended d t) Wrong → ⊥
 ended_wrong d t e = cc
 
 pub running_wrong : {S : Type 0} (s : S) (t : Tally) → Running s t ≡ Wrong → ⊥

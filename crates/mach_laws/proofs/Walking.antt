@@ -17,8 +17,6 @@ use Rattle.mach_laws.specs.Expand.{Ending, all, more}
 use Rattle.mach_laws.specs.Graph.{place_of, numbers, handler_places, next_places, raise_places, numbers_read, numbers_written, flow_graph, IsFlowOf}
 use Rattle.mach_laws.proofs.Places.{ending_next, ending_label, ending_from_handler, ending_short}
 
--- ---- members of lists
-
 -- ---- numbers of places
 
 minus_self : (k : ℕ) → k - k ≡ 0

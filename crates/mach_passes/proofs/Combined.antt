@@ -22,9 +22,7 @@ use Rattle.pass_rules.specs.Carried.{TriesAtMost, OffsetFits, EndsInReturn, at_r
 use Rattle.pass_rules.specs.Measures.{code_words, code_points, exits, other_operands}
 use Rattle.pass_rules.proofs.Words.{exits_both}
 use Rattle.split_rules.proofs.Formed.{contains_of, stands_in}
-
-abbrev made : MachOp → List Reg → List Reg → Instr
-made f args results = record { op = f; args = args; results = results }
+use Rattle.mach_laws.proofs.Instructions.{instr}
 
 -- ---- measures
 
@@ -52,7 +50,7 @@ no_more held (i ∷ is) = by i.op i.args i.results (λ o. no_more o is)
         }
 
     by_joins : (b : Bool) (blocks : List NewBlock) (args results : List Reg) (s : Scanned) → NoMore is s →
-        NoMore (made (mach.Op (op.Access (access.Alloc blocks))) args results ∷ is) (allocated b blocks results s)
+        NoMore (instr (mach.Op (op.Access (access.Alloc blocks))) args results ∷ is) (allocated b blocks results s)
     by_joins true blocks args results s h =
         let a = h.words in
         let b = h.points in
@@ -67,17 +65,17 @@ no_more held (i ∷ is) = by i.op i.args i.results (λ o. no_more o is)
         record { words = omega (arith, a, e); points = omega (arith, b); operands = omega (arith, c, e); exits = h.exits }
 
     by : (f : MachOp) (args results : List Reg) → ((o : Option ℕ) → NoMore is (scan o is)) →
-        NoMore (made f args results ∷ is) (scanned_at held (made f args results) f (scan (open_past held f) is))
-    by (mach.Op (op.Pure f)) args results ih = kept (made (mach.Op (op.Pure f)) args results) (scan held is) (ih held)
+        NoMore (instr f args results ∷ is) (scanned_at held (instr f args results) f (scan (open_past held f) is))
+    by (mach.Op (op.Pure f)) args results ih = kept (instr (mach.Op (op.Pure f)) args results) (scan held is) (ih held)
     by (mach.Op (op.Access (access.Load k offset))) args results ih =
-        kept (made (mach.Op (op.Access (access.Load k offset))) args results) (scan held is) (ih held)
+        kept (instr (mach.Op (op.Access (access.Load k offset))) args results) (scan held is) (ih held)
     by (mach.Op (op.Access (access.Store k offset))) args results ih =
-        kept (made (mach.Op (op.Access (access.Store k offset))) args results) (scan held is) (ih held)
+        kept (instr (mach.Op (op.Access (access.Store k offset))) args results) (scan held is) (ih held)
     by (mach.Op (op.Access (access.Alloc blocks))) args results ih =
         by_joins (joins held blocks) blocks args results (scan (Some (bytes_past held blocks)) is) (ih (Some (bytes_past held blocks)))
-    by (mach.Op (op.Calling f)) args results ih = kept (made (mach.Op (op.Calling f)) args results) (scan None is) (ih None)
-    by (mach.Op (op.Leaving f)) args results ih = kept (made (mach.Op (op.Leaving f)) args results) (scan None is) (ih None)
-    by (mach.Mark f) args results ih = kept (made (mach.Mark f) args results) (scan None is) (ih None)
+    by (mach.Op (op.Calling f)) args results ih = kept (instr (mach.Op (op.Calling f)) args results) (scan None is) (ih None)
+    by (mach.Op (op.Leaving f)) args results ih = kept (instr (mach.Op (op.Leaving f)) args results) (scan None is) (ih None)
+    by (mach.Mark f) args results ih = kept (instr (mach.Mark f) args results) (scan None is) (ih None)
 
 -- ---- the end
 

@@ -14,6 +14,7 @@ use Rattle.mach_laws.specs.Expand.{expand}
 use Rattle.pass_rules.specs.Carried.{OffsetFits, EndsInReturn, at_return, further, IsCarried}
 use Rattle.pass_rules.specs.Measures.{instr_words, code_words, code_points, one_if, exits, operands_with, other_operands}
 use Rattle.pass_rules.proofs.Words.{exits_both}
+use Rattle.pass_rules.proofs.Carried.{returns_alone}
 use Rattle.places_rules.specs.Places.{ColoursLow}
 use Rattle.repeat_rules.proofs.OneForOne.{one_each, both, all_in}
 use Rattle.split_rules.proofs.Formed.{contains_of}
@@ -26,9 +27,6 @@ pub record Replaces (i j : Instr) : Type 0 where
   pub exit : is_exit j.op ≡ is_exit i.op
   pub fits : OffsetFits i.op → OffsetFits j.op
   pub returns : i.op ≡ mach.Op (op.Leaving leaving.Return) → j.op ≡ mach.Op (op.Leaving leaving.Return)
-
-returns_alone : (i : Instr) → i.op ≡ mach.Op (op.Leaving leaving.Return) → EndsInReturn (i ∷ [])
-returns_alone i e = subst (λ g. EndsInReturn (record { op = g; args = i.args; results = i.results } ∷ [])) (sym e) at_return
 
 module _ (again : ℕ → Instr → Instr) where
   abbrev pub AllReplaced : List Instr → Type 0

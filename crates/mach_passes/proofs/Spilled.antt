@@ -3,11 +3,9 @@ use Rattle.std.proofs.Common.{◌≡◌, ℕ, suc, ◌+◌, ◌*◌, ◌≤◌, 
 use Rattle.std.specs.List.{All, Contains}
 use Rattle.std.specs.Prelude.{slice_index_or}
 use Rattle.std.proofs.lemmas.List.Elements.{Contains-get_or, All-contains}
-use Rattle.std.proofs.Math.Nat.{le_of_eq}
-use Rattle.bs_words.specs.declared.types.Comp.{Comp}
+use Rattle.std.proofs.Math.Nat.{le_of_eq, zero-add}
 use Rattle.linear_rules.specs.Lowered.{same_spot}
-use Rattle.mach_ir.specs.Formed.{comps, is_exit, IsFormed, formed_op, formed_mark, WellFormed}
-use Rattle.mach_ir.specs.Forms.{HasForm}
+use Rattle.mach_ir.specs.Formed.{is_exit, IsFormed, WellFormed}
 use Rattle.mach_ir.specs.Forms as forms
 use Rattle.mach_ir.specs.Meaning.{passes_frame, tries_at, tries_past}
 use Rattle.mach_ir.specs.Placed.{WellPlaced}
@@ -16,18 +14,18 @@ use Rattle.mach_ir.specs.Walks.{Stands, here, below}
 use Rattle.mach_ir.specs.declared.op.CopyKind.{CopyKind}
 use Rattle.mach_ir.specs.declared.op.CopyKind.TheVariants as copy
 use Rattle.mach_ir.specs.declared.op.Leaving.TheVariants as leaving
-use Rattle.mach_ir.specs.declared.op.Op.{Op}
 use Rattle.mach_ir.specs.declared.op.Op.TheVariants as op
 use Rattle.mach_ir.specs.declared.reg.Reg.{Reg}
-use Rattle.mach_ir.specs.declared.mach.Mark.{Mark}
 use Rattle.mach_ir.specs.declared.mach.MachOp.TheVariants as mach
 use Rattle.mach_ir.specs.declared.mach.Instr.{Instr}
 use Rattle.mach_ir.specs.declared.mach.Mach.{Mach}
 use Rattle.mach_laws.specs.Expand.{expand}
 use Rattle.mach_laws.proofs.Places.{tries_expand}
+use Rattle.mach_laws.proofs.Instructions.{return_results}
 use Rattle.pass_rules.specs.Carried.{OffsetFits, EndsInReturn, at_return, further, IsCarried}
 use Rattle.pass_rules.specs.Measures.{copy_words, instr_words, code_words, one_if, code_points, exits, operands_with, other_operands}
 use Rattle.pass_rules.proofs.Words.{at_most_copy}
+use Rattle.pass_rules.proofs.Carried.{ends_second}
 use Rattle.places_rules.proofs.Open.{slot_open}
 use Rattle.places_rules.specs.Places.{ColoursLow}
 use Rattle.split_rules.proofs.Formed.{contains_of, stands_in}
@@ -36,9 +34,6 @@ use Rattle.spill_rules.specs.Spilled.{Plan, in_slot, copied, reload, spill, relo
 use Rattle.spill_rules.proofs.Chosen.{spilled_kept}
 use Rattle.spill_rules.proofs.Formed.{IsCopy, is_reload, is_spill, IsMain, was_main}
 use Rattle.spill_rules.proofs.Text.{keeps_marks}
-
-none_more : (a : ℕ) → 0 + a ≡ a
-none_more a = omega arith
 
 -- ---- copies alone
 
@@ -63,11 +58,11 @@ words_copies (a_copy kind from to {xs = xs} h) zs =
 
 points_copies : {xs : List Instr} → AreCopies xs → (zs : List Instr) → code_points (xs ++ zs) ≡ code_points zs
 points_copies no_copy zs = refl
-points_copies (a_copy kind from to {xs = xs} h) zs = none_more (code_points (xs ++ zs)) ∙ points_copies h zs
+points_copies (a_copy kind from to {xs = xs} h) zs = zero-add (code_points (xs ++ zs)) ∙ points_copies h zs
 
 operands_copies : {xs : List Instr} → AreCopies xs → (zs : List Instr) → other_operands (xs ++ zs) ≡ other_operands zs
 operands_copies no_copy zs = refl
-operands_copies (a_copy kind from to {xs = xs} h) zs = none_more (other_operands (xs ++ zs)) ∙ operands_copies h zs
+operands_copies (a_copy kind from to {xs = xs} h) zs = zero-add (other_operands (xs ++ zs)) ∙ operands_copies h zs
 
 exits_copies : {xs : List Instr} → AreCopies xs → (zs : List Instr) → exits (xs ++ zs) ≡ exits zs
 exits_copies no_copy zs = refl
@@ -92,33 +87,7 @@ stands_copies (a_copy kind from to {xs = xs} h) i next zs s =
     (ap (λ (i : Instr). tries_at (i ∷ next)) e.0 ∙ ap (λ ys. tries_at (copied kind from to ∷ ys)) e.1 ∙ tries_copies h zs))
     (λ d. stands_copies h i next zs d) (stands_head s)
 
-ends_after : (xs : List Instr) {zs : List Instr} → EndsInReturn zs → EndsInReturn (xs ++ zs)
-ends_after [] e = e
-ends_after (x ∷ xs) e = further (ends_after xs e)
-
 -- ---- a return has no results
-
-no_comps : (rs : List Reg) → comps rs ≡ [] → rs ≡ []
-no_comps [] e = refl
-no_comps (r ∷ rs) e = absurd (some r.comp (comps rs) e)
-  where
-    some : (c : Comp) (cs : List Comp) → c ∷ cs ≡ [] → ⊥
-    some c cs e = cc
-
-returns_none : {cs ds : List Comp} → HasForm (op.Leaving leaving.Return) cs ds → ds ≡ []
-returns_none (forms.returns result) = refl
-
-same_op : (f g : Op) → mach.Op f ≡ mach.Op g → f ≡ g
-same_op f g e = cc
-
-no_mark : (f : Mark) (g : Op) → mach.Mark f ≡ mach.Op g → ⊥
-no_mark f g e = cc
-
-return_results : {i : Instr} → IsFormed i → i.op ≡ mach.Op (op.Leaving leaving.Return) → i.results ≡ []
-return_results (formed_op {f = f} {args = args} {results = results} h) e =
-    no_comps results
-    (returns_none (subst (λ f. HasForm f (comps args) (comps results)) (same_op f (op.Leaving leaving.Return) e) h))
-return_results (formed_mark {f = f} h) e = absurd (no_mark f (op.Leaving leaving.Return) e)
 
 module _ (plan : Plan) where
   abbrev f : ℕ → Instr → List Instr
@@ -266,8 +235,8 @@ module _ (plan : Plan) where
   still_ends formed (at_return {args = args} {results = results}) =
       let i : Instr = record { op = mach.Op (op.Leaving leaving.Return); args = args; results = results } in
       subst EndsInReturn (sym (laid_out 0 i []))
-      (ends_after (before 0 i) (last args results (return_results (formed i [] here) refl)))
-  still_ends formed (further {i = i} {is = is} e) = ends_after (f (length is) i) (still_ends (λ j next s. formed j next (below s)) e)
+      (ends_second (before 0 i) _ (last args results (return_results (formed i [] here) refl)))
+  still_ends formed (further {i = i} {is = is} e) = ends_second (f (length is) i) _ (still_ends (λ j next s. formed j next (below s)) e)
 
 -- ---- numbers of colours
 

@@ -19,6 +19,7 @@ use Rattle.mach_ir.specs.declared.mach.Instr.{Instr}
 use Rattle.mach_ir.specs.declared.mach.Mach.{Mach}
 use Rattle.mach_laws.specs.Expand.{expand}
 use Rattle.mach_laws.proofs.Among.{left_among, among_of}
+use Rattle.mach_laws.proofs.Places.{args_in, results_in}
 use Rattle.pass_rules.specs.Carried.{IsCarried}
 use Rattle.pass_rules.specs.Measures.{copy_words, mark_words, words_with, operands_with}
 use Rattle.places_rules.proofs.Lists.{was}
@@ -29,7 +30,7 @@ use Rattle.split_rules.specs.Renamed.{Naming, numbered, all_numbered, renamed_in
 use Rattle.split_rules.specs.Split.{IsNaming, AreByFirst, IsSplit}
 use Rattle.split_rules.specs.Writes.{Comes, IsWrite, by_instr}
 use Rattle.split_rules.proofs.Result.{comes_write}
-use Rattle.split_rules.proofs.Text.{same_tries, args_in, results_in}
+use Rattle.split_rules.proofs.Text.{same_tries}
 use Rattle.mach_passes.proofs.Replaced.{Replaces, replaced_carried}
 
 module _ (names : Naming) where

@@ -8,6 +8,7 @@ use Rattle.bs_words.specs.declared.values.Value.{Value}
 use Rattle.mach_ir.specs.Meaning.{Held, File, put, put_if, put_all, clear, with_held, values, past_frame, unless_addr}
 use Rattle.mach_ir.specs.Walks.{Among, first, later}
 use Rattle.mach_ir.specs.declared.reg.Reg.{Reg}
+use Rattle.mach_laws.proofs.Files.{put_other}
 
 pub among_or_not : (n : ℕ) (rs : List Reg) → Among n rs ⊎ (Among n rs → ⊥)
 among_or_not n [] = inr (λ a. elim a [ ])
@@ -58,13 +59,6 @@ not_cleared (k ∷ ks) f n h = by (nat_eq k.number n) refl (not_cleared ks f n (
 
 pub put_here : (r : Reg) (v : Value) (f : File) (n : ℕ) → r.number ≡ n → put r v f n ≡ Some (record { comp = r.comp; value = v })
 put_here r v f n e = ap (λ b. cond b (Some (record { comp = r.comp; value = v })) (f n)) (eq-eqb r.number n e)
-
-pub put_other : (r : Reg) (v : Value) (f : File) (n : ℕ) → (r.number ≡ n → ⊥) → put r v f n ≡ f n
-put_other r v f n h = test (nat_eq r.number n) refl
-  where
-    test : (b : Bool) → nat_eq r.number n ≡ b → cond b (Some (record { comp = r.comp; value = v })) (f n) ≡ f n
-    test true e = absurd (h (eqb-true r.number n e))
-    test false e = refl
 
 -- the registers by other numbers
 abbrev pub renumbered : (ℕ → ℕ) → List Reg → List Reg

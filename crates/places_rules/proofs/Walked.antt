@@ -10,12 +10,12 @@ use Rattle.bs_words.proofs.Lists.{none_in, first_in, later_in, in_cons, mapped}
 use Rattle.mach_ir.specs.Acts.{Target, On, At}
 use Rattle.mach_ir.specs.Meaning.{Destroyed, Nothing, Temporaries, Everything, destroyed_by, is_destroyed, same_colour, is_at_one_of, killed_among, killed_by, killed, passes_frame, after_label, from_handler, code_at, tries_at, tries_past}
 use Rattle.mach_ir.specs.Placed.{colours, WellPlaced}
-use Rattle.mach_ir.specs.Walks.{Among, first, later, OneOf, targets, may_raise, goes, raises, Reached, at_entry, by_step, by_raise, Writes, Live, read, on, aside, LiveAfter, after_step, LiveAcross, across_step, across_raise, InCode, in_results, further, IsRegister, is_colour, is_in_code, Stands, here, below, NoAddrLive, IsMove, is_move, Meets, at_write, at_params, Joined, one_way, other_way}
+use Rattle.mach_ir.specs.Walks.{Among, first, later, OneOf, targets, may_raise, goes, raises, Reached, at_entry, by_step, by_raise, Writes, Live, read, on, aside, LiveAfter, after_step, LiveAcross, across_step, across_raise, IsRegister, is_colour, is_in_code, Stands, NoAddrLive, IsMove, is_move, Meets, at_write, at_params, Joined, one_way, other_way}
 use Rattle.mach_ir.specs.declared.reg.Reg.{Reg}
 use Rattle.mach_ir.specs.declared.mach.Instr.{Instr}
 use Rattle.mach_ir.specs.declared.mach.Mach.{Mach}
 use Rattle.mach_laws.specs.Expand.{Ending, all, more}
-use Rattle.mach_laws.proofs.Places.{ending_next, ending_label, ending_from_handler, stands_of, ending_of}
+use Rattle.mach_laws.proofs.Places.{ending_next, ending_label, ending_from_handler, stands_of, ending_of, results_in}
 use Rattle.mach_laws.proofs.Among.{left_among, right_among, split_among, among_of}
 use Rattle.places_rules.specs.Places.{Placing, IsPlacing, placed, all_placed, placed_instr, placed_code, with_places}
 use Rattle.places_rules.proofs.Open.{machine_open, machine_slot}
@@ -153,11 +153,7 @@ killed_by_has r rs Nothing results c e h = absurd (both_ways false refl e)
 killed_by_has r rs Temporaries results c e h = killed_has r rs Temporaries results c e h
 killed_by_has r rs Everything results c e h = killed_has r rs Everything results c e h
 
--- ---- members by number
-
-in_code_results : {i : Instr} {next code : List Instr} {r : Reg} → Stands i next code → Contains i.results r → InCode r code
-in_code_results here c = in_results c
-in_code_results (below s) c = further (in_code_results s c)
+-- ---- members of the code
 
 module _ (m : Mach) (place : Placing) (well : WellPlaced m) (is : IsPlacing m place) where
   abbrev q : Mach
@@ -195,7 +191,7 @@ module _ (m : Mach) (place : Placing) (well : WellPlaced m) (is : IsPlacing m pl
       there l same t =
           in_one l (all_placed place i.results) (placed place t.reg) t.colour (mapped (placed place) i.results t.reg t.among)
           (same ∙ t.place)
-          (machine_stays t.reg (is_in_code (in_code_results s t.among)) t.colour t.there)
+          (machine_stays t.reg (is_in_code (results_in s t.among)) t.colour t.there)
 
   -- what is no longer destroyed is not live then
   still_killed : {n : ℕ} {i : Instr} {next : List Instr} → Stands i next m.code → LiveAfter m n i next →
@@ -206,7 +202,7 @@ module _ (m : Mach) (place : Placing) (well : WellPlaced m) (is : IsPlacing m pl
           Writes q (placed_instr place i) n
       by_result k t =
           let w = was (placed place) i.results t.reg t.among in
-          let register = is_in_code (in_code_results s w.among) in
+          let register = is_in_code (results_in s w.among) in
           ⊎_elim
           (λ e.
           left_among (all_placed place i.results) (killed q (placed_instr place i))

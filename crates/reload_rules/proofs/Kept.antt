@@ -31,14 +31,14 @@ use Rattle.mach_laws.proofs.General as general
 use Rattle.mach_laws.proofs.General.{at}
 use Rattle.mach_laws.proofs.Leads.{IsTry, is_try, MayLand, lands_at_label, lands_at_handler, Within, goes_in, pushes_in, jumps_in, unwinds_in, asks_in, within}
 use Rattle.mach_laws.proofs.Level.{begins_at}
-use Rattle.mach_laws.proofs.Places.{ending_next, ending_label, ending_land, ending_from_handler, label_expand, handler_expand, stands_of}
+use Rattle.mach_laws.proofs.Places.{ending_next, ending_label, ending_land, ending_from_handler, label_expand, handler_expand, stands_of, args_in, results_in}
 use Rattle.mach_laws.proofs.Simulate.{Agrees}
 use Rattle.mach_laws.proofs.Among.{left_among, right_among, split_among, number_among, among_of}
-use Rattle.places_rules.proofs.Files.{past_same, cleared, not_cleared, among_or_not, put_here, put_other, put_both}
+use Rattle.mach_laws.proofs.Files.{put_other}
+use Rattle.places_rules.proofs.Files.{past_same, cleared, not_cleared, among_or_not, put_here, put_both}
 use Rattle.places_rules.proofs.Raised.{IsRaised, Told, told_jump, told_unwind, told_ask, IsSilent, told, label_silent, try_silent}
 use Rattle.liveness.proofs.Bounds.{killed_is_colour}
 use Rattle.split_rules.proofs.Formed.{contains_of}
-use Rattle.split_rules.proofs.Text.{args_in, results_in}
 use Rattle.spill_rules.specs.Spilled.{copied}
 use Rattle.spill_rules.proofs.Kept.{values_held, FitsIn, put_fits, put_holds, clear_fits, frame_fits}
 use Rattle.reload_rules.specs.Reloaded.{reads_registers, writes_registers, is_renewed, fresh, number_after, reloads, spills}

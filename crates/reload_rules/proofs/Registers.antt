@@ -9,7 +9,7 @@ use Rattle.mach_ir.specs.declared.reg.Reg.{Reg}
 use Rattle.mach_ir.specs.declared.mach.Instr.{Instr}
 use Rattle.mach_ir.specs.declared.mach.Mach.{Mach}
 use Rattle.mach_laws.specs.Expand.{expand}
-use Rattle.split_rules.proofs.Text.{args_in, results_in}
+use Rattle.mach_laws.proofs.Places.{args_in, results_in}
 use Rattle.spill_rules.specs.Spilled.{copied}
 use Rattle.spill_rules.proofs.Kept.{in_append}
 use Rattle.bs_words.proofs.Lists.{none_in, first_in, later_in, in_cons}

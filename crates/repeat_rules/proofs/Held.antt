@@ -7,7 +7,7 @@ use Rattle.bs_words.specs.declared.types.Comp.{Comp}
 use Rattle.bs_words.specs.declared.types.Comp.TheVariants as comp
 use Rattle.bs_words.specs.declared.values.Value.{Value}
 use Rattle.bs_words.proofs.Lists.{first_in}
-use Rattle.combine_rules.proofs.Files.{PutAll, nil, cons, put_view, put_of, put_same, values_has, frame_loses}
+use Rattle.combine_rules.proofs.Files.{values_has, frame_loses}
 use Rattle.mach_ir.specs.Acts.{Around, On, Goes}
 use Rattle.mach_ir.specs.Meaning.{Held, File, put, put_all, clear, killed, values, past_frame, unless_addr, is_addr, passes_frame, mach_act}
 use Rattle.mach_ir.specs.Placed.{is_straight}
@@ -18,7 +18,7 @@ use Rattle.mach_ir.specs.declared.mach.Instr.{Instr}
 use Rattle.mach_ir.specs.declared.mach.Mach.{Mach}
 use Rattle.mach_laws.specs.Expand.{Ending}
 use Rattle.mach_laws.proofs.Among.{number_among}
-use Rattle.places_rules.proofs.Files.{put_other}
+use Rattle.mach_laws.proofs.Files.{PutAll, nil, cons, put_other, put_same, put_of}
 use Rattle.repeat_rules.specs.Repeated.{is_operator, allocates, Ends, itself}
 use Rattle.repeat_rules.proofs.Acting.{Grown, gives_value, gives_still}
 use Rattle.repeat_rules.proofs.Standing.{operator_straight, operator_same, straight_kills, straight_frame, Standing, Earlier, just_now, earlier, earlier_of}
@@ -42,9 +42,6 @@ record PutOne (r : Reg) (vs : List Value) (a d : File) : Type 0 where
 
 put_one : {end : ℕ} {a : File} {r : Reg} {vs : List Value} {d : File} → PutAll end a (r ∷ []) vs d → PutOne r vs a d
 put_one (cons {v = v} e nil) = record { value = v; is = refl; file = refl }
-
-pub put_all_of : (end : ℕ) (rs : List Reg) (vs : List Value) (a d : File) → put_all end rs vs a ≡ Some d → PutAll end a rs vs d
-put_all_of end rs vs a d e = put_of (put_all end rs vs a) (put_view end rs vs a) e
 
 values_stay : (a d : File) (rs : List Reg) → ((n : ℕ) → Among n rs → d n ≡ a n) → (vs : List Value) →
     values d rs ≡ Some vs → values a rs ≡ Some vs
@@ -88,7 +85,7 @@ module _ (m : Mach) (plan : ℕ → Option Reg) (c : Place) where
     where
       written : PutAll c.setting.end a (r ∷ []) ws d
       written =
-          put_all_of c.setting.end (r ∷ []) ws a d
+          put_of c.setting.end (r ∷ []) ws a d
           (ap (λ rs. put_all c.setting.end rs ws a) (sym one)
           ∙ ap (put_all c.setting.end j.results ws)
           (sym (calm j a (operator_straight j.op o) (operator_same allocates false (λ f. refl) j.op o)))
@@ -134,7 +131,7 @@ module _ (m : Mach) (plan : ℕ → Option Reg) (c : Place) where
 
       there : (n : ℕ) → (Among n i.results → ⊥) → d n ≡ a' n
       there n free =
-          stays (put_all_of c.setting.end i.results ws (clear (killed m i) a') d puts) n free
+          stays (put_of c.setting.end i.results ws (clear (killed m i) a') d puts) n free
           ∙ ap (λ ks. clear ks a' n) (straight_kills m i st)
 
       not_written : (n : ℕ) → Among n j.args → Among n i.results → ⊥

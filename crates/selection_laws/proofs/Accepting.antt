@@ -47,7 +47,7 @@ places_length (More e rest) = let others = places_length rest in omega (arith, o
 few : (es : Expressions) → Faultless (too_many (places es)) → HasFew es
 few es none = let less = few_places (places es) none in let same = places_length es in omega (arith, less, same)
 
-holds_if : (b : Bool) (f : Fault) → Faultless (one_if (not b) f) → b ≡ true
+pub holds_if : (b : Bool) (f : Fault) → Faultless (one_if (not b) f) → b ≡ true
 holds_if true f none = refl
 holds_if false f none = absurd (none f here)
 

@@ -15,8 +15,9 @@ use Rattle.mach_ir.specs.declared.reg.Reg.{Reg}
 use Rattle.mach_ir.specs.declared.mach.Instr.{Instr}
 use Rattle.mach_ir.specs.declared.mach.Mach.{Mach}
 use Rattle.liveness.proofs.Bounds.{killed_is_colour}
-use Rattle.places_rules.proofs.Files.{put_here, put_other}
+use Rattle.places_rules.proofs.Files.{put_here}
 use Rattle.mach_laws.proofs.Among.{number_among}
+use Rattle.mach_laws.proofs.Files.{put_other}
 
 -- ---- a register that is put back
 

@@ -14,7 +14,6 @@ use Rattle.mach_ir.specs.Placed.{WellPlaced}
 use Rattle.mach_ir.specs.Seats.{AreSeated, anywhere, places_of, mach_operand_seats, mach_result_seats, Seated}
 use Rattle.mach_ir.specs.Walks.{may_raise, IsRegister, Stands}
 use Rattle.mach_ir.specs.declared.op.Leaving.TheVariants as leaving
-use Rattle.mach_ir.specs.declared.op.Op.{Op}
 use Rattle.mach_ir.specs.declared.op.Op.TheVariants as op
 use Rattle.mach_ir.specs.declared.mach.Mark.{Mark}
 use Rattle.mach_ir.specs.declared.mach.Mark.TheVariants as mark
@@ -25,14 +24,12 @@ use Rattle.mach_ir.specs.declared.mach.Instr.{Instr}
 use Rattle.mach_ir.specs.declared.mach.Mach.{Mach}
 use Rattle.split_rules.proofs.Formed.{contains_of, stands_in}
 use Rattle.spill_rules.proofs.Formed.{one_distinct}
+use Rattle.spill_rules.proofs.Chosen.{only_on}
+use Rattle.mach_laws.proofs.Instructions.{no_op}
 use Rattle.sink_rules.specs.Sunk.{Plan, to_itself, IsPlan}
 use Rattle.sink_rules.proofs.Kept.{does_sunk}
 use Rattle.sink_rules.proofs.Live.{laid_label, laid_handler, MovedNumber, moved_number, joined_back, no_addr_back}
 use Rattle.sink_rules.proofs.Text as text
-use Rattle.sink_rules.proofs.Text.{only_on}
-
-no_mark : (f : Op) (g : Mark) → mach.Op f ≡ mach.Mark g → ⊥
-no_mark f g e = cc
 
 no_label : (l : ℕ) → At l ≡ On → ⊥
 no_label l e = cc
@@ -56,7 +53,7 @@ module _ (m : Mach) (plan : Plan) (formed : WellFormed m) (is : IsPlan m plan) w
   -- ---- a move is no mark, and goes on
 
   not_mark : {i : Instr} (r : Reg) → i ≡ to_itself r → (g : Mark) → i.op ≡ mach.Mark g → ⊥
-  not_mark r s g e = no_mark _ g (sym (ap (λ (i : Instr). i.op) s) ∙ e)
+  not_mark r s g e = no_op _ g (sym (ap (λ (i : Instr). i.op) s) ∙ e)
 
   not_leading : {i : Instr} (r : Reg) → i ≡ to_itself r → (l : ℕ) → LeadsTo i.op l → ⊥
   not_leading r s l o = no_label l (only_on (At l) (subst (λ (i : Instr). LeadsTo i.op l) s o))
@@ -163,7 +160,7 @@ module _ (m : Mach) (plan : Plan) (formed : WellFormed m) (is : IsPlan m plan) w
 
   mark_back : (i : Instr) → Contains q.code i → (g : Mark) → i.op ≡ mach.Mark g → Contains m.code i
   mark_back i c g e =
-      each_one (λ (j : Instr). j.op ≡ mach.Mark g → Contains m.code j) (λ r k x. absurd (no_mark _ g x)) (λ j d x. d) i c e
+      each_one (λ (j : Instr). j.op ≡ mach.Mark g → Contains m.code j) (λ r k x. absurd (no_op _ g x)) (λ j d x. d) i c e
 
   cases : CasesAgree q
   cases =

@@ -26,13 +26,12 @@ use Rattle.mach_laws.proofs.General as general
 use Rattle.mach_laws.proofs.General.{at}
 use Rattle.mach_laws.proofs.Leads.{IsTry, is_try, MayLand, lands_at_label, lands_at_handler}
 use Rattle.mach_laws.proofs.Level as level
-use Rattle.mach_laws.proofs.Places.{ending_next, handler_expand, stands_of}
+use Rattle.mach_laws.proofs.Places.{ending_next, handler_expand, stands_of, results_in}
 use Rattle.mach_laws.proofs.Simulate.{Agrees}
 use Rattle.mach_laws.proofs.Among.{split_among, number_among}
 use Rattle.places_rules.proofs.Files.{not_cleared, among_or_not, PutsBoth, put_both}
 use Rattle.places_rules.proofs.Raised.{IsSilent, label_silent, try_silent}
 use Rattle.split_rules.proofs.Formed.{contains_of}
-use Rattle.split_rules.proofs.Text.{results_in}
 use Rattle.spill_rules.proofs.Kept.{FitsIn, put_fits, put_holds, clear_fits, frame_fits}
 use Rattle.sink_rules.specs.Sunk.{Plan, to_itself, moves_of, IsPlan}
 use Rattle.sink_rules.specs.Walks as walks

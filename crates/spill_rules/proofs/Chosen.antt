@@ -23,14 +23,13 @@ use Rattle.mach_ir.specs.declared.mach.MachOp.TheVariants as mach
 use Rattle.mach_ir.specs.declared.mach.Instr.{Instr}
 use Rattle.mach_ir.specs.declared.mach.Mach.{Mach}
 use Rattle.mach_laws.specs.Expand.{expand, Ending}
-use Rattle.mach_laws.proofs.Places.{ending_next, ending_short, ending_of}
+use Rattle.mach_laws.proofs.Places.{ending_next, ending_short, ending_of, args_in}
 use Rattle.mach_laws.proofs.Walking.{drop_ending}
 use Rattle.mach_laws.proofs.Among.{number_among, among_of}
 use Rattle.places_rules.proofs.Open.{machine_open}
 use Rattle.places_rules.proofs.Lists.{was}
 use Rattle.split_rules.proofs.Formed.{contains_of}
 use Rattle.split_rules.proofs.Result.{comes_write}
-use Rattle.split_rules.proofs.Text.{args_in}
 use Rattle.split_rules.specs.Writes.{Comes, from_entry, from_write, past, past_raise, IsWrite, by_entry, by_instr}
 use Rattle.spill_rules.specs.Chosen.{LivesOver, Lost, over, still, IsReloaded, IsChosen, IsSpilled, ParamsPlaced, IsNeededSlot, IsChosenKept}
 use Rattle.spill_rules.specs.Spilled.{Plan, copied, reload, spill, reloads_of, spills_of, has_operands, has_results, operands_of, results_of, spilled_instr, spilled, IsPlan, IsKept}
@@ -95,7 +94,7 @@ goes_on r (formed_op {f = f} {args = args} {results = results} h) c =
 goes_on r (formed_mark {f = f} {args = args} {results = results} h) c =
     mark_on f (comps args) (comps results) h (λ e. no_result results r e c)
 
-only_on : (t : Target) → OneOf t (On ∷ []) → t ≡ On
+pub only_on : (t : Target) → OneOf t (On ∷ []) → t ≡ On
 only_on t this = refl
 only_on t (other o) = elim o [ ]
 
@@ -314,7 +313,7 @@ module _ (p q : Plan) where
       spilled p m ≡ spilled q m
   spilled_alike m h = ap (λ xs. record m { code = xs }) (code_same m.code h)
 
-same_answer : {P : Type 0} (a b : Bool) → (a ≡ true) ↔ P → (b ≡ true) ↔ P → a ≡ b
+pub same_answer : {P : Type 0} (a b : Bool) → (a ≡ true) ↔ P → (b ≡ true) ↔ P → a ≡ b
 same_answer true true x y = refl
 same_answer true false x y = sym (y.1 (x.0 refl))
 same_answer false true x y = x.1 (y.0 refl)

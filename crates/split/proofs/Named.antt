@@ -17,14 +17,13 @@ use Rattle.mach_ir.specs.declared.reg.Reg.{Reg}
 use Rattle.mach_ir.specs.declared.mach.Instr.{Instr}
 use Rattle.mach_ir.specs.declared.mach.Mach.{Mach}
 use Rattle.mach_laws.specs.Expand.{Ending, all, more}
-use Rattle.mach_laws.proofs.Places.{ending_next}
+use Rattle.mach_laws.proofs.Places.{ending_next, args_in, results_in}
 use Rattle.mach_laws.proofs.Walking.{drop_ending, place_is}
 use Rattle.mach_laws.proofs.Among.{split_among, number_among}
 use Rattle.liveness.proofs.Bounds.{killed_is_colour}
 use Rattle.split_rules.specs.Renamed.{Naming, renamed, renamed_code}
 use Rattle.split_rules.specs.Split.{IsNaming, JoinsExactly, AreByFirst, IsDense, IsSplit}
 use Rattle.split_rules.specs.Writes.{Comes, Chained, IsWrite, by_entry, by_instr}
-use Rattle.split_rules.proofs.Text.{args_in, results_in}
 use Rattle.split_rules.proofs.Result.{comes_write, chained_equal}
 use Rattle.split_rules.proofs.Whole.{fixed_colours}
 use Rattle.split.specs.Names.{new_number, find_coming, or_name, name_of, naming, AreTables}

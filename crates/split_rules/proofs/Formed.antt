@@ -14,9 +14,10 @@ use Rattle.mach_ir.specs.declared.reg.Reg.{Reg}
 use Rattle.mach_ir.specs.declared.mach.MachOp.{MachOp}
 use Rattle.mach_ir.specs.declared.mach.Instr.{Instr}
 use Rattle.mach_ir.specs.declared.mach.Mach.{Mach}
+use Rattle.mach_laws.proofs.Places.{results_in}
 use Rattle.split_rules.specs.Renamed.{Naming, numbered, all_numbered, renamed_instr, renamed_code, renamed}
 use Rattle.split_rules.specs.Split.{IsNaming}
-use Rattle.split_rules.proofs.Text.{same_label, same_handler, same_tries, same_labels, same_comps, was_at, place_renamed, handler_renamed, results_in, was_register}
+use Rattle.split_rules.proofs.Text.{same_label, same_handler, same_tries, same_labels, same_comps, was_at, place_renamed, handler_renamed, was_register}
 
 -- ---- lists
 

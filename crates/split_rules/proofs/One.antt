@@ -13,12 +13,12 @@ use Rattle.mach_ir.specs.declared.mach.Mach.{Mach}
 use Rattle.places_rules.proofs.Open.{machine_open, slot_open}
 use Rattle.mach_ir.specs.Meaning.{killed}
 use Rattle.mach_laws.proofs.Among.{left_among, among_of}
+use Rattle.mach_laws.proofs.Places.{args_in, results_in}
 use Rattle.split_rules.specs.Order.{IsFirstOfWeb, IsByFirst, kept, given, IsNumberOfWeb}
 use Rattle.split_rules.specs.Renamed.{Naming, numbered, all_numbered, renamed_instr, renamed_code}
 use Rattle.split_rules.specs.Split.{IsNaming, AreByFirst, IsSplit}
 use Rattle.split_rules.specs.Writes.{Comes, IsWrite, by_instr}
 use Rattle.split_rules.proofs.Result.{comes_write}
-use Rattle.split_rules.proofs.Text.{args_in, results_in}
 
 module _ (m : Mach) where
   first_is : {n v w : ℕ} {from : List Instr} → IsFirstOfWeb m n from v → IsFirstOfWeb m n from w → v ≡ w

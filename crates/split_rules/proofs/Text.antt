@@ -126,14 +126,6 @@ among_named f (r ∷ rs) (later a) = let w = among_named f rs a in (w.0, later w
 
 -- ---- registers
 
-pub args_in : {i : Instr} {next code : List Instr} {r : Reg} → Stands i next code → Contains i.args r → InCode r code
-args_in here c = in_args c
-args_in (below s) c = further (args_in s c)
-
-pub results_in : {i : Instr} {next code : List Instr} {r : Reg} → Stands i next code → Contains i.results r → InCode r code
-results_in here c = in_results c
-results_in (below s) c = further (results_in s c)
-
 module _ (m : Mach) (names : Naming) (is : IsNaming m names) where
   -- what a register of the new function was
   pub record WasRegister (r : Reg) : Type 0 where

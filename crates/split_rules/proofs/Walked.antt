@@ -10,13 +10,13 @@ use Rattle.mach_ir.specs.declared.reg.Reg.{Reg}
 use Rattle.mach_ir.specs.declared.mach.Instr.{Instr}
 use Rattle.mach_ir.specs.declared.mach.Mach.{Mach}
 use Rattle.mach_laws.specs.Expand.{Ending, all}
-use Rattle.mach_laws.proofs.Places.{ending_next, ending_label, ending_from_handler, stands_of, ending_of}
+use Rattle.mach_laws.proofs.Places.{ending_next, ending_label, ending_from_handler, stands_of, ending_of, args_in, results_in}
 use Rattle.mach_laws.proofs.Among.{left_among, right_among, split_among, number_among}
 use Rattle.mach_laws.proofs.Colouring.{of_killed_by}
 use Rattle.split_rules.specs.Renamed.{Naming, all_numbered, renamed_instr, renamed_code, renamed}
 use Rattle.split_rules.specs.Split.{IsNaming}
 use Rattle.split_rules.specs.Writes.{Comes, from_write, past, past_raise}
-use Rattle.split_rules.proofs.Text.{same_label, same_handler, was_at, was_register, named_among, among_named, args_in, results_in}
+use Rattle.split_rules.proofs.Text.{same_label, same_handler, was_at, was_register, named_among, among_named}
 
 -- ---- what is destroyed is told by places
 

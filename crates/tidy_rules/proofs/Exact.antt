@@ -17,7 +17,7 @@ use Rattle.mach_ir.specs.Meaning.{is_destroyed}
 use Rattle.mach_ir.specs.Runs.{Place, Step, Tally}
 use Rattle.mach_ir.specs.Keeps.{Alike}
 use Rattle.mach_ir.specs.Walks.{OneOf}
-use Rattle.lin_ir.specs.Formed.{comps, FlowHasForm, label_form, jump_form, exit_form, branch_form, switch_form, push_form, pop_form, enter_form, IsFormed, formed_op, formed_flow, is_colour, is_slot, IsLocation, is_home, is_spare, Locates, WellFormed}
+use Rattle.lin_ir.specs.Formed.{FlowHasForm, label_form, jump_form, exit_form, branch_form, switch_form, push_form, pop_form, enter_form, IsFormed, formed_op, formed_flow, is_colour, is_slot, IsLocation, is_home, is_spare, Locates, WellFormed}
 use Rattle.lin_ir.specs.Meaning.{NamedAt, State, Locations, same_loc, put, put_if, put_all, clear, destroyed_by, with_held, as_type, values, is_named, is_val, are_vals, unless_pointer, unless_misnamed, past_frame, passes_frame, code_at, after_label, on_act, lin_act}
 use Rattle.lin_ir.specs.Meaning as poison
 use Rattle.lin_ir.specs.Walks as walks
@@ -34,6 +34,7 @@ use Rattle.linear_rules.specs.Keeps.{NamesReached, NoAddrReached}
 use Rattle.linear_rules.proofs.Homes.{IsIn, is_first, is_later, in_of, contains_of, all_vals, named_of}
 use Rattle.linear_rules.proofs.Marks.{all_in}
 use Rattle.linear_rules.proofs.Walked.{Tail, reached_tail, reached_stands, tail_in, stands_tail, live_read}
+use Rattle.lin_laws.proofs.Forms.{no_spots}
 use Rattle.tidy_rules.specs.Keeps.{SameRound}
 use Rattle.tidy_rules.proofs.Turns.{is_bare, turns}
 use Rattle.tidy_rules.proofs.Simulate.{Arrives, Answers, stuck, steps, Closed, Leads, acts, simulates}
@@ -49,13 +50,6 @@ no_comps (branch_form t) e = refl
 no_comps switch_form e = refl
 no_comps pop_form e = refl
 no_comps enter_form e = absurd (true≢false (sym e))
-
-no_spots : (ss : List Spot) → comps ss ≡ [] → ss ≡ []
-no_spots [] e = refl
-no_spots (s ∷ ss) e = absurd (out s.comp (comps ss) e)
-  where
-    out : (t : Comp) (ts : List Comp) → t ∷ ts ≡ [] → ⊥
-    out t ts e = cc
 
 bare_writes : {i : Line} → IsFormed i → is_bare i.op ≡ true → (l : Loc) → Writes i l → ⊥
 bare_writes (formed_op h) e l w = true≢false (sym e)
@@ -84,7 +78,7 @@ same_self (loc.Machine n) out = eq-eqb n n refl
 same_self (loc.Slot n) out = eq-eqb n n refl
 same_self loc.Unset out = absurd (out refl)
 
-abbrev spot : Loc → Comp → Spot
+abbrev pub spot : Loc → Comp → Spot
 spot l t = record { loc = l; comp = t }
 
 module _ (end : ℕ) (f g : Locations) where

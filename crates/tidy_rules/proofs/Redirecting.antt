@@ -11,13 +11,13 @@ use Rattle.bs_words.proofs.Lists.{none_in, head_same, tail_same, none_there}
 use Rattle.cmm_meaning.specs.State.{Doing}
 use Rattle.mach_ir.specs.Acts.{Around, Target, On, At, truth_of, branches}
 use Rattle.mach_ir.specs.Meaning.{is_destroyed}
-use Rattle.mach_ir.specs.Runs.{Place, Step, Pays, first_tally, entered}
+use Rattle.mach_ir.specs.Runs.{Place, Step, Pays}
 use Rattle.mach_ir.specs.Walks.{OneOf, this, other}
 use Rattle.mach_ir.specs.declared.mach.MachOp.{MachOp}
 use Rattle.mach_ir.specs.declared.op.Op.{Op}
 use Rattle.lin_ir.specs.Formed.{is_exit, label_of, lin_operand_seats, lin_result_seats}
 use Rattle.lin_ir.specs.Keeps.{IsNamedIn}
-use Rattle.lin_ir.specs.Meaning.{State, Locations, put_all, clear, values, destroyed_by, lin_act, on_act, wrote, has_label, after_label, code_at, passes_frame, begun, start}
+use Rattle.lin_ir.specs.Meaning.{State, Locations, put_all, clear, values, destroyed_by, lin_act, on_act, wrote, has_label, after_label, code_at, passes_frame, start}
 use Rattle.lin_ir.specs.Walks as walks
 use Rattle.lin_ir.specs.Walks.{targets, may_raise, tries_after, Writes, Reached, at_entry, by_step, by_raise, Live, read, on, aside, LiveAcross, across_step, across_raise}
 use Rattle.lin_ir.specs.declared.lin.Flow.{Flow}
@@ -31,12 +31,11 @@ use Rattle.linear_rules.specs.Keeps.{NoAddrReached}
 use Rattle.linear_rules.specs.Kept as kept
 use Rattle.linear_rules.specs.Kept.{step, ValsHeld}
 use Rattle.linear_rules.proofs.Homes.{IsIn, is_first, is_later, in_of, contains_of}
-use Rattle.mach_laws.proofs.Runs.{alike_goes}
 use Rattle.tidy_rules.specs.Keeps.{Begins, KeepsLin}
 use Rattle.tidy_rules.specs.Leaving.{bare, LabelsBetween, none_between, label_between, with_code}
 use Rattle.tidy_rules.specs.Redirecting.{goes_by, redirected, redirect, GoesOnTo, itself, and_on, ExitsTo, by_exit, Redirects}
 use Rattle.tidy_rules.proofs.Turns.{turns}
-use Rattle.tidy_rules.proofs.Simulate.{Arrives, both_continue, both_pay, first_stuck, Answers, stays, stuck, steps, Closed, Leads, acts, simulates}
+use Rattle.tidy_rules.proofs.Simulate.{Arrives, both_continue, both_pay, first_stuck, Answers, stays, stuck, steps, Closed, Leads, acts, begins_alike}
 use Rattle.tidy_rules.proofs.Leaving.{jump_unwritten}
 
 -- ---- what is the same of a line that is redirected
@@ -184,7 +183,7 @@ quiet_reached is_there r = r
 quiet_reached (by_label p) r = quiet_reached p (by_step r (walks.goes On this))
 quiet_reached (by_jump {l = l} p) r = quiet_reached p (by_step r (walks.goes (At l) this))
 
-label_unwritten : (k : ℕ) (l : Loc) → Writes (bare (flow.Label k)) l → ⊥
+pub label_unwritten : (k : ℕ) (l : Loc) → Writes (bare (flow.Label k)) l → ⊥
 label_unwritten k l w = ⊎_elim (λ y. none_in (record { loc = l; comp = y.0 }) y.1) (λ e. true≢false (sym e)) w
 
 quiet_live : {m : Lin} {l : Loc} {t : Comp} {a b : List Line} {tries : List ℕ} → Quiet m a b → Live m l t b tries → Live m l t a tries
@@ -625,27 +624,7 @@ module _ (m : Lin) (to : ℕ → ℕ) (exits : ℕ → Option ℕ) (each : (l : 
 
     turned_begins : (arguments : List Value) (memory : Memory) (doings : List Doing) (s : State) → start c m arguments memory ≡ Some s →
         Begins c m turned arguments memory doings s
-    turned_begins arguments memory doings s is = by (put_all c.setting.end m.params arguments (λ l. None)) refl is
-      where
-        no_state : (s : State) → None ≡ Some s → ⊥
-        no_state s e = cc
-
-        same_state : (x y : State) → Some x ≡ Some y → x ≡ y
-        same_state x y e = cc
-
-        by : (o : Option Locations) → put_all c.setting.end m.params arguments (λ l. None) ≡ o → begun m memory o ≡ Some s →
-            Begins c m turned arguments memory doings s
-        by None e g = absurd (no_state s g)
-        by (Some f) e g =
-            subst (Begins c m turned arguments memory doings) (same_state (at m.code f (entered memory)) s g)
-            (record {
-              state = at (T m.code) f (entered memory);
-              begins = ap (begun turned memory) e;
-              follows = λ n proper.
-                  let b = simulates c m (step c turned) (ValsHeld c turned) Rel closed n (at m.code f (entered memory)) (at (T m.code) f (entered memory))
-                  (first_tally c doings) (rel at_entry is_there refl) proper in
-                  record { steps = b.count; alike = b.alike; proper = record { goes = alike_goes b.alike; vals = b.fair } };
-            })
+    turned_begins = begins_alike c m turned refl Rel closed (λ f memory. rel at_entry is_there refl)
 
   not_op : (f : Flow) (g : Op) → lin.Flow f ≡ lin.Op g → ⊥
   not_op f g e = cc

@@ -54,7 +54,7 @@ new_labels None None = []
 new_labels None (Some l) = l ∷ []
 new_labels (Some t) o = t.here ∷ []
 
-none_left : (j : Line) (js : List Line) → j ∷ js ≡ [] → ⊥
+pub none_left : (j : Line) (js : List Line) → j ∷ js ≡ [] → ⊥
 none_left j js e = cc
 
 exit_unwritten : (k : ℕ) (l : Loc) → Writes (bare (flow.Exit k)) l → ⊥

@@ -37,7 +37,7 @@ use Rattle.tidy_rules.proofs.TurningLines.{IsNew, new_exit, new_label, new_branc
 flow_not_op : (f : Flow) {g : _} → lin.Flow f ≡ lin.Op g → ⊥
 flow_not_op f e = cc
 
-same_flow : (f g : Flow) → lin.Flow f ≡ lin.Flow g → f ≡ g
+pub same_flow : (f g : Flow) → lin.Flow f ≡ lin.Flow g → f ≡ g
 same_flow f g e = cc
 
 label_not : (l : ℕ) (f : LinOp) → f ≡ lin.Flow (flow.Label l) → may_turn f ≡ false
@@ -76,7 +76,7 @@ label_on (lin.Flow (flow.PushTrap k)) e = this
 label_on (lin.Flow flow.PopTrap) e = this
 label_on (lin.Flow flow.EnterTrap) e = this
 
-not_same : (a b : ℕ) → b < a → nat_eq a b ≡ false
+pub not_same : (a b : ℕ) → b < a → nat_eq a b ≡ false
 not_same a b lt = by (nat_eq a b) refl
   where
     by : (c : Bool) → nat_eq a b ≡ c → nat_eq a b ≡ false

@@ -17,9 +17,7 @@ use Rattle.linear_rules.proofs.Homes.{IsIn, is_first, is_later, in_of, contains_
 use Rattle.linear_rules.proofs.Walked.{Tail, reached_tail}
 use Rattle.tidy_rules.specs.Vals.{as_val, line_as_vals, as_vals}
 use Rattle.tidy_rules.proofs.Ends.{same_tail}
-
-abbrev spot : Loc → Comp → Spot
-spot l t = record { loc = l; comp = t }
+use Rattle.tidy_rules.proofs.Exact.{spot}
 
 -- ---- operands and results
 
