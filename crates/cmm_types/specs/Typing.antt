@@ -29,7 +29,7 @@ AreItemsAnnotated (i ∷ items) = IsItemAnnotated i × AreItemsAnnotated items
 
 -- What is true of each typed file: each node of its functions holds its type, and its symbols are those of its text, in the
 -- order of their definitions.
-pub record IsTyped (file : File) (known : List DefinedSymbol) : Type 0 where
+pub record IsTypedFile (file : File) (known : List DefinedSymbol) : Type 0 where
   pub annotated : AreItemsAnnotated (contents file.items)
   pub in_order : known ≡ symbols (file_view file)
 

@@ -32,7 +32,7 @@ impl Model for Typed {
     ghost use Rattle.std.specs.Coded.{codes};
     ghost use Rattle.cmm_tree.specs.contracts.file.File as row;
     ghost use Rattle.cmm_tree.specs.declared.file.File.{File};
-    ghost use Rattle.cmm_types.specs.Typing.{IsTyped};
+    ghost use Rattle.cmm_types.specs.Typing.{IsTypedFile};
 
     ghost Value = { File };
 
@@ -40,7 +40,7 @@ impl Model for Typed {
 
     ghost view = { λ typed. typed.file };
 
-    ghost invariant = { λ typed. IsTyped typed.file typed.symbols };
+    ghost invariant = { λ typed. IsTypedFile typed.file typed.symbols };
 }
 
 impl Typed {
