@@ -15,7 +15,7 @@ use Rattle.cmm_lex.specs.Strings.{string_bytes}
 use Rattle.cmm_lex.specs.declared.token.TokenKind.{TokenKind}
 use Rattle.cmm_lex.specs.declared.token.TokenKind.TheVariants as kind
 use Rattle.cmm_lex.specs.declared.token.Keyword.TheVariants as word
-use Rattle.cmm_tree.specs.Tree.{Expression, Integer, Pointer, Symbol, Name, Nothing, Float, Let, Assign, Operator, Load, Store, Alloc, App, Extcall, Checkbound, Raise, Seq, If, Switch, Catch, Exit, Try, Expressions, NoMore, More, Bare, Index, Parameter, FunctionTree, ItemTree, functions_among}
+use Rattle.cmm_tree.specs.Tree.{Expression, Integer, Pointer, Symbol, Name, Float, Let, Assign, Operator, Load, Store, Alloc, App, Extcall, Checkbound, Raise, Seq, If, Switch, Catch, Exit, Try, Expressions, NoMore, Bare, Index, Parameter, ItemTree}
 use Rattle.cmm_tree.specs.Tree as tree
 use Rattle.cmm_grammar.specs.declared.word.Head.{Head}
 use Rattle.cmm_grammar.specs.declared.word.Head.TheVariants as head
@@ -31,7 +31,7 @@ use Rattle.cmm_grammar.specs.Parts.{ResultPart, BindingPart, CasePart, HandlerPa
 use Rattle.cmm_grammar.specs.Rewriting.{element_by, element, turn_by, turn}
 use Rattle.cmm_grammar.specs.Words.{leaf_of, word_of, is_integer, is_string, is_symbol_token, passing, marked, val_of, data_word_of, data_keyword}
 use Rattle.cmm_grammar.specs.Rule.{AnExpression, ABinding, ACase, AHandler, AnItem, Rule}
-use Rattle.cmm_grammar.specs.Grammar.{a_token, close, a_comp, a_result, operands, sequence_to_close, sequence_to_with, a_binding, a_mutable_binding, bindings_to_close, let_body, let_form, assign_form, arguments_of, app_form, extcall_rest, extcall_form, alloc_form, loaded, stored, load_rest, store_rest, chunk_rest, chunked, load_form, store_form, paired, tripled, raise_form, pair_form, triple_form, float_form, seq_form, while_form, case_number, another_number, case_body, a_case, switch_form, a_parameter, parameters, label_rest, handler_rest, a_label, next_handler, more_handlers, labelled_handlers, bare_handler, catch_form, exit_rest, exit_form, try_form, form_of, form, a_data_integer, datum_of, a_data_item, data_items, data_list, a_function, item_rest, an_item}
+use Rattle.cmm_grammar.specs.Grammar.{a_token, a_comp, a_result, operands, sequence_to_close, sequence_to_with, a_binding, a_mutable_binding, bindings_to_close, let_body, let_form, assign_form, arguments_of, app_form, extcall_rest, extcall_form, alloc_form, loaded, stored, load_rest, store_rest, chunk_rest, chunked, load_form, store_form, paired, tripled, raise_form, pair_form, triple_form, float_form, seq_form, while_form, case_number, another_number, case_body, a_case, switch_form, a_parameter, parameters, label_rest, handler_rest, a_label, next_handler, more_handlers, labelled_handlers, bare_handler, catch_form, exit_rest, exit_form, try_form, form_of, form, a_data_integer, datum_of, a_data_item, data_items, data_list, a_function, item_rest, an_item}
 use Rattle.cmm_grammar.specs.Spelling.{Spells, AreItems, none, more}
 use Rattle.accepted_files.specs.Named.{CallsSymbols, RowCallsSymbols, BoundCallsSymbols, CasesCallSymbols, HandlersCallSymbols}
 use Rattle.accepted_files.proofs.Giving.{IsInRange, AllInRange, front, back, IsFine, AreFine, ItemHas, PartHas, PartsHave, Given, Gives, given}
@@ -119,7 +119,7 @@ sequence_has at e [] p q = p
 sequence_has at e (f ∷ es) p q = (p, row_has (f ∷ es) q)
 
 operands_give : (Q : List Expression → Type 0) → ((es : List Expression) → PartsHave AnExpression es → Q es) → Gives operands Q
-unfolding operands close a_token
+unfolding operands a_token
 operands_give Q q = record { first = λ e p. p; second = λ es parts c. q es parts }
 
 to_close_gives : (Q : Expression → Type 0) → ((e : Expression) → CallsSymbols e → Q e) → Gives sequence_to_close Q
@@ -148,20 +148,20 @@ unfolding let_body
 let_body_gives at bs parts = to_close_gives _ (λ e p. (bound_has bs parts, p))
 
 let_gives : (at : ℕ) (r : Rule ABinding) → BindingsGive r → Gives (let_form at r) CallsSymbols
-unfolding let_form bindings_to_close close a_token
+unfolding let_form bindings_to_close a_token
 let_gives at r gives = record {
   first = λ place. gives _ (λ b p. record { first = gives (PartHas ABinding) (λ b p. p); second = λ bs parts c. let_body_gives at (b ∷ bs) (p, parts) });
   second = gives _ (λ b p. let_body_gives at (b ∷ []) (p, tt));
 }
 
 assign_gives : (at : ℕ) → Gives (assign_form at) CallsSymbols
-unfolding assign_form close a_token
+unfolding assign_form a_token
 assign_gives at = λ name v p c. p
 
 -- ---- calls
 
 arguments_give : (made : Expressions → ResultPart → Expression) → ((es : List Expression) (r : ResultPart) → RowCallsSymbols (expressions es) → CallsSymbols (made (expressions es) r)) → Gives (arguments_of made) CallsSymbols
-unfolding arguments_of a_result close a_token
+unfolding arguments_of a_result a_token
 arguments_give made q = record { first = λ e p. p; second = λ es parts r c. q es r.value (row_has es parts) }
 
 app_gives : (at : ℕ) → Gives (app_form at) CallsSymbols
@@ -191,11 +191,11 @@ stored_has at None chunk_at x y p q = (p, (q, tt))
 stored_has at (Some w) chunk_at x y p q = (p, q)
 
 load_rest_gives : (at : ℕ) (c : Option Chunk) (chunk_at : ℕ) → Gives (load_rest at c chunk_at) CallsSymbols
-unfolding load_rest close a_token
+unfolding load_rest a_token
 load_rest_gives at c chunk_at = λ x p u. loaded_has at c chunk_at x p
 
 store_rest_gives : (at : ℕ) (c : Option Chunk) (chunk_at : ℕ) → Gives (store_rest at c chunk_at) CallsSymbols
-unfolding store_rest close a_token
+unfolding store_rest a_token
 store_rest_gives at c chunk_at = λ x p y q u. stored_has at c chunk_at x y p q
 
 chunk_rest_gives : (w : ChunkWord) (k : Option Chunk → Rule AnExpression) → ((c : Option Chunk) → Gives (k c) CallsSymbols) → Gives (chunk_rest w k) CallsSymbols
@@ -235,15 +235,15 @@ tripled_has at triple.If x y z p q r = (p, (q, r))
 tripled_has at (triple.SetElement c) x y z p q r = (element_has at x y p q, r)
 
 raise_gives : (at : ℕ) → Gives (raise_form at) CallsSymbols
-unfolding raise_form close a_token
+unfolding raise_form a_token
 raise_gives at = λ x p c. p
 
 pair_gives : (at : ℕ) (w : Pair) → Gives (pair_form at w) CallsSymbols
-unfolding pair_form close a_token
+unfolding pair_form a_token
 pair_gives at w = λ x p y q c. paired_has at w x y p q
 
 triple_gives : (at : ℕ) (w : Triple) → Gives (triple_form at w) CallsSymbols
-unfolding triple_form close a_token
+unfolding triple_form a_token
 triple_gives at w = λ x p y q z r c. tripled_has at w x y z p q r
 
 float_gives : (at word_at : ℕ) → Gives (float_form at word_at) CallsSymbols
@@ -285,7 +285,7 @@ unfolding switch_form a_token
 switch_gives at = λ size selector p c. record { first = case_gives; second = λ a others q parts. (p, (q, cases_have others parts)) }
 
 parameters_give : (Q : List Parameter → Type 0) → ((ps : List Parameter) → Q ps) → Gives parameters Q
-unfolding parameters a_parameter a_comp close a_token
+unfolding parameters a_parameter a_comp a_token
 parameters_give Q q = record { first = λ name colon c. tt; second = λ ps parts c. q ps }
 
 label_rest_gives : (name : TokenTree) (Q : HeadPart → Type 0) → ((l : HeadPart) → Q l) → Gives (label_rest name) Q
@@ -313,7 +313,7 @@ catch_gives at = to_with_gives _ (λ body p. record {
 })
 
 exit_gives : (at : ℕ) → Gives (exit_form at) CallsSymbols
-unfolding exit_form exit_rest close a_token
+unfolding exit_form exit_rest a_token
 exit_gives at = record { first = λ name. operands_give _ (λ es parts. row_has es parts); second = λ c. tt }
 
 try_gives : (at : ℕ) → Gives (try_form at) CallsSymbols
@@ -404,7 +404,7 @@ data_fine [] p = tt
 data_fine (d ∷ ds) p = (p.0, data_fine ds p.1)
 
 data_items_give : (at : ℕ) → Gives (data_items at) ItemHas
-unfolding data_items a_data_item close a_token
+unfolding data_items a_data_item a_token
 data_items_give at = record { first = λ w. datum_gives w.value.0 w.value.1 (word_given w); second = λ ds parts c. data_fine ds parts }
 
 function_gives : (at : ℕ) → Gives (a_function at) ItemHas

@@ -1,5 +1,5 @@
 -- What holds of every value that a rule gives, with the number of its tokens, holds of what tokens spell by the rule.
-use Rattle.std.proofs.Common.{◌≡◌, ℕ, ◌+◌, ◌*◌, ◌≤◌, suc, Bool, List, [], ◌∷◌, ◌++◌, length, Option, Some, None, refl, subst, arith, length-append}
+use Rattle.std.proofs.Common.{◌≡◌, ℕ, ◌+◌, suc, List, [], ◌∷◌, ◌++◌, length, Some, None, subst, arith, length-append}
 use Rattle.cmm_lex.specs.Token.{TokenTree}
 use Rattle.cmm_tree.specs.Tree.{Expression, Nothing}
 use Rattle.cmm_grammar.specs.Words.{leaf_of}
@@ -31,7 +31,7 @@ Pays (Repeat s more r) n Q =
     Two (Pays r 0 (PartOf s)) ((values : List (Value s)) (m : ℕ) → PartsOf s values m → Q values (m + n))
 
 -- the same for an equal number
-moved : (Q : ℕ → Type 0) (m n : ℕ) → m ≡ n → Q m → Q n
+pub moved : (Q : ℕ → Type 0) (m n : ℕ) → m ≡ n → Q m → Q n
 moved Q m n e q = subst Q e q
 
 module _ (leaf_measured : (t : TokenTree) (e : Expression) → leaf_of t ≡ Some e → Measured e 1)

@@ -13,7 +13,7 @@ use Rattle.cmm_data.proofs.Laws.{end_of_items-above, end_of_data-first_memory}
 use Rattle.cmm_tree.specs.Tree.{FunctionTree, DataListTree, FileTree, functions}
 use Rattle.image_form.specs.Image.{stub}
 use Rattle.image_form.specs.Tables.{Tables}
-use Rattle.image_rules.proofs.Placed.{end_of_lists-above, data_length}
+use Rattle.image_rules.proofs.Placed.{cells_enough, items_length, end_of_lists-above, data_length}
 use Rattle.layout_rules.specs.declared.form.Form.{Form}
 use Rattle.layout_rules.specs.Conditions.{IsFileLaid}
 use Rattle.layout_rules.specs.Forms.{total_words}
@@ -29,9 +29,9 @@ use Rattle.rv_machine.specs.Relocation as machine
 use Rattle.rv_machine.specs.Start.{data_region, start_memory}
 use Rattle.rv_pieces.specs.declared.piece.Pieces.{Pieces}
 use Rattle.accepted_files.specs.Given.{HasGivenData}
-use Rattle.first_statics.proofs.Cells.{IsCell, cells_enough}
+use Rattle.first_statics.proofs.Cells.{IsCell}
 use Rattle.first_statics.proofs.Found.{value_at, static_is, word, IsFound, found, IsRootValue, root_found, root_low, both_true}
-use Rattle.first_statics.proofs.Lists.{AreSound, file_sound, first_sound, items_length, words_from, data_words}
+use Rattle.first_statics.proofs.Lists.{AreSound, file_sound, first_sound, words_from, data_words}
 
 -- ---- functions
 

@@ -17,13 +17,13 @@ use Rattle.cmm_data.proofs.Laws.{end_of_items-above}
 use Rattle.cmm_data.proofs.Steps.{length-bytes_at}
 use Rattle.cmm_data.proofs.Walk.{sound-first}
 use Rattle.cmm_tree.specs.Tree.{DatumTree, Val, Address, DataItemTree, DataListTree, FileTree, functions}
-use Rattle.image_rules.proofs.Placed.{end_of_lists-above}
+use Rattle.image_rules.proofs.Placed.{cells_enough, items_length, end_of_lists-above}
 use Rattle.layout_rules.specs.Laid.{address_of_place}
 use Rattle.linear_machine.specs.Contents.{static_in}
 use Rattle.moving_laws.specs.Stands.{Among}
 use Rattle.accepted_files.specs.Given.{IsGiven}
-use Rattle.first_statics.proofs.Cells.{IsCell, cells_are, cells_enough, cell_at as cell_behind}
-use Rattle.first_statics.proofs.Lists.{AreSound, IsFirstSound, first_sound, items_length, items_bytes, statics_from, word_at, words_from, own_bytes, own_fill}
+use Rattle.first_statics.proofs.Cells.{IsCell, cells_are, cell_at as cell_behind}
+use Rattle.first_statics.proofs.Lists.{AreSound, IsFirstSound, first_sound, items_bytes, statics_from, word_at, words_from, own_bytes, own_fill}
 use Rattle.first_statics.proofs.Symbols.{IsOfFile, symbol_of_file}
 
 -- ---- the cell at an address, as the first list that has it

@@ -22,11 +22,11 @@ end_of_lists-above end (d ∷ lists) =
 -- ---- the bytes of cells
 
 -- The cells of bytes, eight each, hold them all, and no cell more.
-record AreEnough (bytes cells : ℕ) : Type 0 where
-  all : bytes ≤ 8 * cells
-  no_more : 8 * cells < bytes + 8
+pub record AreEnough (bytes cells : ℕ) : Type 0 where
+  pub all : bytes ≤ 8 * cells
+  pub no_more : 8 * cells < bytes + 8
 
-cells_enough : (bs : List DataByte) → AreEnough (length bs) (length (cells_of bs))
+pub cells_enough : (bs : List DataByte) → AreEnough (length bs) (length (cells_of bs))
 cells_enough [] = record { all = omega arith; no_more = omega arith }
 cells_enough (a ∷ []) = record { all = omega arith; no_more = omega arith }
 cells_enough (a ∷ b ∷ []) = record { all = omega arith; no_more = omega arith }
@@ -39,7 +39,7 @@ cells_enough (a ∷ b ∷ c ∷ d ∷ e ∷ f ∷ g ∷ h ∷ rest) =
     let more = cells_enough rest in
     record { all = omega (arith, more.all); no_more = omega (arith, more.no_more) }
 
-items_length : (symbols : List ℕ → Option Value) (address : ℕ) (items : List DataItemTree) →
+pub items_length : (symbols : List ℕ → Option Value) (address : ℕ) (items : List DataItemTree) →
     address + length (bytes_of_items symbols (items_from address items)) ≡ end_of_items address items
 items_length symbols address [] = omega arith
 items_length symbols address (i ∷ items) =

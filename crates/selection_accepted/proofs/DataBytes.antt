@@ -9,14 +9,14 @@ use Rattle.cmm_lex.specs.Lexing.{Splits, ended, gap, token, stopped}
 use Rattle.cmm_lex.specs.Strings.{coded, is_code, escaped, unescaped, behind_backslash, string_bytes}
 use Rattle.cmm_lex.proofs.Languages.{AreBytes}
 use Rattle.cmm_lex.proofs.Scans.{AreBytes-back, AreBytes-front}
-use Rattle.cmm_tree.specs.Tree.{Expression, DatumTree, Text, Define, Byte, Half, Int, Val, Address, Skip, Align, Global, AFloat, DataItemTree, DataListTree, ItemTree, Parameter}
+use Rattle.cmm_tree.specs.Tree.{Expression, DatumTree, Text, Define, Byte, Half, Int, Val, Address, Skip, Align, Global, DataItemTree, ItemTree}
 use Rattle.cmm_tree.specs.Tree as tree
 use Rattle.cmm_grammar.specs.declared.word.DataWord.{DataWord}
 use Rattle.cmm_grammar.specs.declared.word.DataWord.TheVariants as item
 use Rattle.cmm_grammar.specs.Parts.{ItemPart, FunctionItem, DataItem, item_of}
 use Rattle.cmm_grammar.specs.Words.{passing, is_symbol_token, is_integer, is_string}
 use Rattle.cmm_grammar.specs.Rule.{Sort, Value, ADataItem, AnItem, Listed, Rule, Give, One, Then, Expr, Inside, InsideOr, LabelledOr, Until, Maybe, Repeat}
-use Rattle.cmm_grammar.specs.Grammar.{a_token, close, a_comp, operands, sequence_to_close, a_parameter, parameters, a_data_integer, datum_of, a_data_item, data_items, data_list, a_function, item_rest, an_item}
+use Rattle.cmm_grammar.specs.Grammar.{a_token, a_comp, operands, sequence_to_close, a_parameter, parameters, a_data_integer, datum_of, a_data_item, data_items, data_list, a_function, item_rest, an_item}
 use Rattle.cmm_grammar.specs.Spelling as spelling
 use Rattle.cmm_grammar.specs.Spelling.{Spells, AreItems, nothing, both, leaf, brackets, parenthesis, inside, inside_first, not_inside, labelled, not_labelled, one_more, present, absent, last, another, none, more}
 use Rattle.selection_accepted.proofs.Given.{Two}
@@ -179,11 +179,11 @@ data_bytes [] p = tt
 data_bytes (d ∷ ds) p = (p.0, data_bytes ds p.1)
 
 data_items_make : (at : ℕ) → Makes (data_items at) ItemBytes
-unfolding data_items a_data_item close a_token
+unfolding data_items a_data_item a_token
 data_items_make at = record { first = λ t b w e. datum_makes w.0 w.1; second = λ ds parts t b c e. data_bytes ds parts }
 
 function_makes : (at : ℕ) → Makes (a_function at) ItemBytes
-unfolding a_function parameters a_parameter a_comp sequence_to_close operands close a_token
+unfolding a_function parameters a_parameter a_comp sequence_to_close operands a_token
 function_makes at = λ t b name e place. record {
   first = λ u x v y w z p q r s i j. tt;
   second = λ ps parts u x c y body. record { first = λ e. tt; second = λ es others u x c y. tt };

@@ -9,7 +9,7 @@ use Rattle.cmm_lex.specs.Strings.{string_bytes}
 use Rattle.cmm_lex.specs.declared.token.TokenKind.{TokenKind}
 use Rattle.cmm_lex.specs.declared.token.TokenKind.TheVariants as kind
 use Rattle.cmm_lex.specs.declared.token.Keyword.TheVariants as word
-use Rattle.cmm_tree.specs.Tree.{Expression, Integer, Pointer, Symbol, Name, Nothing, Float, Let, Assign, Operator, Load, Store, Alloc, App, Extcall, Checkbound, Raise, Seq, If, Switch, Catch, Exit, Try, Expressions, NoMore, More, Bare, Index, Parameter, FunctionTree, ItemTree, functions_among}
+use Rattle.cmm_tree.specs.Tree.{Expression, Integer, Pointer, Symbol, Name, Float, Let, Assign, Operator, Load, Store, Alloc, App, Extcall, Checkbound, Raise, Seq, If, Switch, Catch, Exit, Try, Expressions, NoMore, Bare, Index, Parameter, FunctionTree, ItemTree, functions_among}
 use Rattle.cmm_tree.specs.Tree as tree
 use Rattle.cmm_types.proofs.Containing.{contains_none, contains_cases}
 use Rattle.cmm_grammar.specs.declared.word.Head.{Head}
@@ -26,7 +26,7 @@ use Rattle.cmm_grammar.specs.Parts.{ResultPart, BindingPart, CasePart, HandlerPa
 use Rattle.cmm_grammar.specs.Rewriting.{element_by, element, turn_by, turn}
 use Rattle.cmm_grammar.specs.Words.{leaf_of, word_of}
 use Rattle.cmm_grammar.specs.Rule.{AnExpression, ABinding, ACase, AHandler, AnItem, Rule}
-use Rattle.cmm_grammar.specs.Grammar.{a_token, close, a_comp, a_result, operands, sequence_to_close, sequence_to_with, a_binding, a_mutable_binding, bindings_to_close, let_body, let_form, assign_form, arguments_of, app_form, extcall_rest, extcall_form, alloc_form, loaded, stored, load_rest, store_rest, chunk_rest, chunked, load_form, store_form, paired, tripled, raise_form, pair_form, triple_form, float_form, seq_form, while_form, case_number, another_number, case_body, a_case, switch_form, a_parameter, parameters, label_rest, handler_rest, a_label, next_handler, more_handlers, labelled_handlers, bare_handler, catch_form, exit_rest, exit_form, try_form, form_of, form, a_data_integer, datum_of, a_data_item, data_items, data_list, a_function, item_rest, an_item}
+use Rattle.cmm_grammar.specs.Grammar.{a_token, a_comp, a_result, operands, sequence_to_close, sequence_to_with, a_binding, a_mutable_binding, bindings_to_close, let_body, let_form, assign_form, arguments_of, app_form, extcall_rest, extcall_form, alloc_form, loaded, stored, load_rest, store_rest, chunk_rest, chunked, load_form, store_form, paired, tripled, raise_form, pair_form, triple_form, float_form, seq_form, while_form, case_number, another_number, case_body, a_case, switch_form, a_parameter, parameters, label_rest, handler_rest, a_label, next_handler, more_handlers, labelled_handlers, bare_handler, catch_form, exit_rest, exit_form, try_form, form_of, form, a_data_integer, datum_of, a_data_item, data_items, data_list, a_function, item_rest, an_item}
 use Rattle.cmm_grammar.specs.Spelling.{Spells, AreItems, none, more}
 use Rattle.std.specs.Prelude.{Contains}
 use Rattle.cmm_tree.specs.Place.{place_of}
@@ -88,7 +88,7 @@ module _ (d : ℕ) where
   sequence_has at e (f ∷ es) p q = let others = row_has (f ∷ es) q in omega (arith, p, others)
 
   operands_give : (Q : List Expression → Type 0) → ((es : List Expression) → PartsHave d AnExpression es → Q es) → Gives d operands Q
-  unfolding operands close a_token
+  unfolding operands a_token
   operands_give Q q = record { first = λ e p. p; second = λ es parts c. q es parts }
 
   to_close_gives : (Q : Expression → Type 0) → ((e : Expression) → tries_in e ≤ d → Q e) → Gives d sequence_to_close Q
@@ -117,7 +117,7 @@ module _ (d : ℕ) where
   let_body_gives at bs parts = to_close_gives _ (λ e p. let others = bound_has bs parts in omega (arith, p, others))
 
   let_gives : (at : ℕ) (r : Rule ABinding) → BindingsGive r → Gives d (let_form at r) Out
-  unfolding let_form bindings_to_close close a_token
+  unfolding let_form bindings_to_close a_token
   let_gives at r gives = record {
     first = λ place.
         gives _ (λ b p. record { first = gives (PartHas d ABinding) (λ b p. p); second = λ bs parts c. let_body_gives at (b ∷ bs) (p, parts) });
@@ -125,7 +125,7 @@ module _ (d : ℕ) where
   }
 
   assign_gives : (at : ℕ) → Gives d (assign_form at) Out
-  unfolding assign_form close a_token
+  unfolding assign_form a_token
   assign_gives at = λ name v p c. omega (arith, p)
 
   -- ---- calls
@@ -133,7 +133,7 @@ module _ (d : ℕ) where
   arguments_give : (made : Expressions → ResultPart → Expression) →
       ((es : List Expression) (r : ResultPart) → tries_in_row (expressions es) ≤ d → Out (made (expressions es) r)) →
       Gives d (arguments_of made) Out
-  unfolding arguments_of a_result close a_token
+  unfolding arguments_of a_result a_token
   arguments_give made q = record { first = λ e p. p; second = λ es parts r c. q es r (row_has es parts) }
 
   app_gives : (at : ℕ) → Gives d (app_form at) Out
@@ -163,11 +163,11 @@ module _ (d : ℕ) where
   stored_has at (Some w) chunk_at x y p q = omega (arith, p, q)
 
   load_rest_gives : (at : ℕ) (c : Option Chunk) (chunk_at : ℕ) → Gives d (load_rest at c chunk_at) Out
-  unfolding load_rest close a_token
+  unfolding load_rest a_token
   load_rest_gives at c chunk_at = λ x p u. loaded_has at c chunk_at x p
 
   store_rest_gives : (at : ℕ) (c : Option Chunk) (chunk_at : ℕ) → Gives d (store_rest at c chunk_at) Out
-  unfolding store_rest close a_token
+  unfolding store_rest a_token
   store_rest_gives at c chunk_at = λ x p y q u. stored_has at c chunk_at x y p q
 
   chunk_rest_gives : (w : ChunkWord) (k : Option Chunk → Rule AnExpression) → ((c : Option Chunk) → Gives d (k c) Out) → Gives d (chunk_rest w k) Out
@@ -213,15 +213,15 @@ module _ (d : ℕ) where
   tripled_has at (triple.SetElement c) x y z p q r = let here = element_has at x y p q in omega (arith, here, r)
 
   raise_gives : (at : ℕ) → Gives d (raise_form at) Out
-  unfolding raise_form close a_token
+  unfolding raise_form a_token
   raise_gives at = λ x p c. omega (arith, p)
 
   pair_gives : (at : ℕ) (w : Pair) → Gives d (pair_form at w) Out
-  unfolding pair_form close a_token
+  unfolding pair_form a_token
   pair_gives at w = λ x p y q c. paired_has at w x y p q
 
   triple_gives : (at : ℕ) (w : Triple) → Gives d (triple_form at w) Out
-  unfolding triple_form close a_token
+  unfolding triple_form a_token
   triple_gives at w = λ x p y q z r c. tripled_has at w x y z p q r
 
   float_gives : (at word_at : ℕ) → Gives d (float_form at word_at) Out
@@ -266,7 +266,7 @@ module _ (d : ℕ) where
   }
 
   parameters_give : (Q : List Parameter → Type 0) → ((ps : List Parameter) → Q ps) → Gives d parameters Q
-  unfolding parameters a_parameter a_comp close a_token
+  unfolding parameters a_parameter a_comp a_token
   parameters_give Q q = record { first = λ name colon c. tt; second = λ ps parts c. q ps }
 
   label_rest_gives : (name : TokenTree) (Q : HeadPart → Type 0) → ((l : HeadPart) → Q l) → Gives d (label_rest name) Q
@@ -296,7 +296,7 @@ module _ (d : ℕ) where
   })
 
   exit_gives : (at : ℕ) → Gives d (exit_form at) Out
-  unfolding exit_form exit_rest close a_token
+  unfolding exit_form exit_rest a_token
   exit_gives at = record { first = λ name. operands_give _ (λ es parts. let row = row_has es parts in omega (arith, row)); second = λ c. omega arith }
 
   -- here one nests more
@@ -350,7 +350,7 @@ module _ (d : ℕ) where
   datum_gives t item.Float = λ c. tt
 
   data_items_give : (at : ℕ) → Gives d (data_items at) (ItemHas d)
-  unfolding data_items a_data_item close a_token
+  unfolding data_items a_data_item a_token
   data_items_give at = record { first = λ w. datum_gives w.0 w.1; second = λ ds parts c. tt }
 
   function_gives : (at : ℕ) → Gives d (a_function at) (ItemHas d)

@@ -1,5 +1,5 @@
 -- What holds of every value that a rule gives, with the bytes of its tokens, holds of what tokens spell by the rule.
-use Rattle.std.proofs.Common.{◌≡◌, ℕ, ◌+◌, ◌≤◌, suc, List, [], ◌∷◌, ◌++◌, Some, None, subst, arith}
+use Rattle.std.proofs.Common.{◌≡◌, ℕ, ◌+◌, ◌≤◌, suc, List, [], ◌∷◌, ◌++◌, Some, None, arith}
 use Rattle.cmm_lex.specs.Token.{TokenTree}
 use Rattle.cmm_tree.specs.Measures.{total}
 use Rattle.cmm_tree.specs.Tree.{Expression, Nothing}
@@ -7,6 +7,7 @@ use Rattle.cmm_grammar.specs.Parts.{ItemPart, FunctionItem, DataItem}
 use Rattle.cmm_grammar.specs.Words.{leaf_of}
 use Rattle.cmm_grammar.specs.Rule.{Sort, Value, AnExpression, ABinding, ACase, AHandler, ADataItem, AnItem, Listed, Rule, Give, One, Then, Expr, Inside, InsideOr, LabelledOr, Until, Maybe, Repeat}
 use Rattle.cmm_grammar.specs.Grammar.{form}
+use Rattle.cmm_grammar.proofs.Paid.{moved}
 use Rattle.cmm_grammar.specs.Spelling as spelling
 use Rattle.cmm_grammar.specs.Spelling.{Spells, nothing, both, leaf, brackets, parenthesis, inside, inside_first, not_inside, labelled, not_labelled, one_more, present, absent, last, another}
 use Rattle.text_sizes.specs.Measures.{call_bytes, datum_bytes, list_bytes}
@@ -61,9 +62,6 @@ pub record UpTo (n : ℕ) (Q : ℕ → Type 0) : Type 0 where
 
 further : {Q : ℕ → Type 0} (m n : ℕ) → m ≤ n → UpTo m Q → UpTo n Q
 further m n le u = let few = u.few in record { bytes = u.bytes; few = omega (arith, few, le); so = u.so }
-
-moved : (Q : ℕ → Type 0) (m n : ℕ) → m ≡ n → Q m → Q n
-moved Q m n e q = subst Q e q
 
 module _ (leaf_weighed : (t : TokenTree) (e : Expression) → leaf_of t ≡ Some e → Weighed e 1)
     (form_takes : (at : ℕ) → Takes (form at) 1 Weighed) where
