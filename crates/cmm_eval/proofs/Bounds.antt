@@ -1,18 +1,16 @@
 -- The bindings of an activation, which the code keeps the other way round.
-use Rattle.std.proofs.Common.{◌≡◌, ◌∙◌, ℕ, suc, ◌+◌, ◌-◌, ◌<◌, ◌≤◌, Bool, true, false, cond, List, [], ◌∷◌, ◌++◌, Option, Some, None, length, map, take, drop, get_or, set, refl, ap, sym, append_assoc, arith, length-drop, drop-cons}
+use Rattle.std.proofs.Common.{◌≡◌, ◌∙◌, ℕ, suc, ◌+◌, ◌-◌, ◌<◌, ◌≤◌, Bool, true, false, not, cond, List, [], ◌∷◌, ◌++◌, Option, Some, None, length, map, option_map, take, drop, get_or, set, refl, ap, sym, append_assoc, arith, length-drop, drop-cons}
 use Rattle.std.specs.Prelude.{reverse, bytes_eq, IsTrue, ◌↔◌}
 use Rattle.std.proofs.lemmas.List.{reverse-append, length-reverse, length-map, map-append, take-append-drop, take_more, set_split}
 use Rattle.std.proofs.lemmas.Bool.Decides.{same_from_decides}
 use Rattle.std.proofs.lemmas.Slice.Eq.{bytes_eq-Decides}
 use Rattle.std.proofs.Math.Seq.{drop-append_seam}
-use Rattle.bs_words.specs.declared.types.Ty.{Ty}
 use Rattle.bs_words.specs.declared.types.Ty.TheVariants.{Never}
 use Rattle.bs_words.specs.declared.values.Value.{Value}
-use Rattle.cmm_types.specs.Types.{type_named, first_type}
-use Rattle.cmm_types.specs.Light.{is_immutable, first_is_immutable}
-use Rattle.std.proofs.Common.{not}
-use Rattle.cmm_meaning.specs.State.{Binding, value_of, assigned}
-use Rattle.cmm_eval.specs.Innermost.{innermost}
+use Rattle.cmm_types.specs.Types.{binding_of, type_bound_by, type_named}
+use Rattle.cmm_types.specs.Light.{is_immutable, is_fixed}
+use Rattle.cmm_types.proofs.Bindings.{bound_among}
+use Rattle.cmm_meaning.specs.State.{Binding, innermost, value_of, assigned}
 use Rattle.cmm_eval.specs.Views.{bound_view, bounds_view}
 use Rattle.cmm_eval.specs.declared.here.Bound.{Bound}
 
@@ -49,67 +47,31 @@ bounds_take level xs =
 
 -- ---- the innermost binding of a name
 
-value_pick : (t : Bool) (c b : Binding) (rest : Option Binding) (others : Option Value) → cond t (Some c) rest ≡ Some b →
-    (rest ≡ Some b → others ≡ Some b.value) → cond t (Some c.value) others ≡ Some b.value
-value_pick true c b rest others h k = let e : c ≡ b = cc in ap (λ (b : Binding). Some b.value) e
-value_pick false c b rest others h k = k h
-
 pub value_some : (names : List Binding) (x : List ℕ) (b : Binding) → innermost names x ≡ Some b → value_of names x ≡ Some b.value
-value_some [] x b h = cc
-value_some (c ∷ rest) x b h = value_pick (bytes_eq c.scoped.name x) c b (innermost rest x) (value_of rest x) h (value_some rest x b)
-
-value_skip : (t : Bool) (c : Binding) (rest : Option Binding) (others : Option Value) → cond t (Some c) rest ≡ None →
-    (rest ≡ None → others ≡ None) → cond t (Some c.value) others ≡ None
-value_skip true c rest others h k = cc
-value_skip false c rest others h k = k h
+value_some names x b h = ap (option_map (λ (c : Binding). c.value)) h
 
 pub value_none : (names : List Binding) (x : List ℕ) → innermost names x ≡ None → value_of names x ≡ None
-value_none [] x h = refl
-value_none (c ∷ rest) x h = value_skip (bytes_eq c.scoped.name x) c (innermost rest x) (value_of rest x) h (value_none rest x)
+value_none names x h = ap (option_map (λ (c : Binding). c.value)) h
 
-type_pick : (t : Bool) (c b : Binding) (rest : Option Binding) (others : Ty) → cond t (Some c) rest ≡ Some b →
-    (rest ≡ Some b → others ≡ b.scoped.type) → first_type t c.scoped.type others ≡ b.scoped.type
-type_pick true c b rest others h k = let e : c ≡ b = cc in ap (λ (b : Binding). b.scoped.type) e
-type_pick false c b rest others h k = k h
+bound_as : (names : List Binding) (x : List ℕ) (o : Option Binding) → innermost names x ≡ o →
+    binding_of (map (λ (c : Binding). c.scoped) names) x ≡ option_map (λ (c : Binding). c.scoped) o
+bound_as names x o h = bound_among (λ (c : Binding). c.scoped) names x ∙ ap (option_map (λ (c : Binding). c.scoped)) h
 
 pub type_some : (names : List Binding) (x : List ℕ) (b : Binding) → innermost names x ≡ Some b →
-    type_named (map (λ (b : Binding). b.scoped) names) x ≡ b.scoped.type
-type_some [] x b h = cc
-type_some (c ∷ rest) x b h =
-    type_pick (bytes_eq c.scoped.name x) c b (innermost rest x) (type_named (map (λ (b : Binding). b.scoped) rest) x) h (type_some rest x b)
-
-type_skip : (t : Bool) (c : Binding) (rest : Option Binding) (others : Ty) → cond t (Some c) rest ≡ None →
-    (rest ≡ None → others ≡ Never) → first_type t c.scoped.type others ≡ Never
-type_skip true c rest others h k = cc
-type_skip false c rest others h k = k h
+    type_named (map (λ (c : Binding). c.scoped) names) x ≡ b.scoped.type
+type_some names x b h = ap type_bound_by (bound_as names x (Some b) h)
 
 pub type_none : (names : List Binding) (x : List ℕ) → innermost names x ≡ None →
-    type_named (map (λ (b : Binding). b.scoped) names) x ≡ Never
-type_none [] x h = refl
-type_none (c ∷ rest) x h =
-    type_skip (bytes_eq c.scoped.name x) c (innermost rest x) (type_named (map (λ (b : Binding). b.scoped) rest) x) h (type_none rest x)
-
-immutable_pick : (t : Bool) (c b : Binding) (rest : Option Binding) (others : Bool) → cond t (Some c) rest ≡ Some b →
-    (rest ≡ Some b → others ≡ not b.scoped.mutable) → first_is_immutable t c.scoped.mutable others ≡ not b.scoped.mutable
-immutable_pick true c b rest others h k = let e : c ≡ b = cc in ap (λ (b : Binding). not b.scoped.mutable) e
-immutable_pick false c b rest others h k = k h
+    type_named (map (λ (c : Binding). c.scoped) names) x ≡ Never
+type_none names x h = ap type_bound_by (bound_as names x None h)
 
 pub immutable_some : (names : List Binding) (x : List ℕ) (b : Binding) → innermost names x ≡ Some b →
-    is_immutable (map (λ (b : Binding). b.scoped) names) x ≡ not b.scoped.mutable
-immutable_some [] x b h = cc
-immutable_some (c ∷ rest) x b h =
-    immutable_pick (bytes_eq c.scoped.name x) c b (innermost rest x) (is_immutable (map (λ (b : Binding). b.scoped) rest) x) h (immutable_some rest x b)
-
-immutable_skip : (t : Bool) (c : Binding) (rest : Option Binding) (others : Bool) → cond t (Some c) rest ≡ None →
-    (rest ≡ None → others ≡ false) → first_is_immutable t c.scoped.mutable others ≡ false
-immutable_skip true c rest others h k = cc
-immutable_skip false c rest others h k = k h
+    is_immutable (map (λ (c : Binding). c.scoped) names) x ≡ not b.scoped.mutable
+immutable_some names x b h = ap is_fixed (bound_as names x (Some b) h)
 
 pub immutable_none : (names : List Binding) (x : List ℕ) → innermost names x ≡ None →
-    is_immutable (map (λ (b : Binding). b.scoped) names) x ≡ false
-immutable_none [] x h = refl
-immutable_none (c ∷ rest) x h =
-    immutable_skip (bytes_eq c.scoped.name x) c (innermost rest x) (is_immutable (map (λ (b : Binding). b.scoped) rest) x) h (immutable_none rest x)
+    is_immutable (map (λ (c : Binding). c.scoped) names) x ≡ false
+immutable_none names x h = ap is_fixed (bound_as names x None h)
 
 -- ---- the search for it from the innermost on
 

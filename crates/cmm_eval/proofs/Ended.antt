@@ -1,7 +1,6 @@
 -- What frames do with how the evaluation in them ends.
 use Rattle.std.proofs.Common.{◌≡◌, ◌∙◌, ℕ, zero, suc, Bool, true, false, cond, not, List, [], ◌∷◌, ◌++◌, Option, Some, None, Result, Ok, Err, length, refl, ap, sym, subst, Vec, Box, Global}
 use Rattle.std.specs.Prelude.{if◌then◌else◌, IfOk, reverse, nat_lt}
-use mathlib.Core.Former.{Count}
 use Rattle.std.proofs.lemmas.List.{length-reverse, length-map}
 use Rattle.std.specs.Borrow.{Bor}
 use Rattle.bs_words.specs.declared.types.Ret.{Ret}
@@ -10,6 +9,7 @@ use Rattle.bs_words.specs.Operators.{word_in}
 use Rattle.bs_words.specs.declared.values.Kind.{Kind}
 use Rattle.bs_words.specs.declared.values.Kind.TheVariants.{SwitchRange}
 use Rattle.bs_words.specs.declared.values.Value.{Value}
+use Rattle.cmm_tree.proofs.Rows.{cases_in}
 use Rattle.cmm_tree.specs.declared.expr.Binding.{Binding}
 use Rattle.cmm_tree.specs.declared.expr.Case.{Case}
 use Rattle.cmm_tree.specs.declared.expr.Expr.{Expr}
@@ -109,10 +109,6 @@ first_is_bound s end bindings b rest v h here w kind is-bindings is-end bind =
     ∙ sym (ap (λ (l : List Binding). first_bound s l v h w) is-bindings)
 
 -- ---- switches
-
-abbrev cases_in : Form → (n : Count) × form.Row_of-Case n
-cases_in (form.Switch' size_at size p at type selector _ row) = (_, row)
-cases_in _ = (_, form.end_of-Case)
 
 -- a number below the size chooses a case
 pub switch_chooses : (s : Surroundings) (size_at size : ℕ) (selector : Box Expr Global) (cases : Vec Case Global) (tail : Bool) (v : Value) (h : Here) (w : World) (k : ℕ) →

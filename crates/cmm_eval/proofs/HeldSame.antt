@@ -19,17 +19,12 @@ use Rattle.cmm_types.specs.Annotated.{PartsTyped, RowTyped, BindingsTyped, Cases
 use Rattle.cmm_types.specs.Light.{is_light_address}
 use Rattle.cmm_types.specs.Types.{Scoped, type_of, type_named, type_bound, with_bindings, with_parameters}
 use Rattle.cmm_meaning.specs.State.{World, Here, taken, within_try, scope, value_of, assigned, deepened}
-use Rattle.cmm_meaning.specs.Evaluation.{NotProper, Surroundings, tested, is_left_first, bound_error, rest_of, first_of, with_bound, comp_of_argument, comps_of_arguments, row_of_call, back_from_call, as_written, and_then, evaluated, waiting, filled, entering, in_order, choices, readied}
-use Rattle.cmm_eval.specs.Held.{comps_held, row_held, held, waiting_held, filled_held, bindings_held, in_order_held, choices_held, readied_held}
+use Rattle.cmm_meaning.specs.Evaluation.{NotProper, Surroundings, tested, is_left_first, bound_error, rest_of, first_of, with_bound, comps_of_arguments, row_of_call, back_from_call, as_written, and_then, evaluated, waiting, filled, entering, in_order, choices, readied}
+use Rattle.cmm_meaning.specs.Held.{comps_held}
+use Rattle.cmm_meaning.proofs.Held.{comps_same}
+use Rattle.cmm_eval.specs.Held.{row_held, held, waiting_held, filled_held, bindings_held, in_order_held, choices_held, readied_held}
 use Rattle.cmm_eval.proofs.Same.{Same, bound_as, same_node, same_then, same_widen, same_value, same_cond, same_both, same_unless, same_now, same_gives, same_raises, same_exits, same_stops, same_looked, same_tested, same_proper, same_back, same_written, same_applied, level_of, scope_assigned, within_bindings}
 use Rattle.cmm_eval.proofs.HeldChosen.{AllChosenSame, AllReadySame, same_case, same_caught, same_tried}
-
--- the types that arguments hold are those of the scope
-same_comps : {m : _} (names : List Scoped) (row : form.Row_of-Expr m) → RowTyped names row → comps_held row ≡ comps_of_arguments names (row_view row)
-same_comps names form.end_of-Expr t = refl
-same_comps names (form.more_of-Expr at type e rest) t =
-    ap (λ c. c ∷ comps_held rest) (ap comp_of_argument t.0.type)
-    ∙ ap (λ l. comp_of_argument (type_of names (form_view at e)) ∷ l) (same_comps names rest t.1)
 
 -- an external call
 same_outside : {m : _} (s : Surroundings) (names : List Scoped) (name : List ℕ) (row : form.Row_of-Expr m) → RowTyped names row →
@@ -42,7 +37,7 @@ same_outside s names name row t result frame values h w e =
     λ params. Same names names
     (and_then (back_from_call h (s.external (row_held name row result) frame values w)) (λ v h w. as_written result v h w))
     (and_then (back_from_call h (s.external (record { name = name; params = params; result = result }) frame values w)) (λ v h w. as_written result v h w)) in
-    subst P (same_comps names row t ∙ ap (λ n. comps_of_arguments n (row_view row)) (sym e))
+    subst P (comps_same names row t ∙ ap (λ n. comps_of_arguments n (row_view row)) (sym e))
     (same_written result h (s.external (row_held name row result) frame values w) e)
 
 mutual

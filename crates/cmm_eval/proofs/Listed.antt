@@ -5,6 +5,7 @@ use Rattle.std.proofs.lemmas.List.{drop_all}
 use Rattle.bs_words.specs.declared.values.Value.{Value}
 use Rattle.cmm_tree.specs.Tree.{LabelTree}
 use Rattle.cmm_tree.specs.View.{index_view}
+use Rattle.cmm_tree.proofs.Rows.{row_in, bindings_in, handlers_in}
 use Rattle.cmm_tree.specs.declared.expr.Expr.{Expr}
 use Rattle.cmm_tree.specs.declared.expr.Binding.{Binding}
 use Rattle.cmm_tree.specs.declared.expr.Case.{Case}
@@ -50,14 +51,6 @@ in_order_is s n (form.more_of-Expr at type f (form.more_of-Expr next next_type g
     (λ _ h w. in_order_held s (form.more_of-Expr next next_type g rest) tail h w)
     (λ _ h w. elements_from s (form.items-the_row-Expr _ (form.more_of-Expr next next_type g rest)) tail h w)
     (λ _ h w. in_order_is s _ (form.more_of-Expr next next_type g rest) tail h w)
-
-abbrev row_in : Form → (n : Count) × form.Row_of-Expr n
-row_in (form.Seq' _ row) = (_, row)
-row_in _ = (_, form.end_of-Expr)
-
-abbrev bindings_in : Form → (n : Count) × form.Row_of-Binding n
-bindings_in (form.Let' _ row p at ty f) = (_, row)
-bindings_in _ = (_, form.end_of-Binding)
 
 pub sequence_is : (s : Surroundings) (v : Vec Expr Global) (tail : Bool) (h : Here) (w : World) →
     inside s (form.Seq v) tail h w ≡ elements_from s v.items tail h w
@@ -133,10 +126,6 @@ readied_is s n form.end_of-Handler tail = refl
 readied_is s n (form.more_of-Handler at label params body_at type f rest) tail =
     ap (λ l. handler_ready s tail (record { at = at; label = label; params = params; body = record { at = body_at; ty = type; form = f } }) ∷ l)
     (readied_is s _ rest tail)
-
-abbrev handlers_in : Form → (n : Count) × form.Row_of-Handler n
-handlers_in (form.Catch' p at ty f _ row) = (_, row)
-handlers_in _ = (_, form.end_of-Handler)
 
 pub handlers_is : (s : Surroundings) (b : Box Expr Global) (v : Vec Handler Global) (tail : Bool) →
     handlers_of s (form.Catch b v) tail ≡ handlers_ready s tail v.items

@@ -1,5 +1,6 @@
 -- Parameters of a function or a handler, and values for them, one after the other.
-use Rattle.std.proofs.Common.{◌≡◌, ◌∙◌, ℕ, suc, ◌+◌, ◌<◌, ◌&&◌, Bool, true, false, List, [], ◌∷◌, map, length, drop, get_or, min, refl, ap, sym, add-one, arith, drop-cons}
+use Rattle.std.proofs.Common.{◌≡◌, ◌∙◌, ℕ, suc, ◌+◌, ◌<◌, ◌&&◌, true, false, List, [], ◌∷◌, map, length, drop, get_or, min, refl, ap, sym, add-one, arith, drop-cons}
+use Rattle.std.proofs.Math.Bool.{and-false}
 use Rattle.bs_words.specs.Fits.{fits, type_of_comp}
 use Rattle.bs_words.specs.declared.types.Comp.{Comp}
 use Rattle.bs_words.specs.declared.values.Kind.TheVariants.{BadCall}
@@ -13,17 +14,13 @@ use Rattle.cmm_meaning.specs.Evaluation.{NotProper, Evaluation, Stops, tested, f
 abbrev comps : List Param → List Comp
 comps params = map (λ (p : Parameter). p.comp) (params_view params)
 
-and_false : (b : Bool) → (b && false) ≡ false
-and_false true = refl
-and_false false = refl
-
 -- values of another number do not fit
 pub other_number : (end : ℕ) (ps : List Param) (vs : List Value) → (length ps ≡ length vs → ⊥) → fit_parameters end (comps ps) vs ≡ false
 other_number end [] [] h = absurd (h refl)
 other_number end [] (v ∷ vs) h = refl
 other_number end (p ∷ ps) [] h = refl
 other_number end (p ∷ ps) (v ∷ vs) h =
-    ap (λ b. fits end (type_of_comp p.comp) v && b) (other_number end ps vs (λ e. h (ap suc e))) ∙ and_false (fits end (type_of_comp p.comp) v)
+    ap (λ b. fits end (type_of_comp p.comp) v && b) (other_number end ps vs (λ e. h (ap suc e))) ∙ and-false (fits end (type_of_comp p.comp) v)
 
 -- where no more pairs are left
 pub fit_ended : (end : ℕ) (ps : List Param) (vs : List Value) → length ps ≡ 0 → length vs ≡ 0 → fit_parameters end (comps ps) vs ≡ true

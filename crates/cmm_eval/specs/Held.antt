@@ -4,7 +4,6 @@ use Rattle.std.specs.Prelude.{ℕ, suc, Bool, true, false, cond, List, [], ◌�
 use Rattle.bs_words.specs.Memory.{sizes, loaded, stored, allocated, next_block}
 use Rattle.bs_words.specs.Operators.{apply, condition_of, word_in}
 use Rattle.bs_words.specs.External.{External}
-use Rattle.bs_words.specs.declared.types.Comp.{Comp}
 use Rattle.bs_words.specs.declared.types.Ret.{Ret}
 use Rattle.bs_words.specs.declared.types.Ty.{Ty}
 use Rattle.bs_words.specs.declared.types.Ty.TheVariants as ty
@@ -17,8 +16,9 @@ use Rattle.cmm_tree.specs.declared.expr.Form as form
 use Rattle.cmm_types.specs.Light.{is_light_address}
 use Rattle.cmm_types.specs.Types.{Scoped, type_named, type_bound, is_mutable}
 use Rattle.cmm_meaning.specs.State.{World, Here, taken, within_try, scope, value_of, assigned, deepened}
-use Rattle.cmm_meaning.specs.Evaluation.{Body, comp_of_argument, NotProper, Evaluated, Evaluation, Gives, Exits, Raises, Stops, Surroundings, and_then, with_value, proper, begins, tested, typed, both, is_left_first, unless_light, now_or_before, first_of, rest_of, back_from_call, as_written, applied, with_bound, back, caught, tried, chosen, bound_error, looked_up}
+use Rattle.cmm_meaning.specs.Evaluation.{Body, NotProper, Evaluated, Evaluation, Gives, Exits, Raises, Stops, Surroundings, and_then, with_value, proper, begins, tested, typed, both, is_left_first, unless_light, now_or_before, first_of, rest_of, back_from_call, as_written, applied, with_bound, back, caught, tried, chosen, bound_error, looked_up}
 use Rattle.cmm_meaning.specs.Choices.{Ready, Chosen, case_for}
+use Rattle.cmm_meaning.specs.Held.{comps_held}
 
 -- no accepted text has a float, which begins no node
 abbrev pub is_float_form : Form → Bool
@@ -31,10 +31,6 @@ node_held s true type w go = Stops (NotProper BadValue) w
 node_held s false type w go = begins w (λ w. typed s.end type (go w))
 
 -- the row of an external call, by the types that its arguments hold
-abbrev pub comps_held : {m : _} → form.Row_of-Expr m → List Comp
-comps_held form.end_of-Expr = []
-comps_held (form.more_of-Expr at type e rest) = comp_of_argument type ∷ comps_held rest
-
 abbrev pub row_held : {m : _} → List ℕ → form.Row_of-Expr m → Ret → External
 row_held name arguments result =
     record { name = name; params = comps_held arguments; result = result }

@@ -1,5 +1,5 @@
 pub mod Views
-pub mod Innermost
+pub mod Sums
 pub mod Groups
 pub mod Held
 pub mod Meets

@@ -2,11 +2,10 @@
 ghost use Rattle.std.specs.Prelude.{◌≡◌, ◌∷◌, [], IfOk, option_map, option_copied};
 ghost use Rattle.cmm_types.specs.Types.{type_named};
 ghost use Rattle.cmm_types.specs.Light.{is_immutable};
-ghost use Rattle.cmm_meaning.specs.State.{scope, value_of, assigned, back_in, taken};
+ghost use Rattle.cmm_meaning.specs.State.{scope, innermost, value_of, assigned, back_in, taken};
 ghost use Rattle.cmm_meaning.specs.Evaluation.{with_bound};
 ghost use Rattle.cmm_meaning.specs.Run.{nobody};
 ghost use Rattle.cmm_eval.specs.Views.{bound_view, bounds_view, here_view};
-ghost use Rattle.cmm_eval.specs.Innermost.{innermost};
 
 use bs_words::{Name, Ty, Value};
 use std::alloc::{AllocError, Global};

@@ -6,7 +6,7 @@ ghost use Rattle.cmm_types.specs.Light.{is_light, is_light_address, is_light_ope
 ghost use Rattle.cmm_meaning.specs.State.{scope};
 ghost use Rattle.cmm_meaning.specs.Evaluation.{is_left_first};
 ghost use Rattle.cmm_eval.specs.Views.{here_view};
-ghost use Rattle.cmm_eval.specs.Innermost.{is_address_sum};
+ghost use Rattle.cmm_eval.specs.Sums.{is_light_sum};
 
 use crate::here::Here;
 use bs_words::IntOp;
@@ -18,7 +18,7 @@ pub(crate) fn is_light_address(here: &Here<'_>, expr: &Expr) -> bool
 {
     match &expr.form {
         Form::Operator(op, left, right) => {
-            is_address_sum(*op) && (is_light(here, left) && is_light(here, right))
+            is_light_sum(*op) && (is_light(here, left) && is_light(here, right))
         }
         Form::Integer(_)
         | Form::Pointer(_)
@@ -83,8 +83,8 @@ fn is_light(here: &Here<'_>, expr: &Expr) -> bool
     }
 }
 
-fn is_address_sum(op: IntOp) -> bool
-    ensures { result ≡ is_address_sum op }
+fn is_light_sum(op: IntOp) -> bool
+    ensures { result ≡ is_light_sum op }
 {
     match op {
         IntOp::AddA => true,

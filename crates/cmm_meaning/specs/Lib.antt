@@ -6,3 +6,4 @@ pub mod Setting
 pub mod Run
 pub mod Alone
 pub mod Extends
+pub mod Held

@@ -1,5 +1,5 @@
 -- What a run of a text keeps: one part never goes back, the other belongs to one activation.
-use Rattle.std.specs.Prelude.{ℕ, suc, ◌+◌, ◌-◌, ◌*◌, Bool, false, cond, List, [], ◌∷◌, Option, Some, None, bytes_eq, max, map, length, drop}
+use Rattle.std.specs.Prelude.{ℕ, suc, ◌+◌, ◌-◌, ◌*◌, Bool, false, cond, List, [], ◌∷◌, Option, Some, None, option_map, find, bytes_eq, max, map, length, drop}
 use Rattle.bs_words.specs.External.{External}
 use Rattle.bs_words.specs.Memory.{Memory}
 use Rattle.bs_words.specs.Observed.{Made}
@@ -102,10 +102,13 @@ within_try h = record h { tries = suc h.tries }
 abbrev pub scope : Here → List Scoped
 scope h = map (λ (b : Binding). b.scoped) h.names
 
+-- the innermost binding of a name, which stands first
+abbrev pub innermost : List Binding → List ℕ → Option Binding
+innermost names name = find (λ (b : Binding). bytes_eq b.scoped.name name) names
+
 -- the value of a name: that of its innermost binding
 abbrev pub value_of : List Binding → List ℕ → Option Value
-value_of [] name = None
-value_of (b ∷ rest) name = cond (bytes_eq b.scoped.name name) (Some b.value) (value_of rest name)
+value_of names name = option_map (λ (b : Binding). b.value) (innermost names name)
 
 -- the bindings where the innermost one of a name has a new value
 abbrev pub assigned : List Binding → List ℕ → Value → List Binding

@@ -1,4 +1,5 @@
 pub mod Among
+pub mod Bindings
 pub mod Containing
 pub mod Complete
 pub mod Sound

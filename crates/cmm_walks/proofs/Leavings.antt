@@ -1,5 +1,5 @@
 -- Where an exit and a raise lead.
-use Rattle.std.proofs.Common.{◌≡◌, ℕ, suc, ◌<◌, Bool, true, false, not, ◌&&◌, List, [], ◌∷◌, ◌++◌, length, Option, Some, None, refl, sym, ap, ◌∙◌, subst}
+use Rattle.std.proofs.Common.{◌≡◌, ℕ, suc, ◌<◌, Bool, true, false, not, ◌&&◌, cond, List, [], ◌∷◌, ◌++◌, length, Option, Some, None, refl, sym, ap, ◌∙◌, subst}
 use Rattle.std.proofs.lemmas.Option.{same_Some}
 use Rattle.cmm_tree.specs.Tree.{LabelTree, Parameter, same_label, is_bare}
 use Rattle.cmm_tree.specs.View.{expr_view, label_view, params_view}
@@ -8,7 +8,7 @@ use Rattle.cmm_tree.specs.Rows.{handlers_of}
 use Rattle.cmm_walks.specs.Cells.{item_at, scope_at, tasks_at, tasks_in, handler_tasks}
 use Rattle.cmm_walks.specs.Leaving.{rest_in, own_handler, exit_rest, raise_rest}
 use Rattle.cmm_walks.specs.Sound.{IsBelow, HandlersAt, IsHeld, IsSound, LeadsTo}
-use Rattle.cmm_walks.specs.Walks.{Slotted, Task, first_found, handler_for, or_else, behind_exit, behind_raise, parameters_bound, handling}
+use Rattle.cmm_walks.specs.Walks.{Slotted, Task, handler_for, or_else, behind_exit, behind_raise, parameters_bound, handling}
 use Rattle.cmm_walks.specs.declared.items.Item.{Item}
 use Rattle.cmm_walks.specs.declared.items.Item.TheVariants as item
 use Rattle.cmm_walks.proofs.Arena.{item-past, tasks-past}
@@ -31,7 +31,7 @@ find-here label s slot in_handler all behind n t first hs h others e test at =
     let a : (first < n) × (t first ≡ handler_tasks s slot all behind h) × HandlersAt n t (suc first) s slot all behind others = subst P e at in (
       a.0,
       ap (λ (l : List Handler). handler_for label s slot in_handler (handlers_of all) behind (handlers_of l)) e
-          ∙ ap (λ (b : Bool). first_found b (handler_tasks s slot all behind h) (handler_for label s slot in_handler (handlers_of all) behind (handlers_of others))) test
+          ∙ ap (λ (b : Bool). cond b (Some (handler_tasks s slot all behind h)) (handler_for label s slot in_handler (handlers_of all) behind (handlers_of others))) test
           ∙ ap (λ (l : List Task). Some l) (sym a.1),
     )
 
@@ -49,7 +49,7 @@ find-later label s slot in_handler all behind n t first next hs h others found e
     leads-as n t found _ _
     (sym
     (ap (λ (l : List Handler). handler_for label s slot in_handler (handlers_of all) behind (handlers_of l)) e
-    ∙ ap (λ (b : Bool). first_found b (handler_tasks s slot all behind h) (handler_for label s slot in_handler (handlers_of all) behind (handlers_of others))) test))
+    ∙ ap (λ (b : Bool). cond b (Some (handler_tasks s slot all behind h)) (handler_for label s slot in_handler (handlers_of all) behind (handlers_of others))) test))
     (k (subst R (sym q) a.2))
 
 pub own-as : (label : LabelTree) (n : ℕ) (s : ℕ → List Slotted) (t : ℕ → List Task) (x y : Item) (found : Option ℕ) → x ≡ y

@@ -1,34 +1,29 @@
 -- What is found of a name in scope.
-use Rattle.std.proofs.Common.{◌≡◌, ℕ, ◌≤◌, Bool, true, false, not, List, [], ◌∷◌, length, Option, Some, None, refl, sym, ap, ◌∙◌, arith}
+use Rattle.std.proofs.Common.{◌≡◌, ℕ, ◌≤◌, Bool, false, not, cond, List, ◌∷◌, length, Option, Some, None, option_map, refl, sym, ap, ◌∙◌, arith}
 use Rattle.std.specs.Str.{bytes_eq}
+use Rattle.std.proofs.lemmas.Bool.{false_from_ne_true}
 use Rattle.std.proofs.lemmas.Slice.Eq.{bytes_eq-Decides}
 use Rattle.bs_words.specs.declared.types.Ty.{Ty}
 use Rattle.bs_words.specs.declared.types.Ty.TheVariants as ty
-use Rattle.cmm_tree.specs.Symbols.{first_found}
-use Rattle.cmm_types.specs.Types.{type_named, first_type}
-use Rattle.cmm_types.specs.Light.{is_immutable, first_is_immutable}
+use Rattle.cmm_types.specs.Types.{binding_of, type_bound_by, type_named}
+use Rattle.cmm_types.proofs.Bindings.{bound_among}
+use Rattle.cmm_types.specs.Light.{is_immutable, is_fixed}
 use Rattle.cmm_walks.specs.Cells.{item_at, scope_at, scope_in}
 use Rattle.cmm_walks.specs.Found.{found_of, found_in}
 use Rattle.cmm_walks.specs.Sound.{IsSound, IsScope}
-use Rattle.cmm_walks.specs.Walks.{Slotted, names, slot_of, first_slot}
+use Rattle.cmm_walks.specs.Walks.{Slotted, names, slotted_as, slot_of}
 use Rattle.cmm_walks.specs.declared.items.Item.{Item}
 use Rattle.cmm_walks.specs.declared.scopes.Found.{Found}
 use Rattle.cmm_walks.proofs.Arena.{item-past}
 use Rattle.cmm_walks.proofs.Pushed.{scope-is}
 
-pub false_from : (b : Bool) → (b ≡ true → ⊥) → b ≡ false
-false_from true h = absurd (h refl)
-false_from false h = refl
-
-pub not_both : (b : Bool) → b ≡ true → b ≡ false → ⊥
-not_both b p q = cc
-
 pub found-same : (n : Slotted) (rest : List Slotted) (name : List ℕ) → n.scoped.name ≡ name → found_in (n ∷ rest) name ≡ Some (found_of n)
-found-same n rest name e = ap (λ (b : Bool). first_found b (found_of n) (found_in rest name)) ((bytes_eq-Decides n.scoped.name name).1 e)
+found-same n rest name e = ap (λ (b : Bool). option_map found_of (cond b (Some n) (slotted_as rest name))) ((bytes_eq-Decides n.scoped.name name).1 e)
 
 pub found-other : (n : Slotted) (rest : List Slotted) (name : List ℕ) → (n.scoped.name ≡ name → ⊥) → found_in (n ∷ rest) name ≡ found_in rest name
 found-other n rest name h =
-    ap (λ (b : Bool). first_found b (found_of n) (found_in rest name)) (false_from (bytes_eq n.scoped.name name) (λ e. h ((bytes_eq-Decides n.scoped.name name).0 e)))
+    ap (λ (b : Bool). option_map found_of (cond b (Some n) (slotted_as rest name)))
+    (false_from_ne_true (bytes_eq n.scoped.name name) (λ e. h ((bytes_eq-Decides n.scoped.name name).0 e)))
 
 abbrev pub immutable_of : Option Found → Bool
 immutable_of None = false
@@ -39,38 +34,31 @@ type_of_found None = ty.Never
 type_of_found (Some f) = f.ty
 
 abbrev pub slot_of_found : Option Found → Option ℕ
-slot_of_found None = None
-slot_of_found (Some f) = Some f.slot
+slot_of_found found = option_map (λ (f : Found). f.slot) found
 
-immutable-first : (b : Bool) (f : Found) (o : Option Found) → first_is_immutable b f.mutable (immutable_of o) ≡ immutable_of (first_found b f o)
-immutable-first true f o = refl
-immutable-first false f o = refl
+bound-names : (s : List Slotted) (name : List ℕ) → binding_of (names s) name ≡ option_map (λ (n : Slotted). n.scoped) (slotted_as s name)
+bound-names s name = bound_among (λ (n : Slotted). n.scoped) s name
+
+fixed-as : (o : Option Slotted) → is_fixed (option_map (λ (n : Slotted). n.scoped) o) ≡ immutable_of (option_map found_of o)
+fixed-as None = refl
+fixed-as (Some n) = refl
 
 pub immutable-found : (s : List Slotted) (name : List ℕ) → is_immutable (names s) name ≡ immutable_of (found_in s name)
-immutable-found [] name = refl
-immutable-found (n ∷ s) name =
-    ap (λ (o : Bool). first_is_immutable (bytes_eq n.scoped.name name) n.scoped.mutable o) (immutable-found s name)
-    ∙ immutable-first (bytes_eq n.scoped.name name) (found_of n) (found_in s name)
+immutable-found s name = ap is_fixed (bound-names s name) ∙ fixed-as (slotted_as s name)
 
-type-first : (b : Bool) (f : Found) (o : Option Found) → first_type b f.ty (type_of_found o) ≡ type_of_found (first_found b f o)
-type-first true f o = refl
-type-first false f o = refl
+type-as : (o : Option Slotted) → type_bound_by (option_map (λ (n : Slotted). n.scoped) o) ≡ type_of_found (option_map found_of o)
+type-as None = refl
+type-as (Some n) = refl
 
 pub type-found : (s : List Slotted) (name : List ℕ) → type_named (names s) name ≡ type_of_found (found_in s name)
-type-found [] name = refl
-type-found (n ∷ s) name =
-    ap (λ (o : Ty). first_type (bytes_eq n.scoped.name name) n.scoped.type o) (type-found s name)
-    ∙ type-first (bytes_eq n.scoped.name name) (found_of n) (found_in s name)
+type-found s name = ap type_bound_by (bound-names s name) ∙ type-as (slotted_as s name)
 
-slot-first : (b : Bool) (f : Found) (o : Option Found) → first_slot b f.slot (slot_of_found o) ≡ slot_of_found (first_found b f o)
-slot-first true f o = refl
-slot-first false f o = refl
+slot-as : (o : Option Slotted) → option_map (λ (n : Slotted). n.slot) o ≡ slot_of_found (option_map found_of o)
+slot-as None = refl
+slot-as (Some n) = refl
 
 pub slot-found : (s : List Slotted) (name : List ℕ) → slot_of s name ≡ slot_of_found (found_in s name)
-slot-found [] name = refl
-slot-found (n ∷ s) name =
-    ap (λ (o : Option ℕ). first_slot (bytes_eq n.scoped.name name) n.slot o) (slot-found s name)
-    ∙ slot-first (bytes_eq n.scoped.name name) (found_of n) (found_in s name)
+slot-found s name = slot-as (slotted_as s name)
 
 -- ---- the scope that a cell is
 

@@ -1,21 +1,21 @@
 -- The tasks of operations, by their parts.
-use Rattle.std.proofs.Common.{◌≡◌, ℕ, suc, ◌+◌, Bool, true, List, [], ◌∷◌, ◌++◌, length, Some, None, sym, ap, ◌∙◌, arith, append_assoc}
+use Rattle.std.proofs.Common.{◌≡◌, ℕ, suc, ◌+◌, Bool, true, cond, List, [], ◌∷◌, ◌++◌, length, Some, None, sym, ap, ◌∙◌, arith, append_assoc}
 use Rattle.cmm_tree.specs.Tree.{Expression, More}
 use Rattle.cmm_tree.specs.declared.expr.Expr.{Expr}
 use Rattle.cmm_types.specs.Light.{is_light_address}
 use Rattle.cmm_tree.specs.Rows.{row_of}
 use Rattle.cmm_types.specs.Types.{type_named}
 use Rattle.cmm_walks.specs.Found.{found_in}
-use Rattle.cmm_walks.specs.Walks.{Slotted, Task, Does, Binds, Uses, Passes, called, names, is_address, first_tasks, operand, takes, count, waiting, filled, all_operands, on_one, on_two, used_at, bound_at, slot_of}
+use Rattle.cmm_walks.specs.Walks.{Slotted, Task, Does, Binds, Uses, Passes, called, names, is_address, operand, takes, count, waiting, filled, all_operands, on_one, on_two, used_at, bound_at, slot_of}
 use Rattle.cmm_walks.specs.declared.scopes.Found.{Found}
 use Rattle.cmm_walks.proofs.Names.{type-found, slot-found, type_of_found, slot_of_found}
 use Rattle.cmm_walks.proofs.Parts.{count-is}
 
 abbrev late : List Slotted → ℕ → ℕ → Expression → List Task
-late s free slot e = first_tasks (is_light_address (names s) e) (operand s free slot e) []
+late s free slot e = cond (is_light_address (names s) e) (operand s free slot e) []
 
 abbrev early : List Slotted → ℕ → ℕ → Expression → List Task
-early s free slot e = first_tasks (is_light_address (names s) e) [] (operand s free slot e)
+early s free slot e = cond (is_light_address (names s) e) [] (operand s free slot e)
 
 five : (a b c d e : List Task) → a ++ (b ++ (c ++ (d ++ e))) ≡ ((a ++ b) ++ (c ++ d)) ++ e
 five a b c d e = simp append_assoc

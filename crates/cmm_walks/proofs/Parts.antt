@@ -1,5 +1,5 @@
 -- The tasks that the parts of a list stand for are those of the list.
-use Rattle.std.proofs.Common.{◌≡◌, ℕ, zero, suc, ◌+◌, ◌-◌, Bool, List, [], ◌∷◌, ◌++◌, length, option_map, refl, sym, ap, ◌∙◌, subst, arith}
+use Rattle.std.proofs.Common.{◌≡◌, ℕ, zero, suc, ◌+◌, ◌-◌, Bool, cond, List, [], ◌∷◌, ◌++◌, length, option_map, refl, sym, ap, ◌∙◌, subst, arith}
 use Rattle.bs_words.specs.Fits.{type_of_comp}
 use Rattle.bs_words.specs.declared.types.Ty.{Ty}
 use Rattle.cmm_tree.specs.Tree.{Expression, Bindings}
@@ -7,13 +7,13 @@ use Rattle.cmm_tree.specs.View.{expr_view, params_view, declared_view}
 use Rattle.cmm_tree.specs.declared.expr.Expr.{Expr}
 use Rattle.cmm_tree.specs.declared.expr.Binding.{Binding}
 use Rattle.cmm_tree.specs.declared.file.Param.{Param}
-use Rattle.cmm_types.proofs.Views.{place_view}
+use Rattle.cmm_tree.proofs.Rows.{place_view}
 use Rattle.cmm_types.specs.Annotated.{IsAnnotated}
 use Rattle.cmm_types.specs.Light.{is_light_address}
 use Rattle.cmm_types.specs.Lists.{AreAnnotated}
 use Rattle.cmm_tree.specs.Rows.{row_of}
 use Rattle.cmm_types.specs.Types.{Scoped, type_of, type_bound, is_mutable}
-use Rattle.cmm_walks.specs.Walks.{Slotted, Does, Evaluates, Enters, Binds, Uses, names, is_address, first_tasks, operand, takes, count, waiting, filled, all_operands, in_order, parameters_bound}
+use Rattle.cmm_walks.specs.Walks.{Slotted, Does, Evaluates, Enters, Binds, Uses, names, is_address, operand, takes, count, waiting, filled, all_operands, in_order, parameters_bound}
 
 pub operand-is : (s : List Slotted) (free slot : ℕ) (e : Expr) (address : Bool) → address ≡ is_address e.ty → IsAnnotated (names s) e
     → Evaluates s free (expr_view e) ∷ Does (Binds slot address e.at) ∷ [] ≡ operand s free slot (expr_view e)
@@ -33,17 +33,17 @@ typed-first ns es e others p t =
     subst P p t
 
 pub waiting-first : (s : List Slotted) (free slot next : ℕ) (es : List Expr) (e : Expr) (others : List Expr) → es ≡ e ∷ others → next ≡ suc slot
-    → waiting s free next (row_of others) ++ first_tasks (is_light_address (names s) (expr_view e)) [] (operand s free slot (expr_view e))
+    → waiting s free next (row_of others) ++ cond (is_light_address (names s) (expr_view e)) [] (operand s free slot (expr_view e))
     ≡ waiting s free slot (row_of es)
 waiting-first s free slot next es e others p q =
-    ap (λ n. waiting s free n (row_of others) ++ first_tasks (is_light_address (names s) (expr_view e)) [] (operand s free slot (expr_view e))) q
+    ap (λ n. waiting s free n (row_of others) ++ cond (is_light_address (names s) (expr_view e)) [] (operand s free slot (expr_view e))) q
     ∙ ap (λ (l : List Expr). waiting s free slot (row_of l)) (sym p)
 
 pub filled-first : (s : List Slotted) (free slot next : ℕ) (es : List Expr) (e : Expr) (others : List Expr) → es ≡ e ∷ others → next ≡ suc slot
-    → filled s free next (row_of others) ++ first_tasks (is_light_address (names s) (expr_view e)) (operand s free slot (expr_view e)) []
+    → filled s free next (row_of others) ++ cond (is_light_address (names s) (expr_view e)) (operand s free slot (expr_view e)) []
     ≡ filled s free slot (row_of es)
 filled-first s free slot next es e others p q =
-    ap (λ n. filled s free n (row_of others) ++ first_tasks (is_light_address (names s) (expr_view e)) (operand s free slot (expr_view e)) []) q
+    ap (λ n. filled s free n (row_of others) ++ cond (is_light_address (names s) (expr_view e)) (operand s free slot (expr_view e)) []) q
     ∙ ap (λ (l : List Expr). filled s free slot (row_of l)) (sym p)
 
 pub in-order-first : (s : List Slotted) (slot : ℕ) (es : List Expr) (e : Expr) (others : List Expr) → es ≡ e ∷ others

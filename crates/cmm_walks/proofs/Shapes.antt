@@ -12,7 +12,7 @@ use Rattle.cmm_tree.specs.declared.expr.Form.{Form}
 use Rattle.cmm_tree.specs.declared.expr.Form as form
 use Rattle.cmm_tree.specs.declared.expr.Handler.{Handler}
 use Rattle.cmm_tree.specs.declared.expr.Label.{Label}
-use Rattle.cmm_types.proofs.Views.{bindings_items, seq_view, exit_view, alloc_view, extcall_view, app_view, let_view, switch_view, catch_view}
+use Rattle.cmm_tree.proofs.Rows.{row_in, bindings_in, cases_in, handlers_in, bindings-is, seq_view, exit_view, alloc_view, extcall_view, app_view, let_view, switch_view, catch_view}
 use Rattle.cmm_types.specs.Annotated.{IsAnnotated, RowTyped, BindingsTyped, CasesTyped, HandlersTyped, PartsTyped}
 use Rattle.cmm_types.specs.Lists.{AreAnnotated, AreBindingsAnnotated, AreCasesAnnotated, AreHandlersAnnotated}
 use Rattle.cmm_tree.specs.Rows.{row_of, bindings_of, cases_of, handlers_of}
@@ -41,29 +41,10 @@ typed_handlers ns n (form.more_of-Handler at label params body_at body_ty body r
 
 -- ---- the row that a form holds
 
-abbrev row_in : Form → (n : Count) × form.Row_of-Expr n
-row_in (form.Seq' _ row) = (_, row)
-row_in _ = (_, form.end_of-Expr)
-
-abbrev bindings_in : Form → (n : Count) × form.Row_of-Binding n
-bindings_in (form.Let' _ row p at ty f) = (_, row)
-bindings_in _ = (_, form.end_of-Binding)
-
-abbrev cases_in : Form → (n : Count) × form.Row_of-Case n
-cases_in (form.Switch' size_at size p at ty f _ row) = (_, row)
-cases_in _ = (_, form.end_of-Case)
-
-abbrev handlers_in : Form → (n : Count) × form.Row_of-Handler n
-handlers_in (form.Catch' p at ty f _ row) = (_, row)
-handlers_in _ = (_, form.end_of-Handler)
-
 row-typed : (ns : List Scoped) (v : Vec Expr Global) (es : List Expr) → es ≡ v.items → RowTyped ns (row_in (form.Seq v)).1 → AreAnnotated ns es
 row-typed ns v es e t =
     let P : List Expr → Type 0 = λ l. AreAnnotated ns l in
     subst P (form.items_hidden-the_row-Expr-0 v ∙ sym e) (typed_row ns (row_in (form.Seq v)).0 (row_in (form.Seq v)).1 t)
-
-bindings-are : (v : Vec Binding Global) (b : Box Expr Global) → bindings_view (bindings_in (form.Let v b)).1 ≡ bindings_of v.items
-bindings-are v b = bindings_items (bindings_in (form.Let v b)).0 (bindings_in (form.Let v b)).1 ∙ ap bindings_of (form.items_hidden-the_row-Binding-1 v)
 
 is-typed : (ns : List Scoped) (e e' : Expr) → e' ≡ e → IsAnnotated ns e → IsAnnotated ns e'
 is-typed ns e e' q t =
@@ -137,7 +118,7 @@ let-shape ns at v b bs body e q = record {
       let P : List Binding → Type 0 = λ l. AreBindingsAnnotated ns l in
       let Q : tree.Bindings → Type 0 = λ r. IsAnnotated (with_bindings ns r) b.value in (
         subst P (form.items_hidden-the_row-Binding-1 v ∙ sym e) (typed_bindings ns (bindings_in (form.Let v b)).0 (bindings_in (form.Let v b)).1 t.0),
-        is-typed (with_bindings ns (bindings_of bs)) b.value body q (subst Q (bindings-are v b ∙ ap bindings_of (sym e)) t.1),
+        is-typed (with_bindings ns (bindings_of bs)) b.value body q (subst Q (bindings-is v b ∙ ap bindings_of (sym e)) t.1),
       );
 }
 

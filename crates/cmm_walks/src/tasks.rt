@@ -1,12 +1,12 @@
 //! Cells for the tasks of a walk.
-ghost use Rattle.std.specs.Prelude.{◌≡◌, ◌∷◌, [], List, IfOk, length};
+ghost use Rattle.std.specs.Prelude.{◌≡◌, ◌∷◌, [], List, IfOk, length, cond};
 ghost use Rattle.cmm_tree.specs.View.{expr_view, params_view};
 ghost use Rattle.cmm_types.specs.Annotated.{IsAnnotated};
 ghost use Rattle.cmm_types.specs.Light.{is_light_address};
 ghost use Rattle.cmm_types.specs.Lists.{AreAnnotated, AreBindingsAnnotated};
 ghost use Rattle.cmm_tree.specs.Rows.{row_of, bindings_of};
 ghost use Rattle.cmm_types.specs.Types.{with_bindings};
-ghost use Rattle.cmm_walks.specs.Walks.{Slotted, Does, Evaluates, names, first_tasks, operand, takes, waiting, filled};
+ghost use Rattle.cmm_walks.specs.Walks.{Slotted, Does, Evaluates, names, operand, takes, waiting, filled};
 ghost use Rattle.cmm_walks.specs.Walks.{all_operands, in_order, parameters_bound, entering};
 ghost use Rattle.cmm_walks.specs.Cells.{cells, event_of};
 ghost use Rattle.cmm_walks.specs.Sound.{IsReady, IsScope, Adds};
@@ -94,7 +94,7 @@ impl<'a> Cells<'a> {
     ) -> Result<u32, AllocError>
         ensures { IfOk result (λ cell. (s : List Slotted) → IsReady (cells self.old) rest →
             IsScope (cells self.old) scope s → IsAnnotated (names s) expr.now →
-            Adds (cells self.old) (cells self.new) cell (first_tasks (is_light_address
+            Adds (cells self.old) (cells self.new) cell (cond (is_light_address
             (names s) (expr_view expr.now)) [] (operand s free slot (expr_view expr.now))) rest) }
     {
         if self.is_light_address(scope, expr) {
@@ -115,7 +115,7 @@ impl<'a> Cells<'a> {
     ) -> Result<u32, AllocError>
         ensures { IfOk result (λ cell. (s : List Slotted) → IsReady (cells self.old) rest →
             IsScope (cells self.old) scope s → IsAnnotated (names s) expr.now →
-            Adds (cells self.old) (cells self.new) cell (first_tasks (is_light_address
+            Adds (cells self.old) (cells self.new) cell (cond (is_light_address
             (names s) (expr_view expr.now)) (operand s free slot (expr_view expr.now)) []) rest) }
     {
         if self.is_light_address(scope, expr) {

@@ -6,7 +6,9 @@ use Rattle.bs_words.specs.External.{External}
 use Rattle.bs_words.specs.declared.types.Comp.{Comp}
 use Rattle.bs_words.specs.declared.types.Ret.{Ret}
 use Rattle.bs_words.specs.declared.types.Ty.TheVariants.{Val}
-use Rattle.cmm_meaning.specs.Evaluation.{comp_of_argument, comps_of_arguments}
+use Rattle.cmm_meaning.specs.Evaluation.{comp_of_argument}
+use Rattle.cmm_meaning.specs.Held.{comps_held}
+use Rattle.cmm_meaning.proofs.Held.{comps_same}
 use Rattle.cmm_tree.specs.Tree.{NoBinding, Bind, functions_among}
 use Rattle.cmm_tree.specs.View.{form_view, row_view, bindings_view, cases_view, handlers_view, declared_view, params_view, item_view}
 use Rattle.cmm_tree.specs.declared.expr.Binding.{Binding}
@@ -22,13 +24,9 @@ use Rattle.cmm_tree.proofs.Rows.{row_in, bindings_in, cases_in, handlers_in}
 use Rattle.cmm_types.specs.Annotated.{PartsTyped, RowTyped, BindingsTyped, CasesTyped, HandlersTyped}
 use Rattle.cmm_types.specs.Types.{Scoped, with_parameters, with_bindings}
 use Rattle.cmm_types.specs.Typing.{AreItemsAnnotated}
-use Rattle.image_rules.specs.Held.{comps_held, calls_held, row_held, bindings_held, cases_held, handlers_held, comps_among, calls_among, calls_among_bindings, calls_among_cases, calls_among_handlers, calls_among_items}
+use Rattle.image_rules.specs.Held.{calls_held, row_held, bindings_held, cases_held, handlers_held, comps_among, calls_among, calls_among_bindings, calls_among_cases, calls_among_handlers, calls_among_items}
 use Rattle.layout_rules.specs.Externals.{calls_in, calls_in_row, calls_in_bindings, calls_in_cases, calls_in_handlers, calls_in_function}
 use Rattle.std.specs.List.{flat_map}
-
-comps_same : {m : Count} (names : List Scoped) (k : form.Row_of-Expr m) → RowTyped names k → comps_held k ≡ comps_of_arguments names (row_view k)
-comps_same names form.end_of-Expr t = refl
-comps_same names (form.more_of-Expr at ty f rest) t = ap₂ (λ (c : Comp) (cs : List Comp). c ∷ cs) (ap comp_of_argument t.0.type) (comps_same names rest t.1)
 
 joined : (a b c d : List External) → a ≡ b → c ≡ d → a ++ c ≡ b ++ d
 joined a b c d e f = ap₂ (λ (x y : List External). x ++ y) e f

@@ -3,6 +3,7 @@ use Rattle.std.specs.Prelude.{List, [], ◌∷◌, ◌++◌}
 use Rattle.bs_words.specs.External.{External}
 use Rattle.bs_words.specs.declared.types.Comp.{Comp}
 use Rattle.cmm_meaning.specs.Evaluation.{comp_of_argument}
+use Rattle.cmm_meaning.specs.Held.{comps_held}
 use Rattle.cmm_tree.specs.declared.expr.Binding.{Binding}
 use Rattle.cmm_tree.specs.declared.expr.Case.{Case}
 use Rattle.cmm_tree.specs.declared.expr.Expr.{Expr}
@@ -11,11 +12,6 @@ use Rattle.cmm_tree.specs.declared.expr.Form as form
 use Rattle.cmm_tree.specs.declared.expr.Handler.{Handler}
 use Rattle.cmm_tree.specs.declared.file.Item.{Item}
 use Rattle.cmm_tree.specs.declared.file.Item.TheVariants as item
-
--- the components of arguments
-abbrev pub comps_held : {m : _} → form.Row_of-Expr m → List Comp
-comps_held form.end_of-Expr = []
-comps_held (form.more_of-Expr at ty f rest) = comp_of_argument ty ∷ comps_held rest
 
 -- the rows of all external calls
 abbrev mutual

@@ -1,11 +1,11 @@
 -- What stands in registers, and what writes leave of it.
-use Rattle.std.proofs.Common.{◌≡◌, ℕ, suc, ◌<◌, ◌≤◌, Bool, true, false, cond, List, [], ◌∷◌, Option, Some, None, map, length, refl, sym, ap, ◌∙◌, subst, arith}
+use Rattle.std.proofs.Common.{◌≡◌, ℕ, suc, ◌<◌, ◌≤◌, Bool, true, false, cond, List, [], ◌∷◌, Option, Some, None, option_map, map, length, refl, sym, ap, ◌∙◌, subst, arith}
 use Rattle.std.specs.Prelude.{nat_eq, bytes_eq, not, ◌&&◌}
 use Rattle.std.proofs.lemmas.Bool.{eq-eqb, eqb-true}
 use Rattle.bs_words.specs.declared.types.Ty.{Ty}
 use Rattle.bs_words.specs.declared.values.Value.{Value}
-use Rattle.cmm_types.specs.Types.{Scoped, type_named, first_type}
-use Rattle.cmm_meaning.specs.State.{Binding, value_of, assigned}
+use Rattle.cmm_types.specs.Types.{Scoped, binding_of, type_bound_by, type_named}
+use Rattle.cmm_meaning.specs.State.{Binding, innermost, value_of, assigned}
 use Rattle.mach_ir.specs.declared.reg.Reg.{Reg}
 use Rattle.mach_ir.specs.Meaning.{Held, File, put, clear, killed_among, killed_by, Destroyed, Nothing, Temporaries, Everything, is_destroyed, is_at_one_of}
 use Rattle.selection_rules.specs.Select.{Named, scopes, comp_of, reg_of}
@@ -109,39 +109,48 @@ pub data Looked (env : List Named) (f : File) : Option Reg → Option Value → 
   unknown : Looked env f None None
   known : {r : Reg} {v : Value} → IsNamed r.number env → Holds r v f → Looked env f (Some r) (Some v)
 
-looked_first : (b : Bool) (x : Named) {env : List Named} (v : Value) {f : File} {o : Option Reg} {p : Option Value} → Holds x.reg v f → Looked env f o p →
-    Looked (x ∷ env) f (cond b (Some x.reg) o) (cond b (Some v) p)
-looked_first true x v h l = known (here refl) h
-looked_first false x v h unknown = unknown
-looked_first false x v h (known i k) = known (there i) k
+looked_further : (x : Named) {env : List Named} {f : File} {o : Option Reg} {p : Option Value} → Looked env f o p → Looked (x ∷ env) f o p
+looked_further x unknown = unknown
+looked_further x (known i k) = known (there i) k
+
+looked_first : (b : Bool) (x : Named) {env : List Named} (n : Binding) {f : File} {o : Option Reg} (p : Option Binding) → Holds x.reg n.value f →
+    Looked env f o (option_map (λ (m : Binding). m.value) p) → Looked (x ∷ env) f (cond b (Some x.reg) o) (option_map (λ (m : Binding). m.value) (cond b (Some n) p))
+looked_first true x n p h l = known (here refl) h
+looked_first false x n p h l = looked_further x l
 
 pub looked_up : {env : List Named} {names : List Binding} {f : File} (name : List ℕ) → Stands env names f → Looked env f (reg_of env name) (value_of names name)
 looked_up name none = unknown
 looked_up {f = f} name (one {x = x} {env = env} {n = n} {names = names} e h s) =
-    subst (λ (y : Scoped). Looked (x ∷ env) f (cond (bytes_eq x.scoped.name name) (Some x.reg) (reg_of env name)) (cond (bytes_eq y.name name) (Some n.value) (value_of names name)))
-    (sym e) (looked_first (bytes_eq x.scoped.name name) x n.value h (looked_up name s))
+    subst (λ (y : Scoped). Looked (x ∷ env) f (cond (bytes_eq x.scoped.name name) (Some x.reg) (reg_of env name))
+    (option_map (λ (m : Binding). m.value) (cond (bytes_eq y.name name) (Some n) (innermost names name))))
+    (sym e) (looked_first (bytes_eq x.scoped.name name) x n (innermost names name) h (looked_up name s))
 
 -- an assignment writes the register of the innermost binding of its name
 pub data Assigns (env : List Named) (v : Value) (f : File) : Option Reg → List Binding → Ty → Type 0 where
   unbound : {names : List Binding} → Assigns env v f None names ty.Never
   assigns : {r : Reg} {names : List Binding} {T : Ty} → IsNamed r.number env → r.comp ≡ comp_of T → Stands env names (put r v f) → Assigns env v f (Some r) names T
 
-assigns_first : (b : Bool) (x : Named) {i : ℕ} {env : List Named} (n : Binding) (names : List Binding) {others : List Binding} (v : Value) {f : File} {o : Option Reg} {T : Ty} →
-    Under i (x ∷ env) → n.scoped ≡ x.scoped → Holds x.reg n.value f → Stands env names f → Assigns env v f o others T →
-    Assigns (x ∷ env) v f (cond b (Some x.reg) o) (cond b (record n { value = v } ∷ names) (n ∷ others)) (first_type b x.scoped.type T)
-assigns_first true x n names v {f = f} (one a z q u) e h s a' =
-    assigns (here refl) q (one e (put_same x.reg v f) (stands_put x.reg v (λ i. let less = named_under u i in omega (arith, less)) s))
-assigns_first false x n names v u e h s unbound = unbound
-assigns_first false x n names v (one a z q u) e h s (assigns {r = r} i c t) =
+assigns_further : (x : Named) {i : ℕ} {env : List Named} (n : Binding) {others : List Binding} (v : Value) {f : File} {o : Option Reg} {T : Ty} →
+    Under i (x ∷ env) → n.scoped ≡ x.scoped → Holds x.reg n.value f → Assigns env v f o others T → Assigns (x ∷ env) v f o (n ∷ others) T
+assigns_further x n v u e h unbound = unbound
+assigns_further x n v (one a z q u) e h (assigns {r = r} i c t) =
     assigns (there i) c (one e (holds_put r v (λ same. let less = named_under u i in omega (arith, less, same)) h) t)
+
+assigns_first : (b : Bool) (x : Named) {i : ℕ} {env : List Named} (n : Binding) (names : List Binding) {others : List Binding} (v : Value) {f : File} {o : Option Reg} (t : Option Scoped) →
+    Under i (x ∷ env) → n.scoped ≡ x.scoped → Holds x.reg n.value f → Stands env names f → Assigns env v f o others (type_bound_by t) →
+    Assigns (x ∷ env) v f (cond b (Some x.reg) o) (cond b (record n { value = v } ∷ names) (n ∷ others)) (type_bound_by (cond b (Some x.scoped) t))
+assigns_first true x n names v {f = f} t (one a z q u) e h s others =
+    assigns (here refl) q (one e (put_same x.reg v f) (stands_put x.reg v (λ i. let less = named_under u i in omega (arith, less)) s))
+assigns_first false x n names v t u e h s others = assigns_further x n v u e h others
 
 pub assigning : {i : ℕ} {env : List Named} {names : List Binding} {f : File} (name : List ℕ) (v : Value) → Under i env → Stands env names f →
     Assigns env v f (reg_of env name) (assigned names name v) (type_named (scopes env) name)
 assigning name v u none = unbound
 assigning {f = f} name v (one a z q u) (one {x = x} {env = env} {n = n} {names = names} e h s) =
     subst (λ (y : Scoped). Assigns (x ∷ env) v f (cond (bytes_eq x.scoped.name name) (Some x.reg) (reg_of env name))
-    (cond (bytes_eq y.name name) (record n { value = v } ∷ names) (n ∷ assigned names name v)) (first_type (bytes_eq x.scoped.name name) x.scoped.type (type_named (scopes env) name)))
-    (sym e) (assigns_first (bytes_eq x.scoped.name name) x n names v (one a z q u) e h s (assigning name v u s))
+    (cond (bytes_eq y.name name) (record n { value = v } ∷ names) (n ∷ assigned names name v))
+    (type_bound_by (cond (bytes_eq x.scoped.name name) (Some x.scoped) (binding_of (scopes env) name))))
+    (sym e) (assigns_first (bytes_eq x.scoped.name name) x n names v (binding_of (scopes env) name) (one a z q u) e h s (assigning name v u s))
 
 pub stands_length : {env : List Named} {names : List Binding} {f : File} → Stands env names f → length names ≡ length env
 stands_length none = refl

@@ -17,7 +17,7 @@ use Rattle.cmm_types.specs.Standing.{Visible}
 use Rattle.cmm_types.specs.Gathered.{faults_in}
 use Rattle.cmm_types.specs.declared.role.Role.TheVariants as role
 use Rattle.cmm_meaning.specs.Evaluation.{is_left_first}
-use Rattle.cmm_walks.specs.Walks.{Event, Binds, Uses, Task, Does, Evaluates, MayRaise, Slotted, names, is_address, takes, operand, first_tasks, tasks_of, all_operands, two, behind_raise}
+use Rattle.cmm_walks.specs.Walks.{Event, Binds, Uses, Task, Does, Evaluates, MayRaise, Slotted, names, is_address, takes, operand, tasks_of, all_operands, two, behind_raise}
 use Rattle.cmm_walks.specs.Walks as walk
 use Rattle.mach_ir.specs.Meaning.{passes_frame}
 use Rattle.mach_ir.specs.Walks.{Among, first}
@@ -206,8 +206,8 @@ module _ (m : Mach) (n : ℕ) (defined : List ℕ → Option DefinedSymbol) wher
           (left (left ff)) fits.0 (has_one defined (scopes env) vis base (left (left ff)) (has_value role.Taken tt _ _ (right (left ff)))) apart xi after))
 
       turned : (l : Bool) → Sit m n [] k w ts labels (select env labels false false (fresh x (type_of (scopes env) base)) i base next)
-          ((((operand scope (free + 2) (suc free) (Integer at' u) ++ first_tasks l [] (operand scope (free + 2) free base)) ++
-          ([] ++ first_tasks l (operand scope (free + 2) free base) [])) ++ takes place free 2) ++ behind)
+          ((((operand scope (free + 2) (suc free) (Integer at' u) ++ cond l [] (operand scope (free + 2) free base)) ++
+          ([] ++ cond l (operand scope (free + 2) free base) [])) ++ takes place free 2) ++ behind)
       turned true = evaluated
       turned false = evaluated
 
@@ -221,7 +221,7 @@ module _ (m : Mach) (n : ℕ) (defined : List ℕ → Option DefinedSymbol) wher
   flag_one : {k : ℕ} {ts : List ℕ} {w : Option ℕ} {labels : List Label} {code : List Instr} {scope : List Slotted} {slot : ℕ} {tasks : List Task}
       (c : Expression) (at : ℕ) (f : Bool) → Sit m n [] k w ts labels code (operand scope (slot + 1) slot c ++ (Does (Uses slot at) ∷ tasks)) →
       Sit m n [] k w ts labels code
-      (((([] ++ first_tasks f [] (operand scope (slot + 1) slot c)) ++ ([] ++ first_tasks f (operand scope (slot + 1) slot c) [])) ++
+      (((([] ++ cond f [] (operand scope (slot + 1) slot c)) ++ ([] ++ cond f (operand scope (slot + 1) slot c) [])) ++
       (Does (Uses slot at) ∷ [])) ++ tasks)
   flag_one c at true x = x
   flag_one c at false x = x
@@ -273,8 +273,8 @@ module _ (m : Mach) (n : ℕ) (defined : List ℕ → Option DefinedSymbol) wher
       (operand scope (slot + 2) slot a ++ (operand scope (slot + 2) (suc slot) c ++ tasks))) →
       Sit m n [] k w ts labels (cb (ca next)) (operand scope (slot + 2) (suc slot) c ++ (operand scope (slot + 2) slot a ++ tasks)) →
       Sit m n [] k w ts labels (ordered (lb && not la) ca cb next)
-      (((first_tasks lb [] (operand scope (slot + 2) (suc slot) c) ++ first_tasks la [] (operand scope (slot + 2) slot a)) ++
-      (first_tasks lb (operand scope (slot + 2) (suc slot) c) [] ++ first_tasks la (operand scope (slot + 2) slot a) [])) ++ tasks)
+      (((cond lb [] (operand scope (slot + 2) (suc slot) c) ++ cond la [] (operand scope (slot + 2) slot a)) ++
+      (cond lb (operand scope (slot + 2) (suc slot) c) [] ++ cond la (operand scope (slot + 2) slot a) [])) ++ tasks)
   pair_flags ca cb a c true true x y = y
   pair_flags ca cb a c false true x y = x refl
   pair_flags ca cb a c true false x y = y
@@ -290,9 +290,9 @@ module _ (m : Mach) (n : ℕ) (defined : List ℕ → Option DefinedSymbol) wher
       (subst (λ os. Sit m n [] k w ts labels (ordered (is_left_first (scopes env) a e) base_code value_code store_code) os)
       (sym (append_assoc (all_operands scope slot (two a e)) (takes place slot 2) tasks))
       (subst (λ sc. Sit m n [] k w ts labels (ordered (is_left_first (scopes env) a e) base_code value_code (store_code))
-      (((first_tasks (is_light_address sc e) [] (operand scope (slot + 2) (suc slot) e) ++ first_tasks (is_light_address sc a) []
+      (((cond (is_light_address sc e) [] (operand scope (slot + 2) (suc slot) e) ++ cond (is_light_address sc a) []
       (operand scope (slot + 2) slot a)) ++
-      (first_tasks (is_light_address sc e) (operand scope (slot + 2) (suc slot) e) [] ++ first_tasks (is_light_address sc a)
+      (cond (is_light_address sc e) (operand scope (slot + 2) (suc slot) e) [] ++ cond (is_light_address sc a)
       (operand scope (slot + 2) slot a) [])) ++ (takes place slot 2 ++ tasks)))
       (sym (paired_names at.paired)) (pair_flags base_code value_code a e (is_light_address (scopes env) a)
       (is_light_address (scopes env) e) left_first right_first)))

@@ -14,7 +14,7 @@ use Rattle.cmm_types.specs.Types.{Scoped, type_of}
 use Rattle.cmm_types.specs.Standing.{Visible}
 use Rattle.cmm_types.specs.Gathered.{faults_in, row_faults}
 use Rattle.cmm_types.specs.declared.role.Role.{Role}
-use Rattle.cmm_walks.specs.Walks.{Event, Binds, Uses, Passes, Task, Does, Evaluates, MayRaise, Raises, Exits, Slotted, names, is_address, takes, operand, first_tasks, tasks_of, all_operands, called, behind_raise, behind_exit, parameters_bound}
+use Rattle.cmm_walks.specs.Walks.{Event, Binds, Uses, Passes, Task, Does, Evaluates, MayRaise, Raises, Exits, Slotted, names, is_address, takes, operand, tasks_of, all_operands, called, behind_raise, behind_exit, parameters_bound}
 use Rattle.cmm_walks.specs.Walks as walk
 use Rattle.mach_ir.specs.Meaning.{passes_frame}
 use Rattle.mach_ir.specs.Walks.{Among, first, later, may_raise}
@@ -59,12 +59,12 @@ module _ (m : Mach) (n : ℕ) (defined : List ℕ → Option DefinedSymbol) wher
       Step m n k ts labels (waited n (scopes env) b slot es w) (all_held n b slot es w) (select_filled env labels b i es) (walk.filled scope free slot es)
 
   waits_one : {k : ℕ} {ts : List ℕ} {labels : List Label} {w v : Option ℕ} {code : Code} {us : List Task} (f : Option ℕ → Option ℕ) (l : Bool) →
-      Step m n k ts labels (f w) (f v) code us → Step m n k ts labels (f w) (f (cond l w v)) (only_when (not l) code) (first_tasks l [] us)
+      Step m n k ts labels (f w) (f v) code us → Step m n k ts labels (f w) (f (cond l w v)) (only_when (not l) code) (cond l [] us)
   waits_one f true x = nothing m n
   waits_one f false x = x
 
   fills_one : {k : ℕ} {ts : List ℕ} {labels : List Label} {w v : Option ℕ} {code : Code} {us : List Task} (f : Option ℕ → Option ℕ) (l : Bool) →
-      Step m n k ts labels (f w) (f v) code us → Step m n k ts labels (f (cond l w v)) (f v) (only_when l code) (first_tasks l us [])
+      Step m n k ts labels (f w) (f v) code us → Step m n k ts labels (f (cond l w v)) (f v) (only_when l code) (cond l us [])
   fills_one f true x = x
   fills_one f false x = nothing m n
 
@@ -80,7 +80,7 @@ module _ (m : Mach) (n : ℕ) (defined : List ℕ → Option DefinedSymbol) wher
       (subst (λ sc. Step m n k ts labels (waited n (scopes env) (suc b) (suc slot) rest w)
       (waited n (scopes env) (suc b) (suc slot) rest (cond (is_light_address (scopes env) e) w (hold n b slot w)))
       (only_when (not (is_light_address (scopes env) e)) (select env labels false false (fresh b (type_of (scopes env) e)) i e))
-      (first_tasks (is_light_address sc e) [] (operand scope free slot e))) (sym (paired_names at.paired))
+      (cond (is_light_address sc e) [] (operand scope free slot e))) (sym (paired_names at.paired))
       (waits_one (waited n (scopes env) (suc b) (suc slot) rest) (is_light_address (scopes env) e)
       (row_operand m n defined e claim (waited_row n (scopes env) (suc b) (suc slot) rest) (omega (arith, li)) (omega (arith, lf)) at (left (left ff)) fits.0
       (has_value r taking _ _ (right (left ff))))))
@@ -94,7 +94,7 @@ module _ (m : Mach) (n : ℕ) (defined : List ℕ → Option DefinedSymbol) wher
       (subst (λ sc. Step m n k ts labels (all_held n (suc b) (suc slot) rest (cond (is_light_address (scopes env) e) w (hold n b slot w)))
       (all_held n (suc b) (suc slot) rest (hold n b slot w))
       (only_when (is_light_address (scopes env) e) (select env labels false false (fresh b (type_of (scopes env) e)) i e))
-      (first_tasks (is_light_address sc e) (operand scope free slot e) [])) (sym (paired_names at.paired))
+      (cond (is_light_address sc e) (operand scope free slot e) [])) (sym (paired_names at.paired))
       (fills_one (all_held n (suc b) (suc slot) rest) (is_light_address (scopes env) e)
       (row_operand m n defined e claim (held_row n (suc b) (suc slot) rest) (omega (arith, li)) (omega (arith, lf)) at (left (left ff)) fits.0
       (has_value r taking _ _ (right (left ff))))))
@@ -141,8 +141,8 @@ module _ (m : Mach) (n : ℕ) (defined : List ℕ → Option DefinedSymbol) wher
       (unless_symbol o (select env labels false false (fresh b (type_of (scopes env) callee)) base callee))
       (select_filled env labels (suc b) (base + width callee) es
       (only_when (is_light_address (scopes env) callee) (select env labels false false (fresh b (type_of (scopes env) callee)) base callee) next))))
-      ((walk.waiting scope free (suc slot) es ++ first_tasks (is_light_address sc callee) [] (operand scope free slot callee)) ++
-      (walk.filled scope free (suc slot) es ++ first_tasks (is_light_address sc callee) (operand scope free slot callee) [])))
+      ((walk.waiting scope free (suc slot) es ++ cond (is_light_address sc callee) [] (operand scope free slot callee)) ++
+      (walk.filled scope free (suc slot) es ++ cond (is_light_address sc callee) (operand scope free slot callee) [])))
       (sym (paired_names at.paired)) (by o e)
     where
       free : ℕ
@@ -164,8 +164,8 @@ module _ (m : Mach) (n : ℕ) (defined : List ℕ → Option DefinedSymbol) wher
           (unless_symbol o (select env labels false false (fresh b (type_of (scopes env) callee)) base callee))
           (select_filled env labels (suc b) (base + width callee) es
           (only_when (is_light_address (scopes env) callee) (select env labels false false (fresh b (type_of (scopes env) callee)) base callee) next))))
-          ((walk.waiting scope free (suc slot) es ++ first_tasks (is_light_address (scopes env) callee) [] (operand scope free slot callee)) ++
-          (walk.filled scope free (suc slot) es ++ first_tasks (is_light_address (scopes env) callee) (operand scope free slot callee) []))
+          ((walk.waiting scope free (suc slot) es ++ cond (is_light_address (scopes env) callee) [] (operand scope free slot callee)) ++
+          (walk.filled scope free (suc slot) es ++ cond (is_light_address (scopes env) callee) (operand scope free slot callee) []))
       by None e = light (is_light_address (scopes env) callee)
         where
           light : (l : Bool) → Step m n k ts labels w (all_held n (suc b) (suc slot) es (hold n b slot w))
@@ -173,8 +173,8 @@ module _ (m : Mach) (n : ℕ) (defined : List ℕ → Option DefinedSymbol) wher
               (only_when (not l) (select env labels false false (fresh b (type_of (scopes env) callee)) base callee)
               (select_filled env labels (suc b) (base + width callee) es
               (only_when l (select env labels false false (fresh b (type_of (scopes env) callee)) base callee) next))))
-              ((walk.waiting scope free (suc slot) es ++ first_tasks l [] (operand scope free slot callee)) ++
-              (walk.filled scope free (suc slot) es ++ first_tasks l (operand scope free slot callee) []))
+              ((walk.waiting scope free (suc slot) es ++ cond l [] (operand scope free slot callee)) ++
+              (walk.filled scope free (suc slot) es ++ cond l (operand scope free slot callee) []))
           light true =
               joined m n (joined m n (W w (at_more m n (omega arith) (omega arith) at)) (nothing m n))
               (joined m n (F w (at_more m n (omega arith) (omega arith) at))
@@ -189,8 +189,8 @@ module _ (m : Mach) (n : ℕ) (defined : List ℕ → Option DefinedSymbol) wher
               (λ next. select_waiting env labels (suc b) (base + width callee) es (only_when (not l) (λ next. next)
               (select_filled env labels (suc b) (base + width callee) es
               (only_when l (select env labels false false (fresh b (type_of (scopes env) callee)) base callee) next))))
-              ((walk.waiting scope free (suc slot) es ++ first_tasks l [] (operand scope free slot callee)) ++
-              (walk.filled scope free (suc slot) es ++ first_tasks l (operand scope free slot callee) []))
+              ((walk.waiting scope free (suc slot) es ++ cond l [] (operand scope free slot callee)) ++
+              (walk.filled scope free (suc slot) es ++ cond l (operand scope free slot callee) []))
           light true f = absurd (f refl)
           light false f =
               joined m n (joined m n (W w (at_more m n (omega arith) (omega arith) at))

@@ -13,12 +13,12 @@ use Rattle.bs_fault.specs.Reported.{Faultless, here as one_here}
 use Rattle.cmm_tree.specs.Symbols.{DefinedSymbol}
 use Rattle.cmm_tree.specs.Tree.{LabelTree, Expression, Integer, Pointer, Symbol, Name, Nothing, Float, Let, Assign, Operator, Load, Store, Alloc, App, Extcall, Checkbound, Raise, Seq, If, Switch, Catch, Exit, Try, Expressions, NoMore, More, Bindings, NoBinding, Bind, Cases, NoCase, Choose, Handlers, NoHandler, Handle}
 use Rattle.cmm_types.specs.Faults.{row_length}
-use Rattle.cmm_types.specs.Standing.{Visible, binding_of}
+use Rattle.cmm_types.specs.Standing.{Visible}
 use Rattle.cmm_types.specs.Gathered.{faults_in, row_faults, bindings_faults}
-use Rattle.cmm_types.specs.Types.{type_of, type_without_float, type_named, type_bound, type_of_result, type_of_last, with_bindings, holds_float, is_mutable}
+use Rattle.cmm_types.specs.Types.{binding_of, type_of, type_without_float, type_named, type_bound, type_of_result, type_of_last, with_bindings, holds_float, is_mutable}
 use Rattle.cmm_types.specs.declared.role.Role.TheVariants as role
 use Rattle.cmm_meaning.specs.Evaluation.{is_left_first, comps_of_arguments}
-use Rattle.cmm_walks.specs.Walks.{Event, Binds, Uses, Passes, Task, Does, Evaluates, Enters, MayRaise, Raises, Exits, Slotted, names, is_address, takes, operand, first_tasks, tasks_of, all_operands, two, called, in_order, entering, bound_at, slot_of, behind_raise, behind_exit}
+use Rattle.cmm_walks.specs.Walks.{Event, Binds, Uses, Passes, Task, Does, Evaluates, Enters, MayRaise, Raises, Exits, Slotted, names, is_address, takes, operand, tasks_of, all_operands, two, called, in_order, entering, bound_at, slot_of, behind_raise, behind_exit}
 use Rattle.cmm_walks.specs.Walks as walk
 use Rattle.mach_ir.specs.declared.mach.Instr.{Instr}
 use Rattle.mach_ir.specs.declared.mach.Mach.{Mach}

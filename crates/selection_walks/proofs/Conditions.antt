@@ -1,5 +1,5 @@
 -- Conditions and switches.
-use Rattle.std.proofs.Common.{◌≡◌, ℕ, suc, ◌+◌, ◌<◌, ◌≤◌, Bool, true, false, List, [], ◌∷◌, ◌++◌, Option, Some, None, refl, sym, ap, ◌∙◌, subst, arith}
+use Rattle.std.proofs.Common.{◌≡◌, ℕ, suc, ◌+◌, ◌<◌, ◌≤◌, Bool, true, false, cond, List, [], ◌∷◌, ◌++◌, Option, Some, None, refl, sym, ap, ◌∙◌, subst, arith}
 use Rattle.std.specs.Prelude.{Contains}
 use Rattle.std.proofs.lemmas.Bool.{eq-eqb}
 use Rattle.bs_words.specs.declared.operators.IntOp.{IntOp}
@@ -16,7 +16,7 @@ use Rattle.cmm_types.specs.Standing.{Visible}
 use Rattle.cmm_types.specs.Gathered.{faults_in}
 use Rattle.cmm_types.specs.declared.role.Role.TheVariants as role
 use Rattle.cmm_meaning.specs.Evaluation.{is_left_first}
-use Rattle.cmm_walks.specs.Walks.{Event, Binds, Uses, Task, Does, Evaluates, OneOf, Slotted, names, is_address, takes, operand, first_tasks, tasks_of, all_operands, two, bodies, behind_raise, behind_exit}
+use Rattle.cmm_walks.specs.Walks.{Event, Binds, Uses, Task, Does, Evaluates, OneOf, Slotted, names, is_address, takes, operand, tasks_of, all_operands, two, bodies, behind_raise, behind_exit}
 use Rattle.cmm_walks.specs.Walks as walk
 use Rattle.mach_ir.specs.Acts.{Target, On, At}
 use Rattle.mach_ir.specs.Meaning.{code_at}
@@ -188,7 +188,7 @@ module _ (m : Mach) (n : ℕ) (defined : List ℕ → Option DefinedSymbol) wher
       (c : Expression) (at : ℕ) (last : Task) (f : Bool) → Sit m n [] k w ts labels code (operand scope (slot + 1) slot c ++
       (Does (Uses slot at) ∷ last ∷ tasks)) →
       Sit m n [] k w ts labels code
-      ((((([] ++ first_tasks f [] (operand scope (slot + 1) slot c)) ++ ([] ++ first_tasks f (operand scope (slot + 1) slot c) [])) ++
+      ((((([] ++ cond f [] (operand scope (slot + 1) slot c)) ++ ([] ++ cond f (operand scope (slot + 1) slot c) [])) ++
       (Does (Uses slot at) ∷ [])) ++ (last ∷ [])) ++ tasks)
   flagged c at last true x = x
   flagged c at last false x = x

@@ -10,7 +10,7 @@ use Rattle.cmm_tree.specs.Tree.{LabelTree, Named as named, Bare, Done, Again, sa
 use Rattle.cmm_types.specs.Standing.{Visible, labels_of, lasting_labels_of}
 use Rattle.cmm_types.specs.Gathered.{faults_in, handlers_faults}
 use Rattle.cmm_types.specs.Types.{type_of, type_without_float, type_of_handlers, with_parameters, holds_float}
-use Rattle.cmm_walks.specs.Walks.{Task, Does, Binds, Evaluates, Catches, Handles, Slotted, behind_raise, behind_exit, or_else, handler_for, parameters_bound, with_slots, first_found}
+use Rattle.cmm_walks.specs.Walks.{Task, Does, Binds, Evaluates, Catches, Handles, Slotted, behind_raise, behind_exit, or_else, handler_for, parameters_bound, with_slots}
 use Rattle.cmm_walks.specs.Walks as walk
 use Rattle.mach_ir.specs.Acts.{On, drop_tries}
 use Rattle.mach_ir.specs.Meaning.{after_label, code_at, from_handler, tries_at}
@@ -155,9 +155,9 @@ module _ (m : Mach) (n : ℕ) where
       chosen within = or_else (handler_for label scope slot within whole tasks rest) (behind_exit label tasks)
 
       flagged : (within b : Bool) → (same_label label own && not (is_bare label && within)) ≡ b →
-          or_else (first_found b own_tasks (handler_for label scope slot within whole tasks rest)) (behind_exit label tasks) ≡ or_else
+          or_else (cond b (Some own_tasks) (handler_for label scope slot within whole tasks rest)) (behind_exit label tasks) ≡ or_else
           (handler_for label scope slot within whole tasks (Handle at own params body rest)) (behind_exit label tasks)
-      flagged within b e = ap (λ x. or_else (first_found x own_tasks (handler_for label scope slot within whole tasks rest)) (behind_exit label tasks)) (sym e)
+      flagged within b e = ap (λ x. or_else (cond x (Some own_tasks) (handler_for label scope slot within whole tasks rest)) (behind_exit label tasks)) (sym e)
 
       by : (within s : Bool) → same_label label own ≡ s → (q : Bool) → is_bare own ≡ q →
           label_of (own_labels within (first_label ∷ labels_from (suc l + length params) rest) ++ labels) label ≡ Some t →

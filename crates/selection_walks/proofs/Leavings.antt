@@ -71,10 +71,10 @@ pub data LabelSeen : Option Label → Option Visible → Type 0 where
 pub label_seen : {labels : List Label} {vis : List Visible} (label : LabelTree) → Seen labels vis → LabelSeen (label_of labels label) (handler_of vis label)
 label_seen label unseen = not_seen
 label_seen label (seen {t = t} {v = v} {labels = labels} {vis = vis} e l s) =
-    subst (λ b. LabelSeen (label_of (t ∷ labels) label) (Rattle.cmm_tree.specs.Symbols.first_found b v (handler_of vis label)))
+    subst (λ b. LabelSeen (label_of (t ∷ labels) label) (cond b (Some v) (handler_of vis label)))
     (label_turned label t.label ∙ ap (λ x. same_label x label) e) (by (same_label label t.label) (label_seen label s))
   where
-    by : (b : Bool) {o : Option Label} {u : Option Visible} → LabelSeen o u → LabelSeen (cond b (Some t) o) (Rattle.cmm_tree.specs.Symbols.first_found b v u)
+    by : (b : Bool) {o : Option Label} {u : Option Visible} → LabelSeen o u → LabelSeen (cond b (Some t) o) (cond b (Some v) u)
     by true x = is_seen l
     by false x = x
 

@@ -1,5 +1,5 @@
 -- One operand and two, and the operators that take them.
-use Rattle.std.proofs.Common.{◌≡◌, ℕ, zero, suc, ◌+◌, ◌≤◌, Bool, true, false, not, ◌&&◌, ◌⊎◌, inl, inr, ⊎_elim, List, [], ◌∷◌, ◌++◌, Option, Some, None, refl, sym, ap, ◌∙◌, subst, arith}
+use Rattle.std.proofs.Common.{◌≡◌, ℕ, zero, suc, ◌+◌, ◌≤◌, Bool, true, false, cond, not, ◌&&◌, ◌⊎◌, inl, inr, ⊎_elim, List, [], ◌∷◌, ◌++◌, Option, Some, None, refl, sym, ap, ◌∙◌, subst, arith}
 use Rattle.bs_words.specs.declared.operators.IntOp.{IntOp}
 use Rattle.bs_words.specs.declared.operators.IntOp.TheVariants as operator
 use Rattle.bs_words.specs.declared.types.Comp.TheVariants as comp
@@ -12,7 +12,7 @@ use Rattle.cmm_types.specs.Types.{Scoped, type_of}
 use Rattle.cmm_types.specs.Standing.{Visible}
 use Rattle.cmm_types.specs.Gathered.{faults_in}
 use Rattle.cmm_meaning.specs.Evaluation.{is_left_first}
-use Rattle.cmm_walks.specs.Walks.{Task, Slotted, names, takes, operand, first_tasks, tasks_of, all_operands, two}
+use Rattle.cmm_walks.specs.Walks.{Task, Slotted, names, takes, operand, tasks_of, all_operands, two}
 use Rattle.mach_ir.specs.Walks.{Among, first, later}
 use Rattle.mach_ir.specs.declared.op.Right.{Right}
 use Rattle.mach_ir.specs.declared.mach.Instr.{Instr}
@@ -143,7 +143,7 @@ module _ (m : Mach) (n : ℕ) (defined : List ℕ → Option DefinedSymbol) wher
   -- two operands, either of which may wait
   both : {k : ℕ} {ts : List ℕ} {labels : List Label} {w a b c : Option ℕ} {ca cb : Code} {oa ob : List Task} (la lb : Bool) → Step m n k ts labels w b cb ob →
       Step m n k ts labels b c ca oa → Step m n k ts labels w a ca oa → Step m n k ts labels a c cb ob →
-      Step m n k ts labels w c (ordered (lb && not la) ca cb) ((first_tasks lb [] ob ++ first_tasks la [] oa) ++ (first_tasks lb ob [] ++ first_tasks la oa []))
+      Step m n k ts labels w c (ordered (lb && not la) ca cb) ((cond lb [] ob ++ cond la [] oa) ++ (cond lb ob [] ++ cond la oa []))
   both false false x y z u = joined m n (joined m n x y) (nothing m n)
   both true false x y z u = joined m n (joined m n x (nothing m n)) y
   both false true x y z u = joined m n z (joined m n u (nothing m n))
@@ -156,9 +156,9 @@ module _ (m : Mach) (n : ℕ) (defined : List ℕ → Option DefinedSymbol) wher
       Step m n k ts labels w (gb (ga w)) (ordered (is_left_first (scopes env) left right) ca cb) (all_operands scope slot (two left right))
   two_args {k} {ts} {labels} {env} {scope} {b = b} {slot = slot} {ga = ga} {gb = gb} {ca = ca} {cb = cb} {w = w} left right li lj at x y =
       subst (λ sc. Step m n k ts labels w (gb (ga w)) (ordered (is_left_first (scopes env) left right) ca cb)
-      ((first_tasks (is_light_address sc right) [] (operand scope (slot + 2) (suc slot) right) ++ first_tasks (is_light_address sc left) []
+      ((cond (is_light_address sc right) [] (operand scope (slot + 2) (suc slot) right) ++ cond (is_light_address sc left) []
       (operand scope (slot + 2) slot left)) ++
-      (first_tasks (is_light_address sc right) (operand scope (slot + 2) (suc slot) right) [] ++ first_tasks (is_light_address sc left)
+      (cond (is_light_address sc right) (operand scope (slot + 2) (suc slot) right) [] ++ cond (is_light_address sc left)
       (operand scope (slot + 2) slot left) [])))
       (sym (paired_names at.paired))
       (both (is_light_address (scopes env) left) (is_light_address (scopes env) right)
@@ -169,7 +169,7 @@ module _ (m : Mach) (n : ℕ) (defined : List ℕ → Option DefinedSymbol) wher
 
   -- one operand
   one : {k : ℕ} {ts : List ℕ} {labels : List Label} {w a : Option ℕ} {ca : Code} {oa : List Task} (la : Bool) → Step m n k ts labels w a ca oa →
-      Step m n k ts labels w a ca (([] ++ first_tasks la [] oa) ++ ([] ++ first_tasks la oa []))
+      Step m n k ts labels w a ca (([] ++ cond la [] oa) ++ ([] ++ cond la oa []))
   one false x = joined m n x (nothing m n)
   one true x = x
 

@@ -1,15 +1,15 @@
 -- What is known of code and of the tasks that it stands for: the register that is followed, and the slot where its
 -- value stands in the text.
-use Rattle.std.proofs.Common.{◌≡◌, ℕ, zero, suc, ◌+◌, ◌<◌, ◌≤◌, Bool, true, false, cond, ◌⊎◌, inl, inr, ⊎_elim, List, [], ◌∷◌, ◌++◌, Option, Some, None, refl, sym, ap, ◌∙◌, subst, arith}
+use Rattle.std.proofs.Common.{◌≡◌, ℕ, zero, suc, ◌+◌, ◌<◌, ◌≤◌, Bool, true, false, cond, ◌⊎◌, inl, inr, ⊎_elim, List, [], ◌∷◌, ◌++◌, Option, Some, None, option_map, refl, sym, ap, ◌∙◌, subst, arith}
 use Rattle.std.specs.Prelude.{length, nat_eq, bytes_eq}
 use Rattle.std.proofs.lemmas.Bool.{true≢false, cases_Bool, eq-eqb, eqb-true}
 use Rattle.bs_words.specs.declared.types.Comp.TheVariants as comp
 use Rattle.bs_words.specs.declared.types.Ty.{Ty}
 use Rattle.bs_words.specs.declared.types.Ty.TheVariants as ty
 use Rattle.cmm_tree.specs.Tree.{LabelTree, Parameter}
-use Rattle.cmm_types.specs.Types.{Scoped, type_named}
-use Rattle.cmm_types.specs.Standing.{Visible, binding_of}
-use Rattle.cmm_walks.specs.Walks.{Event, Binds, Uses, Passes, Task, Does, Slotted, slot_of, names, is_address, behind_raise, behind_exit, parameters_bound, with_slots, takes, operand}
+use Rattle.cmm_types.specs.Types.{Scoped, binding_of, type_bound_by, type_named}
+use Rattle.cmm_types.specs.Standing.{Visible}
+use Rattle.cmm_walks.specs.Walks.{Event, Binds, Uses, Passes, Task, Does, Slotted, slotted_as, slot_of, names, is_address, behind_raise, behind_exit, parameters_bound, with_slots, takes, operand}
 use Rattle.cmm_walks.specs.Walks as walk
 use Rattle.mach_ir.specs.Meaning.{after_label, from_handler}
 use Rattle.mach_ir.specs.Walks.{Among, first, later}
@@ -107,15 +107,15 @@ pub looked : {n : ℕ} {w : Option ℕ} {bound : ℕ} {env : List Named} {scope 
     Looked n w (type_named (scopes env) x) (reg_of env x) (slot_of scope x) (binding_of (scopes env) x)
 looked x none = nowhere
 looked {n} {w} x (pair {x = y} {z = z} {env = env} {scope = scope} e l p q c r) =
-    subst (λ b. Looked n w (type_named (y.scoped ∷ scopes env) x) (reg_of (y ∷ env) x) (walk.first_slot b z.slot (slot_of scope x))
+    subst (λ b. Looked n w (type_named (y.scoped ∷ scopes env) x) (reg_of (y ∷ env) x) (option_map (λ (s : Slotted). s.slot) (cond b (Some z) (slotted_as scope x)))
     (binding_of (y.scoped ∷ scopes env) x)) (ap (λ (t : Scoped). bytes_eq t.name x) (sym e))
-    (by (bytes_eq y.scoped.name x) (looked x r))
+    (by (bytes_eq y.scoped.name x) (slotted_as scope x) (binding_of (scopes env) x) (looked x r))
   where
-    by : (b : Bool) {t : Ty} {o : Option Reg} {s : Option ℕ} {u : Option Scoped} → Looked n w t o s u →
-        Looked n w (Rattle.cmm_types.specs.Types.first_type b y.scoped.type t) (cond b (Some y.reg) o) (walk.first_slot b z.slot s)
-        (Rattle.cmm_tree.specs.Symbols.first_found b y.scoped u)
-    by true h = found p q c
-    by false h = h
+    by : (b : Bool) {o : Option Reg} (s : Option Slotted) (u : Option Scoped) → Looked n w (type_bound_by u) o (option_map (λ (t : Slotted). t.slot) s) u →
+        Looked n w (type_bound_by (cond b (Some y.scoped) u)) (cond b (Some y.reg) o) (option_map (λ (t : Slotted). t.slot) (cond b (Some z) s))
+        (cond b (Some y.scoped) u)
+    by true s u h = found p q c
+    by false s u h = h
 
 -- ---- labels
 

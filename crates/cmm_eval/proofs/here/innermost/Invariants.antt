@@ -1,5 +1,5 @@
 use Rattle.std.proofs.Common.{◌≡◌, ◌≤◌, take, length}
-use Rattle.cmm_eval.specs.Innermost.{innermost}
+use Rattle.cmm_meaning.specs.State.{innermost}
 use Rattle.cmm_eval.specs.Views.{bounds_view}
 use Rattle.cmm_eval.proofs.here.innermost.Given as goal
 

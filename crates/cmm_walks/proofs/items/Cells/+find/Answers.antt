@@ -4,7 +4,7 @@ use Rattle.cmm_walks.specs.Found.{found_in}
 use Rattle.cmm_walks.specs.Walks.{Slotted}
 use Rattle.cmm_walks.specs.declared.items.Item.{Item}
 use Rattle.cmm_walks.proofs.Arena.{item-within}
-use Rattle.cmm_walks.proofs.Names.{not_both, found-same, found-other, cell-scope, no-cell}
+use Rattle.cmm_walks.proofs.Names.{found-same, found-other, cell-scope, no-cell}
 use Rattle.cmm_walks.proofs.items.Cells.+find.Goals as goal
 
 pub find-returns-in-None : goal.find-returns-in-None
@@ -22,7 +22,7 @@ find_in-returns-then-outer-scope t c = λ s sound scope e.
     let b = sound.below c.args.scope _ h in
     let w = item-within (cells c.args.self.now) c.args.scope _ h in
     c.find.ensures (scope_at (cells c.args.self.now) c.in-Named.outer) sound (record { within = omega (arith, b, w); is = refl })
-    ∙ sym (ap (λ (l : List Slotted). found_in l c.args.name.now) n ∙ found-other _ _ c.args.name.now (λ q. not_both c.same.result (c.same.ensures.1 q) c.if-same.false))
+    ∙ sym (ap (λ (l : List Slotted). found_in l c.args.name.now) n ∙ found-other _ _ c.args.name.now (λ q. cc (c.same.ensures.1 q, c.if-same.false)))
 
 pub find_in-returns-else-outer-scope : goal.find_in-returns-else-outer-scope
 find_in-returns-else-outer-scope t c = λ s sound scope e.
