@@ -4,7 +4,8 @@ use Rattle.cmm_lex.specs.Token.{TokenTree}
 use Rattle.cmm_tree.specs.Tree.{Expression, Nothing, DataListTree, FunctionTree, ItemTree, functions_among, data_among}
 use Rattle.cmm_grammar.specs.Parts.{ItemPart, FunctionItem, DataItem, item_of}
 use Rattle.cmm_grammar.specs.Rule.{Sort, Value, AnItem, Listed, Rule, Give, One, Then, Expr, Inside, InsideOr, LabelledOr, Until, Maybe, Repeat}
-use Rattle.cmm_grammar.specs.Grammar.{a_token, close, a_data_item, data_items, data_list, parameters, sequence_to_close, a_function, item_rest, an_item}
+use Rattle.cmm_grammar.specs.Grammar.{a_token, a_data_item, data_items, data_list, parameters, sequence_to_close, a_function, item_rest, an_item}
+use Rattle.cmm_grammar.proofs.Paid.{moved}
 use Rattle.cmm_grammar.specs.Spelling.{Spells, AreItems, none, more, nothing, token, both, leaf, brackets, parenthesis, inside, inside_first, not_inside, labelled, not_labelled, ended, one_more, present, absent, last, another}
 use Rattle.cmm_grammar.proofs.Paid.{moved, Two}
 
@@ -82,7 +83,7 @@ ItemCounts (FunctionItem f) n = Unit {0}
 ItemCounts (DataItem d) n = length d.items ≤ n
 
 data_items_count : (at n : ℕ) → Counts (data_items at) n ItemCounts
-unfolding data_items a_data_item close a_token
+unfolding data_items a_data_item a_token
 data_items_count at n = λ ds m some c. omega (arith, some)
 
 function_counts : (at n : ℕ) → Counts (a_function at) n ItemCounts

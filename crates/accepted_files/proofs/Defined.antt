@@ -6,9 +6,11 @@ use Rattle.std.proofs.lemmas.List.{map-append}
 use Rattle.bs_words.specs.Fits.{data_start}
 use Rattle.cmm_data.specs.Placement.{DataSymbolTree, Definition, definition_of_data, symbols_among, items_from, start_behind, end_behind, defined_by_list, defined_from, definitions, value_among, value_of_symbol}
 use Rattle.cmm_data.specs.Placement as placement
+use Rattle.cmm_data.proofs.Table.{value_among-more}
+use Rattle.bs_words.specs.declared.values.Value.{Value}
 use Rattle.cmm_front.specs.FileOf.{IsFileOf}
 use Rattle.cmm_lex.proofs.Languages.{AreBytes}
-use Rattle.cmm_tree.specs.Symbols.{first_found, DefinedSymbol, data_symbols, definition_of}
+use Rattle.cmm_tree.specs.Symbols.{DefinedSymbol, data_symbols, definition_of}
 use Rattle.cmm_tree.specs.Symbols as defined
 use Rattle.cmm_tree.specs.Tree.{DatumTree, Define, Byte, Half, Int, Val, Address, Skip, Align, Text, Global, AFloat, DataItemTree, DataListTree, ItemTree, AFunction, AData, FileTree, data_among, data_lists}
 use Rattle.cmm_types.specs.Faults.{unknown_address}
@@ -46,9 +48,10 @@ found (s ∷ ss) [] name e some = absurd (cc)
 found (s ∷ ss) (d ∷ ds) name e some =
     let same : d.name ≡ s.name = cc in
     let later : map (λ (d : Definition). d.name) ds ≡ names ss = cc in
-    by (bytes_eq s.name name) (ap (λ n. bytes_eq n name) same) some (found ss ds name later)
+    subst (λ (o : Option Value). IsSome o) (sym (value_among-more d ds name))
+    (by (bytes_eq s.name name) (ap (λ n. bytes_eq n name) same) some (found ss ds name later))
   where
-    by : (b : Bool) → bytes_eq d.name name ≡ b → IsSome (first_found b s (definition_of ss name)) → (IsSome (definition_of ss name) → IsSome (value_among ds name)) →
+    by : (b : Bool) → bytes_eq d.name name ≡ b → IsSome (cond b (Some s) (definition_of ss name)) → (IsSome (definition_of ss name) → IsSome (value_among ds name)) →
         IsSome (cond (bytes_eq d.name name) (Some d.value) (value_among ds name))
     by true is some later = subst (λ b. IsSome (cond b (Some d.value) (value_among ds name))) (sym is) refl
     by false is some later = subst (λ b. IsSome (cond b (Some d.value) (value_among ds name))) (sym is) (later some)

@@ -1,38 +1,34 @@
 -- In a file without a fault of types no symbol is defined twice, and what is named is defined.
-use Rattle.std.proofs.Common.{◌≡◌, ◌≢◌, ◌∙◌, ℕ, ◌+◌, Bool, true, false, List, [], ◌∷◌, ◌++◌, map, append_assoc, Option, Some, None, bytes_eq, refl, sym, ap, ap₂, subst}
+use Rattle.std.proofs.Common.{◌≡◌, ◌≢◌, ◌∙◌, ℕ, ◌+◌, Bool, true, cond, List, [], ◌∷◌, ◌++◌, map, append_assoc, Option, Some, None, bytes_eq, refl, sym, ap, ap₂, subst}
 use Rattle.std.specs.List.{AllByRecursion}
+use Rattle.std.specs.Option.{option_or}
 use Rattle.std.proofs.lemmas.Slice.Eq.{bytes_eq-Decides}
+use Rattle.std.proofs.lemmas.Option.{none-some}
 use Rattle.std.proofs.lemmas.List.{map-append}
 use Rattle.std.proofs.lemmas.List.Elements.{filter_map-append}
 use Rattle.bs_fault.specs.declared.fault.Fault.{Fault}
 use Rattle.cmm_data.specs.Placement.{PlacedItem, DataSymbolTree, symbol_at, symbols_among, size_at, items_from, start_behind, end_behind, lists_behind, items_of_lists}
-use Rattle.cmm_tree.specs.Symbols.{first_found, DefinedSymbol, built_in, data_symbols, symbols, definition_of}
+use Rattle.cmm_tree.specs.Symbols.{DefinedSymbol, data_symbols, symbols, definition_of}
 use Rattle.cmm_tree.specs.Symbols as defined
 use Rattle.cmm_tree.specs.Tree.{DatumTree, Define, DataItemTree, DataListTree, FunctionTree, ItemTree, AFunction, AData, FileTree, functions_among, data_among}
 use Rattle.cmm_types.specs.Faults.{TypeFault, repeated_symbol}
+use Rattle.cmm_types.proofs.FirstSymbols.{definition_of-append}
 use Rattle.image_form.specs.Image.{AllDiffer}
 use Rattle.layout_rules.proofs.Rules.{all_append}
 
 -- ---- definitions
 
-first_unknown : (b : Bool) (s : DefinedSymbol) (o : Option DefinedSymbol) → first_found b s o ≡ None → (b ≡ false) × (o ≡ None)
-first_unknown true s o e = absurd (cc)
-first_unknown false s o e = (refl, e)
+neither_found : (a b : Option DefinedSymbol) → option_or a b ≡ None → (a ≡ None) × (b ≡ None)
+neither_found None b e = (refl, e)
+neither_found (Some s) b e = absurd (none-some s (sym e))
 
-unknown_front : (xs ys : List DefinedSymbol) (name : List ℕ) → definition_of (xs ++ ys) name ≡ None → definition_of xs name ≡ None
-unknown_front [] ys name e = refl
-unknown_front (x ∷ xs) ys name e =
-    let h = first_unknown (bytes_eq x.name name) x (definition_of (xs ++ ys) name) e in
-    ap (λ (b : Bool). first_found b x (definition_of xs name)) h.0 ∙ unknown_front xs ys name h.1
-
-unknown_back : (xs ys : List DefinedSymbol) (name : List ℕ) → definition_of (xs ++ ys) name ≡ None → definition_of ys name ≡ None
-unknown_back [] ys name e = e
-unknown_back (x ∷ xs) ys name e = unknown_back xs ys name (first_unknown (bytes_eq x.name name) x (definition_of (xs ++ ys) name) e).1
+unknown_parts : (xs ys : List DefinedSymbol) (name : List ℕ) → definition_of (xs ++ ys) name ≡ None → (definition_of xs name ≡ None) × (definition_of ys name ≡ None)
+unknown_parts xs ys name e = neither_found (definition_of xs name) (definition_of ys name) (sym (definition_of-append xs ys name) ∙ e)
 
 other_name : (s : DefinedSymbol) (name : List ℕ) → definition_of (s ∷ []) name ≡ None → s.name ≢ name
-other_name s name e =
-    let no_match = (first_unknown (bytes_eq s.name name) s None e).0 in
-    λ same. let yes_match = (bytes_eq-Decides s.name name).1 same in cc
+other_name s name e same =
+    let found : bytes_eq s.name name ≡ true = (bytes_eq-Decides s.name name).1 same in
+    none-some s (sym e ∙ ap (λ (b : Bool). cond b (Some s) None) found)
 
 abbrev pub names : List DefinedSymbol → List (List ℕ)
 names ss = map (λ (s : DefinedSymbol). s.name) ss
@@ -55,7 +51,7 @@ module _ (file : FileTree) (typed : (told : Fault) → TypeFault file told → �
     where
       fewer : (ss : List DefinedSymbol) → AllByRecursion (λ (t : DefinedSymbol). definition_of (before ++ s ∷ []) t.name ≡ None) ss → AllByRecursion (λ (t : DefinedSymbol). definition_of before t.name ≡ None) ss
       fewer [] all = tt
-      fewer (t ∷ ss) all = (unknown_front before (s ∷ []) t.name all.0, fewer ss all.1)
+      fewer (t ∷ ss) all = ((unknown_parts before (s ∷ []) t.name all.0).0, fewer ss all.1)
 
   pub differ_from : (before behind : List DefinedSymbol) → symbols file ≡ before ++ behind → AllDiffer (names behind)
   differ_from before [] whole = tt
@@ -65,7 +61,7 @@ module _ (file : FileTree) (typed : (told : Fault) → TypeFault file told → �
     where
       others : (ss : List DefinedSymbol) → AllByRecursion (λ (t : DefinedSymbol). definition_of (before ++ s ∷ []) t.name ≡ None) ss → AllByRecursion (λ name. s.name ≢ name) (names ss)
       others [] all = tt
-      others (t ∷ ss) all = (other_name s t.name (unknown_back before (s ∷ []) t.name all.0), others ss all.1)
+      others (t ∷ ss) all = (other_name s t.name (unknown_parts before (s ∷ []) t.name all.0).1, others ss all.1)
 
 -- ---- functions first, and then static data
 

@@ -9,6 +9,7 @@ use Rattle.std.proofs.lemmas.Grind.{flat_map-append}
 use Rattle.bs_fault.specs.declared.fault.Fault.TheVariants as fault
 use Rattle.bs_fault.specs.Limits.{longest_text}
 use Rattle.bs_fault.specs.Reported.{here, one_if, Faultless}
+use Rattle.bs_fault.proofs.Reported.{no_fault}
 use Rattle.bs_words.specs.External.{External}
 use Rattle.bs_words.specs.Fits.{data_limit, data_start}
 use Rattle.bs_words.specs.Symbol.{IsSymbol, caml_bound_error}
@@ -22,6 +23,7 @@ use Rattle.cmm_data.specs.Placement.{PlacedItem, DataSymbolTree, size_at, items_
 use Rattle.cmm_data.proofs.Steps.{end-within}
 use Rattle.cmm_data.proofs.Walk.{sound-first, sound-list, start-within}
 use Rattle.cmm_front.specs.FileOf.{IsFileOf}
+use Rattle.cmm_front.proofs.Readings.{is_placed}
 use Rattle.cmm_grammar.specs.Covered.{IsCovered}
 use Rattle.cmm_grammar.specs.Spelling.{AreItems, nesting}
 use Rattle.cmm_grammar.specs.Words.{is_integer_kind}
@@ -46,7 +48,6 @@ use Rattle.layout_rules.specs.Conditions.{IsRowLaid, IsExternalLaid, IsFileLaid}
 use Rattle.layout_rules.specs.Externals.{calls_in_function, all_calls, is_among, firsts_behind}
 use Rattle.layout_rules.proofs.Rules.{all_append}
 use Rattle.selection_accepted.proofs.Selecting.{definitions, front_accepts, selectable}
-use Rattle.selection_accepted.proofs.Symbols.{read_places}
 use Rattle.selection_laws.proofs.Accepting.{left, right}
 use Rattle.accepted_files.proofs.Calls.{AreLaid, laid_all, both, nothing_laid, calls_laid}
 use Rattle.accepted_files.proofs.Counted.{tokens_among, items_among, AreFew, items_few}
@@ -54,7 +55,6 @@ use Rattle.accepted_files.proofs.Differ.{names, names_append, list_symbols, list
 use Rattle.accepted_files.proofs.Few.{calls_few}
 use Rattle.cmm_grammar.proofs.Giving.{AllKnown}
 use Rattle.accepted_files.proofs.Spelled.{IsInRange, IsFine, AreFine, IsNamed, items_named, symbol_is}
-use Rattle.cmm_front.proofs.Readings.{no_fault}
 
 -- ---- what was read
 
@@ -296,8 +296,8 @@ module _ (text : List ℕ) (file : FileTree) (is : IsFileOf text file) where
         symbols = all_symbols (symbols_of file) (subst (AllByRecursion IsSymbol) (sym data_named) (bound_error_symbol, list_are_symbols file.items named));
         differ = differ;
         calls = firsts_laid [] (all_calls file) tt (laid_all (all_calls file) (all_laid (functions file) function_laid));
-        no_fault = read_places text file is.read;
-        roots = list_roots data_start (lists_of file) (omega arith) (read_places text file is.read) ((bound_error_symbol, (tt, tt)), lists_fine file.items named);
+        no_fault = is_placed text file is.read;
+        roots = list_roots data_start (lists_of file) (omega arith) (is_placed text file is.read) ((bound_error_symbol, (tt, tt)), lists_fine file.items named);
         few_functions = omega (arith, all, short, functions_few (functions file) covered);
         few_symbols =
             omega (arith, all, short, symbols_few (data_lists file), length-map (symbols_of file) (λ (s : DataSymbolTree). s.name), ap (λ (ns : List (List ℕ)). length ns) data_named);

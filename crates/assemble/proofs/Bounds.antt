@@ -1,7 +1,8 @@
 -- How large places and addresses are.
 use Rattle.std.proofs.Common.{◌≡◌, ℕ, zero, suc, ◌+◌, ◌*◌, ◌^◌, ◌<◌, ◌≤◌, Bool, true, false, cond, List, [], ◌∷◌, ◌++◌, Option, Some, None, length, map, get_or, refl, sym, ap, ◌∙◌, length-append, arith}
-use Rattle.std.specs.Prelude.{sum_by, bytes_eq}
+use Rattle.std.specs.Prelude.{sum_by}
 use Rattle.std.specs.List.{AllByRecursion}
+use Rattle.std.specs.Option.{IfSome}
 use Rattle.std.proofs.lemmas.List.Sums.{sum_by-cons, prefix_len-le-length}
 use Rattle.assemble.specs.Places.{forms_in, size_of}
 use Rattle.assemble.specs.Source.{IsSource, tree_of, entries_of, laid_of}
@@ -9,8 +10,9 @@ use Rattle.assemble.specs.declared.source.Source.{Source}
 use Rattle.bs_words.specs.External.{External}
 use Rattle.bs_words.specs.declared.values.Value.{Value}
 use Rattle.bs_words.specs.declared.values.Value.TheVariants.{Word, Block, Function}
-use Rattle.cmm_data.specs.Placement.{DataSymbolTree, Definition, symbols_among, items_from, definition_of_data, defined_by_list, defined_from, definitions, value_among, value_of_symbol, start_behind, end_behind, end_of_lists, built_in, data_end}
+use Rattle.cmm_data.specs.Placement.{DataSymbolTree, Definition, symbols_among, items_from, definition_of_data, defined_by_list, defined_from, definitions, value_of_symbol, start_behind, end_behind, end_of_lists, built_in, data_end}
 use Rattle.bs_words.specs.Fits.{data_start}
+use Rattle.cmm_data.proofs.Table.{value_among-all}
 use Rattle.cmm_tree.specs.Tree.{FileTree, ItemTree, AFunction, AData, data_among}
 use Rattle.image_form.specs.Image.{stub, code_limit}
 use Rattle.image_rules.proofs.Limits.{are_short}
@@ -158,21 +160,12 @@ low_items number from end (AData d ∷ items) h =
     (low_items number (end_behind from d) end items h)
 
 abbrev IfLow : ℕ → Option Value → Type 0
-IfLow end None = Unit {0}
-IfLow end (Some v) = IsLow end v
-
-found_low : (end : ℕ) (ds : List Definition) (name : List ℕ) → AreLow end ds → IfLow end (value_among ds name)
-found_low end [] name low = tt
-found_low end (d ∷ ds) name low = by (bytes_eq d.name name) (found_low end ds name low.1)
-  where
-    by : (same : Bool) → IfLow end (value_among ds name) → IfLow end (cond same (Some d.value) (value_among ds name))
-    by true rest = low.0
-    by false rest = rest
+IfLow end o = IfSome o (IsLow end)
 
 symbol_low : (file : FileTree) (name : List ℕ) → IfLow (data_end file) (value_of_symbol file name)
 symbol_low file name =
     let first = end_behind data_start built_in in
-    found_low (data_end file) (definitions file) name
+    value_among-all (IsLow (data_end file)) (definitions file) name
     (low_append (data_end file) (defined_by_list data_start built_in) (defined_from 0 first file.items)
     (low_list data_start (data_end file) built_in (end_of_lists-above first (data_among file.items)))
     (low_items 0 first (data_end file) file.items (omega arith)))

@@ -4,6 +4,7 @@ use Rattle.std.specs.Prelude.{◌==◌}
 use Rattle.std.specs.Int.{bit_at}
 use Rattle.std.proofs.lemmas.List.{get_or_past, get_or-set_same, get_or-set_other, get_or-replicate, length-replicate}
 use Rattle.std.proofs.lemmas.Bool.{cases_eq, cases_lt, eq-eqb, ne_eqb}
+use Rattle.std.proofs.Math.Bool.{and-true, and-false, or-true, or-false}
 use Rattle.std.proofs.lemmas.Nat.Bits.{bit_at-lt, bit_at-zero, bit_at_or, same_from_bits_below}
 use Rattle.bs_bits.specs.Words.{bit, Ors, Changed, HasNoBitFrom, IsNextBit}
 use Rattle.bs_bits.specs.Set.{has, union, Grew, HasNoneFrom, IsNext}
@@ -25,30 +26,14 @@ has-union (x ∷ xs) [] e k = absurd (omega (arith, e))
 has-union (x ∷ xs) (y ∷ ys) e zero = refl
 has-union (x ∷ xs) (y ∷ ys) e (suc k) = has-union xs ys (omega (arith, e)) k
 
-or_false : (x : Bool) → x ≡ (x || false)
-or_false true = refl
-or_false false = refl
-
-or_true : (x : Bool) → (x || true) ≡ true
-or_true true = refl
-or_true false = refl
-
-and_true : (x : Bool) → x ≡ (x && true)
-and_true true = refl
-and_true false = refl
-
-and_false : (x : Bool) → (x && false) ≡ false
-and_false true = refl
-and_false false = refl
-
 -- the members after an `insert`
 pub has-inserted : (xs : List Bool) (k j : ℕ) → k < length xs → has (set xs k true) j ≡ (has xs j || (k == j))
 has-inserted xs k j within =
     elim (cases_eq j k) [
       | inl e ↦
-          ap (λ (n : ℕ). has (set xs k true) n) e ∙ (get_or-set_same xs k true false within ∙ sym (ap (λ (b : Bool). has xs j || b) (eq-eqb k j (sym e)) ∙ or_true (has xs j)))
+          ap (λ (n : ℕ). has (set xs k true) n) e ∙ (get_or-set_same xs k true false within ∙ sym (ap (λ (b : Bool). has xs j || b) (eq-eqb k j (sym e)) ∙ or-true (has xs j)))
       | inr ne ↦
-          get_or-set_other xs k j true false ne ∙ (or_false (has xs j) ∙ ap (λ (b : Bool). has xs j || b) (sym (ne_eqb k j (λ e. ne (sym e)))))
+          get_or-set_other xs k j true false ne ∙ (sym (or-false (has xs j)) ∙ ap (λ (b : Bool). has xs j || b) (sym (ne_eqb k j (λ e. ne (sym e)))))
     ]
 
 -- the members after a `remove`
@@ -56,9 +41,9 @@ pub has-removed : (xs : List Bool) (k j : ℕ) → k < length xs → has (set xs
 has-removed xs k j within =
     elim (cases_eq j k) [
       | inl e ↦
-          ap (λ (n : ℕ). has (set xs k false) n) e ∙ (get_or-set_same xs k false false within ∙ sym (ap (λ (b : Bool). has xs j && not b) (eq-eqb k j (sym e)) ∙ and_false (has xs j)))
+          ap (λ (n : ℕ). has (set xs k false) n) e ∙ (get_or-set_same xs k false false within ∙ sym (ap (λ (b : Bool). has xs j && not b) (eq-eqb k j (sym e)) ∙ and-false (has xs j)))
       | inr ne ↦
-          get_or-set_other xs k j false false ne ∙ (and_true (has xs j) ∙ ap (λ (b : Bool). has xs j && not b) (sym (ne_eqb k j (λ e. ne (sym e)))))
+          get_or-set_other xs k j false false ne ∙ (sym (and-true (has xs j)) ∙ ap (λ (b : Bool). has xs j && not b) (sym (ne_eqb k j (λ e. ne (sym e)))))
     ]
 
 -- the empty set has none

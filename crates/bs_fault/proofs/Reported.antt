@@ -4,7 +4,7 @@ use Rattle.std.proofs.lemmas.Bool.{ltb-true, ltb-false, eqb-true, or_cases, or_p
 use Rattle.bs_fault.specs.FaultLines.{fault_place}
 use Rattle.bs_fault.specs.declared.fault.Fault.{Fault}
 use Rattle.bs_fault.specs.Order.{fault_number, Precedes}
-use Rattle.bs_fault.specs.Reported.{Faults, NoFault, One, Both, Among, here, first, second, IsReported, precedes, noted, noted_all}
+use Rattle.bs_fault.specs.Reported.{Faults, NoFault, One, Both, Among, here, first, second, Faultless, one_of, IsReported, precedes, noted, noted_all}
 
 precedes-trans : (a b c : Fault) → Precedes a b → Precedes b c → Precedes a c
 precedes-trans a b c (inl x) (inl y) = inl (omega arith)
@@ -138,3 +138,8 @@ reported-by faults (Some reported) h =
 -- what is noted of faults is reported of them
 pub noted-is-reported : (faults : Faults) → IsReported faults (noted_all faults None)
 noted-is-reported faults = reported-by faults (noted_all faults None) (all-best (λ _. ⊥) faults None (λ f x. x))
+
+-- where no fault is among what is found, none is found
+pub no_fault : (o : Option Fault) → Faultless (one_of o) → o ≡ None
+no_fault None none = refl
+no_fault (Some f) none = absurd (none f here)

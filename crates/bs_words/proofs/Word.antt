@@ -25,7 +25,7 @@ bits_below (negsuc n) h = omega arith
 -- ---- sizes of quotients
 
 -- division by a positive number, rounded down, is the shift
-div_euclid-shr : (z : ℤ) (m : ℕ) → int_div_euclid z (pos m) ≡ shr_z z m
+pub div_euclid-shr : (z : ℤ) (m : ℕ) → int_div_euclid z (pos m) ≡ shr_z z m
 div_euclid-shr (pos n) m = refl
 div_euclid-shr (negsuc n) m = refl
 
@@ -46,7 +46,7 @@ mag_abs (negsuc n) = omega arith
 quotient_below : (n : ℕ) → n < 2 ^ 127 → n / 2 ^ 64 < 2 ^ 63
 quotient_below n h = omega arith
 
-high_below : (z : ℤ) → mag z < 2 ^ 127 → mag (shr_z z (2 ^ 64)) < 2 ^ 63
+pub high_below : (z : ℤ) → mag z < 2 ^ 127 → mag (shr_z z (2 ^ 64)) < 2 ^ 63
 high_below (pos n) h = quotient_below n h
 high_below (negsuc n) h = quotient_below n h
 
@@ -56,7 +56,7 @@ high_below (negsuc n) h = quotient_below n h
 again : (z : ℤ) → FitsSigned w64 z → cast_signed w64 (cast_unsigned w64 z) ≡ z
 again z f = to_z-of_z w64 z f
 
-again128 : (z : ℤ) → FitsSigned w128 z → cast_signed w128 (cast_unsigned w128 z) ≡ z
+pub again128 : (z : ℤ) → FitsSigned w128 z → cast_signed w128 (cast_unsigned w128 z) ≡ z
 again128 z f = to_z-of_z w128 z f
 
 pub nonzero : (b : ℕ) (t : ℤ) → b < 2 ^ 64 → b ≢ 0 → FitsSigned w64 t → t ≡ signed_of b → IsNonZero w64 (cast_signed w64 (cast_unsigned w64 t))

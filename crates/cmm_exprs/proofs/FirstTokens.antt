@@ -12,7 +12,7 @@ use Rattle.cmm_grammar.specs.Rule.{Expr}
 use Rattle.cmm_grammar.specs.Grammar.{let_form, labelled_handlers, a_token, switch_form, a_case, handler_rest, more_handlers}
 use Rattle.cmm_grammar.specs.Reading.{Outcome, Read, Reader, bind, one_by, some_of, reading, forms_below, reads}
 use Rattle.cmm_grammar.proofs.Basics.{cond_off}
-use Rattle.cmm_parts.specs.Nodes.{handlers_from}
+use Rattle.cmm_tree.specs.Rows.{handlers_of}
 use Rattle.cmm_exprs.specs.Results.{binding_rule, let_one, case_goes_on, handler_part, marked_parts}
 use Rattle.cmm_exprs.proofs.Readings.{handlers-marked}
 
@@ -70,7 +70,7 @@ insert-first (y ∷ ys) x = refl
 
 -- a handler before others
 pub handlers-first : (first : Handler) (goes_on : Bool) (more items : List Handler) → items ≡ insert more 0 first
-    → handlers_from items ≡ handlers (handler_part goes_on first ∷ marked_parts handler_part more)
+    → handlers_of items ≡ handlers (handler_part goes_on first ∷ marked_parts handler_part more)
 handlers-first first goes_on more items e =
-    ap handlers_from (e ∙ insert-first more first)
+    ap handlers_of (e ∙ insert-first more first)
     ∙ ap (λ (v : Handlers). Handle first.at (label_view first.label) (params_view first.params.items) (expr_view first.body) v) (sym (handlers-marked more))

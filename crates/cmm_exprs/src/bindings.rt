@@ -114,7 +114,7 @@ fn binding_list<'t, F: Fn(&'t [Token], u32, u32) -> Result<(Expr, &'t [Token]), 
 }
 
 /// Bindings up to the parenthesis that closes them.
-#[tactic(auto, unfolding(cmm_grammar::specs::Grammar::bindings_to_close, cmm_grammar::specs::Grammar::close, cmm_grammar::specs::Grammar::a_token))]
+#[tactic(auto, unfolding(cmm_grammar::specs::Grammar::bindings_to_close, cmm_grammar::specs::Grammar::a_token))]
 fn bindings_to_close<'t, F: Fn(&'t [Token], u32, u32) -> Result<(Expr, &'t [Token]), Stop>>(
     forms: &F,
     alloc: Global,

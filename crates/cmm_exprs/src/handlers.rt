@@ -216,7 +216,7 @@ pub fn catch_form<'t, F: Fn(&'t [Token], u32, u32) -> Result<(Expr, &'t [Token])
 /// # Errors
 ///
 /// Where reading stops, and why; or `Stop::OutOfMemory`.
-#[tactic(auto, unfolding(cmm_grammar::specs::Grammar::exit_form, cmm_grammar::specs::Grammar::exit_rest, cmm_grammar::specs::Grammar::close, cmm_grammar::specs::Grammar::a_token))]
+#[tactic(auto, unfolding(cmm_grammar::specs::Grammar::exit_form, cmm_grammar::specs::Grammar::exit_rest, cmm_grammar::specs::Grammar::a_token))]
 pub fn exit_form<'t, F: Fn(&'t [Token], u32, u32) -> Result<(Expr, &'t [Token]), Stop>>(
     forms: &F,
     alloc: Global,

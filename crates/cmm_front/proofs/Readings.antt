@@ -5,7 +5,8 @@ use Rattle.cmm_grammar.specs.Reading.{Outcome, Read, Stops, items_at}
 use Rattle.cmm_lex.specs.Lexing.{Splits, first_range}
 use Rattle.cmm_lex.specs.Token.{TokenTree}
 use Rattle.cmm_lex.proofs.Languages.{AreBytes}
-use Rattle.bs_fault.specs.Reported.{Faultless, one_of, here, second}
+use Rattle.bs_fault.specs.Reported.{Faultless, second}
+use Rattle.bs_fault.proofs.Reported.{no_fault}
 use Rattle.cmm_tree.specs.Tree.{ItemTree, FileTree}
 use Rattle.cmm_grammar.specs.Spelling.{nesting}
 use Rattle.cmm_data.specs.Faults.{data_fault_of}
@@ -67,10 +68,6 @@ read_of text _ file (by_tokens tokens lexing result short cut tells) same =
 
 pub is_read : (text : List ℕ) (file : FileTree) → ReadsAs text (Ok file) → IsRead text file
 is_read text file h = read_of text (Ok file) file (said_reading text (Ok file) h) refl
-
-pub no_fault : (o : Option Fault) → Faultless (one_of o) → o ≡ None
-no_fault None h = refl
-no_fault (Some f) h = absurd (h f here)
 
 -- the data of a text that is read has a place
 pub is_placed : (text : List ℕ) (file : FileTree) → ReadsAs text (Ok file) → data_fault_of file ≡ None

@@ -10,9 +10,9 @@ use Rattle.bs_words.specs.declared.values.Value.{Value}
 use Rattle.bs_words.specs.declared.values.Value.TheVariants.{Word, Function}
 use Rattle.cmm_data.specs.Placement.{data_end, value_of_symbol}
 use Rattle.cmm_tree.specs.Tree.{Expression, Expressions, Symbol, Name, Let, App, NoMore, More, NoBinding, Bind, FunctionTree, FileTree, functions, comps_of}
-use Rattle.cmm_types.specs.Types.{first_type, type_named, type_of}
+use Rattle.cmm_types.specs.Types.{binding_of, type_bound_by, type_of}
 use Rattle.cmm_meaning.specs.Layout.{Layout}
-use Rattle.cmm_meaning.specs.State.{World, Binding, Called, Here, scope, value_of}
+use Rattle.cmm_meaning.specs.State.{World, Binding, Called, Here, innermost, scope}
 use Rattle.cmm_meaning.specs.Evaluation.{OutOfFuel, Evaluated, Evaluation, Gives, Stops, Surroundings, and_then, with_value, spend, typed, tested, looked_up, applied, called_with, back_from_call, as_written, stack_below, back, with_bound, evaluated, waiting, filled}
 use Rattle.cmm_meaning.specs.Run.{activated, callees, outside}
 use Rattle.cmm_gen.specs.Drawn.{Drawn, DrawnFunction, symbol_of}
@@ -128,8 +128,8 @@ below : (names : List Binding) (name other : List ℕ) (v : ℕ) → bytes_eq na
 below names name other v differs k =
     record {
       word = k.word;
-      value = ap (λ b. cond b (Some (Word v)) (value_of names other)) differs ∙ k.value;
-      type = ap (λ b. first_type b ty.Int (type_named (map (λ (b : Binding). b.scoped) names) other)) differs ∙ k.type;
+      value = ap (λ b. option_map (λ (c : Binding). c.value) (cond b (Some (bound_word name v)) (innermost names other))) differs ∙ k.value;
+      type = ap (λ b. type_bound_by (cond b (Some (bound_word name v).scoped) (binding_of (map (λ (b : Binding). b.scoped) names) other))) differs ∙ k.type;
     }
 
 abbrev parameters : (a b : ℕ) → List Binding

@@ -12,7 +12,7 @@ use Rattle.cmm_lex.specs.declared.token.Sign.TheVariants as sign
 use Rattle.cmm_lex.specs.Automaton.{run, after, after_start, accepts}
 use Rattle.cmm_lex.specs.Enclosed.{BeginsWith, AComment, opening}
 use Rattle.cmm_lex.specs.Lexing.{Splits, ended, gap, token, separator, is_out_of_range, first_range}
-use Rattle.cmm_lex.specs.Strings.{IsString, IsInside}
+use Rattle.cmm_lex.specs.Strings.{IsInside}
 use Rattle.cmm_lex.specs.Token.{TokenTree}
 use Rattle.cmm_lex.specs.Tokens.{IsToken, is_sign, is_string, Longest}
 use Rattle.cmm_lex.specs.Scanning.{is_separator, is_star_first, behind_string, IsFine}
@@ -20,7 +20,7 @@ use Rattle.cmm_lex.proofs.Languages.{AreBytes}
 use Rattle.cmm_lex.proofs.Scans.{AreBytes-front, run-dead}
 use Rattle.cmm_lex.proofs.Spelled.{accepted-token}
 use Rattle.cmm_lex.proofs.Closings.{string-to, inside-ends}
-use Rattle.cmm_lex.proofs.Fronts.{separator-from, string-token}
+use Rattle.cmm_lex.proofs.Fronts.{separator-from, string-quote, string-token}
 
 -- ---- bytes after a token
 
@@ -105,10 +105,6 @@ no-quote text rest plain (bs, e) = not-first text rest 34 bs plain refl e
 
 pub no-comment : (text rest : List ℕ) → begins_plain text ≡ true → BeginsWith (text ++ rest) (opening AComment) → ⊥
 no-comment text rest plain (bs, e) = not-first text rest 40 (42 ∷ bs) plain refl e
-
--- bytes that begin with a string begin with a quote
-string-quote : (bytes text rest : List ℕ) → IsString text → bytes ≡ text ++ rest → BeginsWith bytes (34 ∷ [])
-string-quote bytes text rest (inside, e, h) whole = (inside ++ rest, whole ∙ ap (λ (v : List ℕ). v ++ rest) e)
 
 -- the longest token, where the automaton halts after it
 pub longest-there : (text rest : List ℕ)

@@ -1,38 +1,24 @@
 -- The numerals of generated texts: the numbers from -100 to 100, and those below 1,000 in symbols.
-use Rattle.std.proofs.Common.{◌≡◌, ℕ, zero, suc, ◌≤◌, ◌<◌, Bool, true, false, ◌&&◌, ◌==◌, eqb-true, nat_le, nat_lt, List, [], ◌∷◌, ◌++◌, length, lit<, Option, Some, None, refl, sym, ap, subst, inl, inr, arith}
-use Rattle.std.proofs.lemmas.Bool.{and_parts, cases_eq, false≢true, leb-true, ltb-true, ne_eqb}
+use Rattle.std.proofs.Common.{◌≡◌, ℕ, ◌≤◌, ◌<◌, Bool, true, false, ◌&&◌, ◌==◌, eqb-true, nat_le, nat_lt, List, [], ◌∷◌, ◌++◌, length, lit<, Option, Some, None, refl, ap, arith}
+use Rattle.std.proofs.lemmas.Bool.{and_parts, false≢true, leb-true, ltb-true, ne_eqb}
 use Rattle.std.specs.Fmt.{decimal, digits}
 use Rattle.bs_words.specs.Word.{sub_word}
 use Rattle.cmm_lex.specs.declared.state.Shape.{Shape}
 use Rattle.cmm_lex.specs.declared.state.Shape.TheVariants as shape
 use Rattle.cmm_lex.specs.declared.state.State.{State}
-use Rattle.cmm_lex.specs.declared.state.State.TheVariants.{Start, Name, Number, Operator, Done, Dead}
+use Rattle.cmm_lex.specs.declared.state.State.TheVariants.{Start}
 use Rattle.cmm_lex.specs.declared.token.TokenKind.TheVariants as kind
 use Rattle.cmm_lex.specs.Automaton.{run, after, after_start, after_number, after_decimal, after_operator, accepts, accepts_number, is_dead}
 use Rattle.cmm_lex.specs.Integers.{integer_value}
 use Rattle.cmm_lex.specs.Scanning.{kind_of}
 use Rattle.cmm_lex.specs.Strings.{IsInside, closing, plain, unescaped, string_bytes}
 use Rattle.bs_words.specs.Symbol.{is_symbol}
-use Rattle.cmm_lex.proofs.Languages.{AreBytes}
+use Rattle.cmm_lex.proofs.Languages.{AreBytes, all_below, all_below-at}
+use Rattle.cmm_lex.proofs.Scans.{dead-is}
 use Rattle.cmm_lex.proofs.Spelled.{token-found}
 use Rattle.cmm_gen.specs.Drawn.{number_text, symbol_of}
 use Rattle.cmm_gen.proofs.Trees.{number_word}
 use Rattle.cmm_gen.proofs.Lexed.{Word, Halts, begins_plain, Closed, closed-string, bytes-append}
-
--- ---- tests below a number
-
-abbrev pub all_below : ℕ → (ℕ → Bool) → Bool
-all_below zero p = true
-all_below (suc n) p = p n && all_below n p
-
-pub all_below-at : (n : ℕ) (p : ℕ → Bool) → all_below n p ≡ true → (b : ℕ) → b < n → p b ≡ true
-all_below-at zero p e b h = absurd (omega arith)
-all_below-at (suc n) p e b h =
-    let both = and_parts (p n) (all_below n p) e in
-    elim (cases_eq b n) [
-      | inl same ↦ subst (λ (v : ℕ). p v ≡ true) (sym same) both.0
-      | inr other ↦ all_below-at n p both.1 b (omega arith)
-    ]
 
 -- ---- tests of a word
 
@@ -43,14 +29,6 @@ are_bytes (b ∷ bs) = nat_lt b 256 && are_bytes bs
 pub are-bytes : (text : List ℕ) → are_bytes text ≡ true → AreBytes text
 are-bytes [] e = tt
 are-bytes (b ∷ bs) e = let p = and_parts (nat_lt b 256) (are_bytes bs) e in (ltb-true b 256 p.0, are-bytes bs p.1)
-
-pub dead-is : (s : State) → is_dead s ≡ true → s ≡ Dead
-dead-is Dead e = refl
-dead-is Start e = cc
-dead-is (Name part) e = cc
-dead-is (Number part) e = cc
-dead-is (Operator part) e = cc
-dead-is (Done k) e = cc
 
 unfoldable pub halts : State → Bool
 halts s = is_dead (after s 32) && (is_dead (after s 10) && (is_dead (after s 40) && (is_dead (after s 41) && is_dead (after s 58))))

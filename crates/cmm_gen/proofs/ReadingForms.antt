@@ -39,7 +39,6 @@ passes d test t e = token AToken d (passing test) t t (rw e refl)
 closes : (d : ℕ) (c : TokenTree) (e : Expression)
     → is_close c ≡ true
     → Spells AnExpression d (Then AToken AnExpression close (λ _. Give AnExpression e)) e (c ∷ [])
-unfolding close
 closes d c e is = both AToken AnExpression d _ _ c e (c ∷ []) [] (passes d is_close c is) (nothing AnExpression d e)
 
 pub pair-spells : (d at : ℕ) (p : Pair) (a b : Expression) (xs ys : List TokenTree) (c : TokenTree)
@@ -87,7 +86,7 @@ load-spells d at w a xs c chunk_is is h =
 
 -- no expression up to a parenthesis that closes, and two
 no-operands : (d : ℕ) (c : TokenTree) → is_close c ≡ true → Spells (Listed AnExpression) d operands [] (c ∷ [])
-unfolding operands close
+unfolding operands
 no-operands d c is =
     ended AnExpression (Listed AnExpression) d is_close Expr _ c [] [] is
     (both AToken (Listed AnExpression) d _ _ c [] (c ∷ []) [] (passes d is_close c is) (nothing (Listed AnExpression) d []))
@@ -99,7 +98,7 @@ two-operands : (d : ℕ) (a b : Expression) (u v : TokenTree) (xs ys : List Toke
     → Spells AnExpression d Expr a (u ∷ xs)
     → Spells AnExpression d Expr b (v ∷ ys)
     → Spells (Listed AnExpression) d operands (a ∷ b ∷ []) (u ∷ (xs ++ (v ∷ (ys ++ (c ∷ [])))))
-unfolding operands close
+unfolding operands
 two-operands d a b u v xs ys c first second is h g =
     one_more AnExpression (Listed AnExpression) d is_close Expr _ u a (a ∷ b ∷ []) xs (v ∷ (ys ++ (c ∷ []))) first h
     (one_more AnExpression (Listed AnExpression) d is_close Expr _ v b (a ∷ b ∷ []) ys (c ∷ []) second g
@@ -232,7 +231,7 @@ pub parameters-spell : (d : ℕ) (a b : Parameter) (u v : TokenTree) (xs ys : Li
     → Spells AParameter d a_parameter a (u ∷ xs)
     → Spells AParameter d a_parameter b (v ∷ ys)
     → Spells (Listed AParameter) d parameters (a ∷ b ∷ []) (u ∷ (xs ++ (v ∷ (ys ++ (c ∷ [])))))
-unfolding parameters close
+unfolding parameters
 parameters-spell d a b u v xs ys c first second is h g =
     one_more AParameter (Listed AParameter) d is_close a_parameter _ u a (a ∷ b ∷ []) xs (v ∷ (ys ++ (c ∷ []))) first h
     (one_more AParameter (Listed AParameter) d is_close a_parameter _ v b (a ∷ b ∷ []) ys (c ∷ []) second g

@@ -1,5 +1,5 @@
 -- What is drawn binds no address.
-use Rattle.std.proofs.Common.{◌≡◌, ℕ, zero, suc, ◌+◌, ◌⊎◌, inl, inr, Bool, true, false, List, [], ◌∷◌, ◌++◌, Option, Some, None, codes, refl, ap, sym, subst}
+use Rattle.std.proofs.Common.{◌≡◌, ℕ, zero, suc, ◌+◌, ◌⊎◌, inl, inr, Bool, true, false, cond, List, [], ◌∷◌, ◌++◌, Option, Some, None, codes, refl, ap, sym, subst}
 use Rattle.std.specs.List.{Contains}
 use Rattle.bs_words.specs.declared.types.Ty.{Ty}
 use Rattle.bs_words.specs.declared.types.Ty.TheVariants as ty
@@ -9,7 +9,7 @@ use Rattle.cmm_types.specs.Light.{is_light_address}
 use Rattle.cmm_types.specs.Types.{Scoped, unless_float, type_of}
 use Rattle.cmm_types.proofs.Containing.{contains_none, contains_cases}
 use Rattle.cmm_walks.specs.Walks
-use Rattle.cmm_walks.specs.Walks.{Event, Binds, Uses, Passes, is_address, Slotted, names, slot_of, Task, Does, Evaluates, Enters, OneOf, MayRaise, Raises, Exits, Catches, Handles, first_tasks, operand, takes, count, waiting, filled, all_operands, used_at, tasks_of, entering, handling, behind_raise, Walk, walk_tasks, IsWalkOf}
+use Rattle.cmm_walks.specs.Walks.{Event, Binds, Uses, Passes, is_address, Slotted, names, slot_of, Task, Does, Evaluates, Enters, OneOf, MayRaise, Raises, Handles, operand, takes, count, waiting, filled, all_operands, used_at, tasks_of, entering, handling, behind_raise, Walk, walk_tasks}
 use Rattle.cmm_walks.specs.AddrLive.{IsLive}
 use Rattle.cmm_gen.specs.Drawn.{Drawn, DrawnFunction}
 use Rattle.cmm_gen.proofs.Trees
@@ -78,7 +78,7 @@ taken : (at slot n : ℕ) → AreTasks (takes at slot n)
 taken at slot zero = none
 taken at slot (suc n) = more _ _ (does _ (uses slot at)) (taken at (suc slot) n)
 
-first_of : (b : Bool) (ts us : List Task) → AreTasks ts → AreTasks us → AreTasks (first_tasks b ts us)
+first_of : (b : Bool) (ts us : List Task) → AreTasks ts → AreTasks us → AreTasks (cond b ts us)
 first_of true ts us p q = p
 first_of false ts us p q = q
 

@@ -1,5 +1,5 @@
 -- The type of what is drawn: int, where its names have type int.
-use Rattle.std.proofs.Common.{◌≡◌, ℕ, Bool, true, false, ◌||◌, List, ◌∷◌, None, codes, bytes_eq, refl, ap, ◌∙◌}
+use Rattle.std.proofs.Common.{◌≡◌, ℕ, Bool, true, false, ◌||◌, cond, List, ◌∷◌, Some, None, codes, bytes_eq, refl, ap, ◌∙◌}
 use Rattle.bs_words.specs.declared.types.Comp.TheVariants as comp
 use Rattle.bs_words.specs.declared.types.Ret.TheVariants as ret
 use Rattle.bs_words.specs.declared.types.Ty.{Ty}
@@ -8,7 +8,7 @@ use Rattle.bs_words.specs.declared.operators.CmpOp.TheVariants.{Lt}
 use Rattle.bs_words.specs.declared.operators.IntOp.TheVariants.{Add, Cmp}
 use Rattle.cmm_tree.specs.Tree.{Expression, Integer, Symbol, Name, App, Let, Operator, Alloc, If, Raise, NoMore, More, NoBinding, Bind}
 use Rattle.cmm_types.specs.Light.{is_light_address}
-use Rattle.cmm_types.specs.Types.{Scoped, first_type, join, type_named, holds_float, unless_float, type_without_float, type_of}
+use Rattle.cmm_types.specs.Types.{Scoped, binding_of, type_bound_by, join, type_named, holds_float, unless_float, type_without_float, type_of}
 use Rattle.cmm_gen.specs.Drawn.{Drawn, DrawnFunction, symbol_of}
 use Rattle.cmm_gen.proofs.Trees.{IsTreeOf, number, variable, sum, difference, product, choice, cell, attempt, IsBodyOf}
 use Rattle.cmm_gen.proofs.Trees
@@ -135,8 +135,8 @@ whole at p_at inner_at q_at p q b = Let at (Bind p_at (codes "p") None p NoBindi
 pub ints_below : (name : List ℕ) (scope : List Scoped) → bytes_eq name (codes "x") ≡ false → bytes_eq name (codes "y") ≡ false → HasInts scope → HasInts (bound_int name ∷ scope)
 ints_below name scope p q i =
     record {
-      x = ap (λ b. first_type b ty.Int (type_named scope (codes "x"))) p ∙ i.x;
-      y = ap (λ b. first_type b ty.Int (type_named scope (codes "y"))) q ∙ i.y;
+      x = ap (λ b. type_bound_by (cond b (Some (bound_int name)) (binding_of scope (codes "x")))) p ∙ i.x;
+      y = ap (λ b. type_bound_by (cond b (Some (bound_int name)) (binding_of scope (codes "y")))) q ∙ i.y;
     }
 
 module _ (j : ℕ) (f : DrawnFunction) (inner_at q_at : ℕ) (q b : Expression) (qt : IsTreeOf f.q q) (bt : IsBodyOf j f.b b) (scope : List Scoped) (i : HasInts scope) where

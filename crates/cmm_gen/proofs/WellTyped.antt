@@ -1,5 +1,6 @@
 -- What is drawn has no fault of types or symbols.
-use Rattle.std.proofs.Common.{◌≡◌, ℕ, zero, suc, ◌+◌, ◌<◌, ◌≤◌, ◌^◌, Bool, true, false, List, [], ◌∷◌, ◌++◌, Option, Some, None, is_some, is_none, length, codes, bytes_eq, refl, ap, sym, ◌∙◌, subst, arith}
+use Rattle.std.proofs.Common.{◌≡◌, ℕ, zero, suc, ◌+◌, ◌<◌, ◌≤◌, ◌^◌, Bool, true, false, cond, List, [], ◌∷◌, ◌++◌, Option, Some, None, is_some, is_none, length, codes, bytes_eq, refl, ap, sym, ◌∙◌, subst, arith}
+use Rattle.std.specs.Option.{option_or}
 use Rattle.bs_fault.specs.declared.fault.Fault.{Fault}
 use Rattle.bs_words.specs.declared.operators.CmpOp.TheVariants.{Lt}
 use Rattle.bs_words.specs.declared.operators.IntOp.TheVariants.{Cmp}
@@ -9,16 +10,16 @@ use Rattle.bs_words.specs.declared.types.Ty.{Ty}
 use Rattle.bs_words.specs.declared.types.Ty.TheVariants as ty
 use Rattle.cmm_tree.specs.Place.{place_of}
 use Rattle.cmm_tree.specs.Tree.{Expression, Symbol, Name, App, Operator, Alloc, More, NoMore, NoBinding, Bind, Let, FunctionTree, ItemTree, FileTree}
-use Rattle.cmm_types.specs.Types.{Scoped, first_type, type_named, unless_float, type_of}
-use Rattle.cmm_types.specs.Standing.{Visible, binding_of}
-use Rattle.cmm_tree.specs.Symbols.{first_found, DefinedSymbol, built_in, symbols_among, definition_of}
+use Rattle.cmm_types.specs.Types.{Scoped, binding_of, type_bound_by, type_named, unless_float, type_of}
+use Rattle.cmm_types.specs.Standing.{Visible}
+use Rattle.cmm_tree.specs.Symbols.{DefinedSymbol, built_in, symbols_among, definition_of}
 use Rattle.cmm_types.specs.Faults.{TypeFault}
-use Rattle.cmm_types.specs.Gathered.{arity_faults, parameters_of, role_faults, used_as, faults_in, function_faults, items_faults, symbol_faults, added, first_symbols, file_faults, is_address}
+use Rattle.cmm_types.specs.Gathered.{arity_faults, parameters_of, role_faults, used_as, faults_in, function_faults, items_faults, symbol_faults, first_symbols, file_faults, is_address}
 use Rattle.bs_fault.specs.Reported.{Faults, NoFault, Both, one_if}
 use Rattle.cmm_types.specs.declared.role.Role.TheVariants as role
 use Rattle.cmm_types.proofs.Among.{Among, first, second}
 use Rattle.cmm_types.proofs.Exact.{below}
-use Rattle.cmm_types.proofs.FirstSymbols.{with_symbols-all}
+use Rattle.cmm_types.proofs.FirstSymbols.{definition_of-append, with_symbols-all}
 use Rattle.cmm_gen.specs.Drawn.{Drawn, DrawnFunction, symbol_of}
 use Rattle.cmm_gen.proofs.Trees
 use Rattle.cmm_gen.proofs.Trees.{IsTreeOf, IsBodyOf, IsFunctionTreeOf, AreItemsOf, number, variable, sum, difference, product, choice, cell, attempt}
@@ -52,13 +53,12 @@ of_value at t e =
     subst P (sym e) nothing
 
 -- a name that has type int is bound
-bound_first : (b : Bool) (s : Scoped) (t : Ty) (others : Option Scoped) → (t ≡ ty.Int → is_none others ≡ false) → first_type b s.type t ≡ ty.Int → is_none (first_found b s others) ≡ false
-bound_first true s t others f e = refl
-bound_first false s t others f e = f e
-
 is_bound : (names : List Scoped) (name : List ℕ) → type_named names name ≡ ty.Int → is_none (binding_of names name) ≡ false
-is_bound [] name e = cc e
-is_bound (s ∷ rest) name e = bound_first (bytes_eq s.name name) s (type_named rest name) (binding_of rest name) (is_bound rest name) e
+is_bound names name e = by (binding_of names name) e
+  where
+    by : (o : Option Scoped) → type_bound_by o ≡ ty.Int → is_none o ≡ false
+    by None e = cc e
+    by (Some s) e = refl
 
 -- a function of two parameters is defined
 pub data HasTwo : Option DefinedSymbol → Type 0 where
@@ -161,11 +161,11 @@ module _ (d : List ℕ → Option DefinedSymbol) where
 
 -- ---- symbols
 
-found_first : (b : Bool) (s : DefinedSymbol) (others : Option DefinedSymbol) → b ≡ true → s.parameters ≡ Some 2 → HasTwo (first_found b s others)
+found_first : (b : Bool) (s : DefinedSymbol) (others : Option DefinedSymbol) → b ≡ true → s.parameters ≡ Some 2 → HasTwo (cond b (Some s) others)
 found_first true s others e p = with_two s p
 found_first false s others e p = cc e
 
-found_later : (b : Bool) (s : DefinedSymbol) (others : Option DefinedSymbol) → b ≡ false → HasTwo others → HasTwo (first_found b s others)
+found_later : (b : Bool) (s : DefinedSymbol) (others : Option DefinedSymbol) → b ≡ false → HasTwo others → HasTwo (cond b (Some s) others)
 found_later false s others e h = h
 found_later true s others e h = cc e
 
@@ -186,14 +186,11 @@ defined _ _ _ (Trees.more k f fs tree items is rest) (suc j) n less e small =
     (defined (suc k) fs items rest j n (omega arith) (omega arith) small)
 
 -- a symbol that one more does not define either
-not_before : (b : Bool) (x : DefinedSymbol) (o p : Option DefinedSymbol) → (o ≡ None → p ≡ None) → first_found b x o ≡ None → first_found b x p ≡ None
-not_before true x o p f e = cc e
-not_before false x o p f e = f e
-
 still_none : (before : List DefinedSymbol) (s : DefinedSymbol) (name : List ℕ) → definition_of before name ≡ None → bytes_eq s.name name ≡ false → definition_of (before ++ s ∷ []) name ≡ None
-still_none [] s name e other = ap (λ b. first_found b s None) other
-still_none (x ∷ before) s name e other =
-    not_before (bytes_eq x.name name) x (definition_of before name) (definition_of (before ++ s ∷ []) name) (λ none. still_none before s name none other) e
+still_none before s name e other =
+    definition_of-append before (s ∷ []) name
+    ∙ ap (λ (o : Option DefinedSymbol). option_or o (definition_of (s ∷ []) name)) e
+    ∙ ap (λ (b : Bool). cond b (Some s) None) other
 
 -- no symbol is defined twice
 symbols_clean : (k : ℕ) (fs : List DrawnFunction) (items : List ItemTree) (before : List DefinedSymbol) → AreItemsOf k fs items → k + length fs < 2 ^ 64 → ((n : ℕ) → k ≤ n → n < 2 ^ 64 → definition_of before (symbol_of n) ≡ None) → IsClean (symbol_faults before (symbols_among items))
@@ -202,7 +199,7 @@ symbols_clean _ _ _ before (Trees.more k f fs tree items is rest) few new =
     let own : DefinedSymbol = record { name = tree.name; at = tree.name_at; parameters = Some (length tree.params) } in
     let fresh : is_some (definition_of before tree.name) ≡ false =
     ap (λ name. is_some (definition_of before name)) (name_is k f tree is) ∙ ap is_some (new k (omega arith) (omega arith)) in
-    let P : Bool → Type 0 = λ b. IsClean (symbol_faults (added b before own) (symbols_among items)) in
+    let P : Bool → Type 0 = λ b. IsClean (symbol_faults (cond b before (before ++ own ∷ [])) (symbols_among items)) in
     both _ _ (unless _ _ fresh)
     (subst P (sym fresh)
     (symbols_clean (suc k) fs items (before ++ own ∷ []) rest (omega arith)

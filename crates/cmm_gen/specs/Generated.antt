@@ -3,11 +3,7 @@ use Rattle.std.specs.Prelude.{◌≡◌, ℕ, List, Some, length, slice_get}
 use Rattle.cmm_tree.specs.Tree.{FunctionTree, FileTree, functions}
 use Rattle.cmm_front.specs.FileOf.{IsFileOf}
 use Rattle.cmm_meaning.specs.Layout.{Layout}
-use Rattle.cmm_meaning.specs.Run.{Outcome, Improper, cmm_run}
-
-abbrev pub IsProper : Outcome → Type 0
-IsProper (Improper kind) = ⊥
-IsProper _ = Unit {0}
+use Rattle.cmm_meaning.specs.Run.{IsProper, cmm_run}
 
 -- no run of the file is improper: with any words, as many as the function that it enters has parameters, with
 -- any answers to external calls, and with any fuel

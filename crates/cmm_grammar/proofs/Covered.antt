@@ -1,5 +1,5 @@
 -- Every item that tokens spell is covered by them: its integers are words, and its nodes, values and tries are few.
-use Rattle.std.proofs.Common.{◌≡◌, ℕ, ◌+◌, ◌*◌, ◌%◌, ◌^◌, ◌<◌, ◌≤◌, zero, suc, Bool, true, false, cond, List, [], ◌∷◌, ◌++◌, length, Option, Some, None, All, is_some, lit<, refl, subst, arith}
+use Rattle.std.proofs.Common.{◌≡◌, ℕ, ◌+◌, ◌*◌, ◌^◌, ◌<◌, ◌≤◌, zero, suc, Bool, true, false, cond, List, [], ◌∷◌, length, Option, Some, None, All, lit<, refl, subst, arith}
 use Rattle.std.proofs.Math.Nat.{mod-lt}
 use Rattle.std.proofs.lemmas.List.Elements.{All-nil, All-cons}
 use Rattle.bs_words.specs.declared.operators.IntOp.TheVariants as op
@@ -12,9 +12,9 @@ use Rattle.cmm_lex.specs.Strings.{string_bytes}
 use Rattle.cmm_lex.specs.declared.token.TokenKind.{TokenKind}
 use Rattle.cmm_lex.specs.declared.token.TokenKind.TheVariants as kind
 use Rattle.cmm_lex.specs.declared.token.Keyword.TheVariants as word
-use Rattle.cmm_tree.specs.Tree.{Expression, Integer, Pointer, Symbol, Name, Nothing, Float, Let, Assign, Operator, Load, Store, Alloc, App, Extcall, Checkbound, Raise, Seq, If, Switch, Catch, Exit, Try, Expressions, NoMore, More, Bare, Parameter, Index, DatumTree, DataItemTree, DataListTree, FunctionTree, ItemTree, FileTree, functions_among, data_among}
+use Rattle.cmm_tree.specs.Tree.{Expression, Integer, Pointer, Symbol, Name, Nothing, Float, Let, Assign, Operator, Load, Store, Alloc, App, Extcall, Checkbound, Raise, Seq, If, Switch, Catch, Exit, Try, Expressions, NoMore, Bare, Parameter, Index, DatumTree, DataItemTree, FunctionTree, ItemTree, functions_among, data_among}
 use Rattle.cmm_tree.specs.Tree as tree
-use Rattle.cmm_tree.specs.Measures.{total, counts_one, is_try, own_values, nodes_in, all_tries, values_in, IndexesFit, IntegersFit, WordFits, DatumFits, ItemsFit, DataFits}
+use Rattle.cmm_tree.specs.Measures.{nodes_in, all_tries, values_in, IndexesFit, IntegersFit, WordFits, DatumFits, ItemsFit, DataFits}
 use Rattle.cmm_grammar.specs.declared.word.Head.{Head}
 use Rattle.cmm_grammar.specs.declared.word.Head.TheVariants as head
 use Rattle.cmm_grammar.specs.declared.word.Pair.{Pair}
@@ -25,16 +25,16 @@ use Rattle.cmm_grammar.specs.declared.word.ChunkWord.{ChunkWord}
 use Rattle.cmm_grammar.specs.declared.word.ChunkWord.TheVariants as starts
 use Rattle.cmm_grammar.specs.declared.word.DataWord.{DataWord}
 use Rattle.cmm_grammar.specs.declared.word.DataWord.TheVariants as item
-use Rattle.cmm_grammar.specs.Parts.{ResultPart, BindingPart, CasePart, HandlerPart, HeadPart, ItemPart, FunctionItem, DataItem, item_of, expressions, bindings, cases, handlers, sequence_at, sequence}
+use Rattle.cmm_grammar.specs.Parts.{ResultPart, BindingPart, HandlerPart, HeadPart, ItemPart, FunctionItem, DataItem, item_of, expressions, sequence}
 use Rattle.cmm_grammar.specs.Rewriting.{element_by, element, array_load, array_store, exit_to, turn_by, turn, while_loop}
 use Rattle.cmm_grammar.specs.Words.{leaf_of, word_of, is_symbol_token, is_integer, val_of}
-use Rattle.cmm_grammar.specs.Rule.{AnExpression, ABinding, AnIndex, ACase, AHandler, ALabel, AParameter, ADataItem, AnItem, Rule}
-use Rattle.cmm_grammar.specs.Grammar.{a_token, close, a_comp, a_result, operands, sequence_to_close, sequence_to_with, a_binding, a_mutable_binding, bindings_to_close, let_body, let_form, assign_form, arguments_of, app_form, extcall_rest, extcall_form, alloc_form, loaded, stored, load_rest, store_rest, chunk_rest, chunked, load_form, store_form, paired, tripled, raise_form, pair_form, triple_form, float_form, seq_form, while_form, case_number, another_number, case_body, a_case, switch_form, a_parameter, parameters, label_rest, handler_rest, a_label, next_handler, more_handlers, labelled_handlers, bare_catch, bare_handler, catch_form, exit_rest, exit_form, try_form, form_of, form, a_data_integer, datum_of, a_data_item, data_items, data_list, a_function, item_rest, an_item}
+use Rattle.cmm_grammar.specs.Rule.{AnExpression, ABinding, AnIndex, AHandler, AParameter, ADataItem, AnItem, Rule}
+use Rattle.cmm_grammar.specs.Grammar.{a_token, a_comp, a_result, operands, sequence_to_close, sequence_to_with, a_binding, a_mutable_binding, bindings_to_close, let_body, let_form, assign_form, arguments_of, app_form, extcall_rest, extcall_form, alloc_form, loaded, stored, load_rest, store_rest, chunk_rest, chunked, load_form, store_form, paired, tripled, raise_form, pair_form, triple_form, float_form, seq_form, while_form, case_number, another_number, case_body, a_case, switch_form, a_parameter, parameters, label_rest, handler_rest, a_label, next_handler, more_handlers, labelled_handlers, bare_handler, catch_form, exit_rest, exit_form, try_form, form_of, form, a_data_integer, datum_of, a_data_item, data_items, data_list, a_function, item_rest, an_item}
 use Rattle.cmm_grammar.specs.Spelling.{Spells, AreItems, none, more}
 use Rattle.cmm_grammar.specs.Covered.{IsCovered, IsMeasured}
 use Rattle.cmm_grammar.proofs.Fitting.{integer_fits, word_fits_if}
-use Rattle.cmm_grammar.proofs.Measured.{Measured, Holds, CaseHolds, ItemHolds, PartOf, PartsOf, no_parts, more_parts, RowMeasured, row_measured, BindingsMeasured, bindings_measured, CasesMeasured, cases_measured, HandlersMeasured, handlers_measured, measured_more, sequence_measured}
-use Rattle.cmm_grammar.proofs.Paid.{Two, Pays, paid}
+use Rattle.cmm_grammar.proofs.Measured.{Measured, Holds, CaseHolds, ItemHolds, PartOf, PartsOf, no_parts, more_parts, RowMeasured, row_measured, bindings_measured, cases_measured, handlers_measured, measured_more, sequence_measured}
+use Rattle.cmm_grammar.proofs.Paid.{Pays, paid}
 
 same_measured : (e f : Expression) (n : ℕ) → e ≡ f → Measured e n → Measured f n
 same_measured e f n same p = subst (λ (v : Expression). Measured v n) same p
@@ -77,7 +77,7 @@ nothing_measured at = record { fits = tt; nodes = omega arith; values = omega ar
 operands_pay : (n : ℕ) (Q : List Expression → ℕ → Type 0)
     → ((es : List Expression) (m all : ℕ) → PartsOf AnExpression es m → all ≡ 1 + (m + n) → Q es all)
     → Pays operands n Q
-unfolding operands close a_token
+unfolding operands a_token
 operands_pay n Q q = record {
   first = λ e m p. measured_more e m (m + 0) (omega arith) p;
   second = λ es m parts t c e. q es m (1 + (m + n)) parts refl;
@@ -131,7 +131,7 @@ let_body_pays at bs m n parts h =
     record { fits = (r.fits, p.fits); nodes = omega arith; values = omega arith })
 
 let_pays : (at : ℕ) (r : Rule ABinding) (n : ℕ) → BindingsPay r → 2 ≤ n → Pays (let_form at r) n Measured
-unfolding let_form bindings_to_close close a_token
+unfolding let_form bindings_to_close a_token
 let_pays at r n pays h = record {
   first = λ place.
       pays (1 + n) _ (λ b m all p size. record {
@@ -143,7 +143,7 @@ let_pays at r n pays h = record {
 }
 
 assign_pays : (at n : ℕ) → 2 ≤ n → Pays (assign_form at) n Measured
-unfolding assign_form close a_token
+unfolding assign_form a_token
 assign_pays at n h = λ t name e v m p u c f.
     let a = p.nodes in
     let b = p.values in
@@ -154,7 +154,7 @@ assign_pays at n h = λ t name e v m p u c f.
 arguments_pay : (made : Expressions → ResultPart → Expression) (n : ℕ)
     → ((es : List Expression) (r : ResultPart) (m all : ℕ) → RowMeasured (expressions es) (length es) m → all ≡ 2 + (m + n) → Measured (made (expressions es) r) all)
     → Pays (arguments_of made) n Measured
-unfolding arguments_of a_result close a_token
+unfolding arguments_of a_result a_token
 arguments_pay made n q = record {
   first = λ e m p. measured_more e m (m + 0) (omega arith) p;
   second = λ es m parts t r e u c f. q es r m (1 + (1 + (m + n))) (row_measured es m parts) (omega arith);
@@ -219,11 +219,11 @@ stored_measured at (Some w) chunk_at x y m k n p q h =
     record { fits = (p.fits, q.fits); nodes = omega arith; values = omega arith }
 
 load_rest_pays : (at : ℕ) (c : Option Chunk) (chunk_at n : ℕ) → 2 ≤ n → Pays (load_rest at c chunk_at) n Measured
-unfolding load_rest close a_token
+unfolding load_rest a_token
 load_rest_pays at c chunk_at n h = λ x m p t u e. loaded_measured at c chunk_at x m _ p (omega arith)
 
 store_rest_pays : (at : ℕ) (c : Option Chunk) (chunk_at n : ℕ) → 2 ≤ n → Pays (store_rest at c chunk_at) n Measured
-unfolding store_rest close a_token
+unfolding store_rest a_token
 store_rest_pays at c chunk_at n h = λ x m p y k q t u e. stored_measured at c chunk_at x y m k _ p q (omega arith)
 
 chunk_rest_pays : (w : ChunkWord) (k : Option Chunk → Rule AnExpression) (n : ℕ) → 2 ≤ n
@@ -349,18 +349,18 @@ tripled_measured at triple.If x y z m k l n p q r h =
 tripled_measured at (triple.SetElement c) x y z m k l n p q r h = array_store_measured at c x y z m k l n p q r h
 
 raise_pays : (at n : ℕ) → 2 ≤ n → Pays (raise_form at) n Measured
-unfolding raise_form close a_token
+unfolding raise_form a_token
 raise_pays at n h = λ x m p t u e.
     let a = p.nodes in
     let b = p.values in
     record { fits = p.fits; nodes = omega arith; values = omega arith }
 
 pair_pays : (at : ℕ) (w : Pair) (n : ℕ) → 2 ≤ n → Pays (pair_form at w) n Measured
-unfolding pair_form close a_token
+unfolding pair_form a_token
 pair_pays at w n h = λ x m p y k q t u e. paired_measured at w x y m k _ p q (omega arith)
 
 triple_pays : (at : ℕ) (w : Triple) (n : ℕ) → 2 ≤ n → Pays (triple_form at w) n Measured
-unfolding triple_form close a_token
+unfolding triple_form a_token
 triple_pays at w n h = λ x m p y k q z l r t u e. tripled_measured at w x y z m k l _ p q r (omega arith)
 
 float_pays : (at word_at n : ℕ) → 2 ≤ n → Pays (float_form at word_at) n Measured
@@ -482,7 +482,7 @@ threes _ _ (more_parts p ps m n h hs) = let rest = threes ps n hs in omega arith
 parameters_pay : (n : ℕ) (Q : List Parameter → ℕ → Type 0)
     → ((ps : List Parameter) (all : ℕ) → 1 + (3 * length ps + n) ≤ all → Q ps all)
     → Pays parameters n Q
-unfolding parameters a_parameter a_comp close a_token
+unfolding parameters a_parameter a_comp a_token
 parameters_pay n Q q = record {
   first = λ t name e u colon f v c g. omega arith;
   second = λ ps m parts t c e. let few = threes ps m parts in q ps (1 + (m + n)) (omega arith);
@@ -538,7 +538,7 @@ catch_pays at n h = to_with_pay n _ (λ body m all p size. record {
 })
 
 exit_pays : (at n : ℕ) → 2 ≤ n → Pays (exit_form at) n Measured
-unfolding exit_form exit_rest close a_token
+unfolding exit_form exit_rest a_token
 exit_pays at n h = record {
   first = λ t name e. operands_pay (1 + n) _ (λ es k all parts size.
       let row = row_measured es k parts in
@@ -616,7 +616,7 @@ data_fits _ _ no_parts = tt
 data_fits _ _ (more_parts d others m n p ps) = (p, data_fits others n ps)
 
 data_items_pay : (at n : ℕ) → Pays (data_items at) n ItemHolds
-unfolding data_items a_data_item close a_token
+unfolding data_items a_data_item a_token
 data_items_pay at n = record {
   first = λ t w e. datum_pays w.0 w.1 _;
   second = λ ds m parts t c e. data_fits ds m parts;

@@ -51,11 +51,9 @@ abbrev an_int : TokenTree
 an_int = of_kind (kind.Keyword word.Int)
 
 close_fine : (d : ℕ) → Fine close d
-unfolding close
 close_fine d = token_fine is_close d a_close refl
 
 close_solid : Solid close
-unfolding close
 close_solid = token_solid is_close
 
 comp_fine : (d : ℕ) → Fine a_comp d
@@ -78,7 +76,7 @@ symbol_fine d = token_fine is_symbol_token d a_string refl
 -- ---- expressions one after the other
 
 operands_fine : (d : ℕ) → Fine operands d
-unfolding operands close
+unfolding operands
 operands_fine d = until_fine AnExpression (Listed AnExpression) is_close Expr (λ u v. v) d a_close tt tt refl
 
 to_close_fine : (d : ℕ) → Fine sequence_to_close d
@@ -116,7 +114,7 @@ unfolding a_mutable_binding
 mutable_starts d = starts_then is_no_open _ _ d _ _ (starts_token is_no_open is_name d a_name refl refl) (λ n. two (comp_fine d) (λ c. two tt (λ v. tt)))
 
 bindings_fine : (r : Rule ABinding) (d : ℕ) → Fine r d → Solid r → Fine (bindings_to_close r) d
-unfolding bindings_to_close close
+unfolding bindings_to_close
 bindings_fine r d fine solid = two fine (λ b. until_fine ABinding (Listed ABinding) is_close r (λ u v. b ∷ v) d a_close fine solid refl)
 
 let_body_fine : (at : ℕ) (bs : List BindingPart) (d : ℕ) → Fine (let_body at bs) d
@@ -312,7 +310,7 @@ unfolding a_parameter
 parameter_solid = token_solid is_name
 
 parameters_fine : (d : ℕ) → Fine parameters d
-unfolding parameters close
+unfolding parameters
 parameters_fine d = until_fine AParameter (Listed AParameter) is_close a_parameter (λ u v. v) d a_close (parameter_fine d) parameter_solid refl
 
 label_rest_fine : (n : TokenTree) (d : ℕ) → Fine (label_rest n) d
@@ -452,7 +450,7 @@ unfolding a_data_item
 data_item_solid = tt
 
 data_items_fine : (at d : ℕ) → Fine (data_items at) d
-unfolding data_items close
+unfolding data_items
 data_items_fine at d = until_fine ADataItem AnItem is_close a_data_item _ d a_close (data_item_fine d) data_item_solid refl
 
 data_items_solid : (at : ℕ) → Solid (data_items at)

@@ -1,5 +1,6 @@
 -- What may be finished: from nothing, and after what was spelled.
-use Rattle.std.proofs.Common.{◌≡◌, ℕ, zero, suc, Bool, true, false, cond, not, List, [], ◌∷◌, ◌++◌, Some, None, refl, sym, subst}
+use Rattle.std.proofs.Common.{◌≡◌, ℕ, zero, suc, Bool, true, false, cond, List, [], ◌∷◌, ◌++◌, Some, None, refl, sym, subst}
+use Rattle.std.proofs.lemmas.Bool.{not-true}
 use Rattle.std.proofs.lemmas.List.{append-nil}
 use Rattle.cmm_lex.specs.Token.{TokenTree}
 use Rattle.cmm_lex.specs.declared.token.TokenKind.{TokenKind}
@@ -33,10 +34,6 @@ a_name_leaf = Name 0 []
 pub leaf_spells : (d : ℕ) → Spells AnExpression d Expr a_name_leaf (a_name ∷ [])
 leaf_spells d = leaf d a_name a_name_leaf refl
 
-not_true : (b : Bool) → not b ≡ true → b ≡ false
-not_true true e = cc
-not_true false e = refl
-
 -- a rule that is fine spells something
 pub finish : (s : Sort) (r : Rule s) (d : ℕ) → Fine r d → Finish s d r []
 finish _ (Give s a) d fine = record { value = a; more = []; spells = nothing s d a }
@@ -55,7 +52,7 @@ finish _ (InsideOr s t r k other) d fine =
     record {
       value = x.value;
       more = x.first ∷ x.others;
-      spells = not_inside s t d r k other x.first x.value x.others (not_true _ x.passes) x.spells;
+      spells = not_inside s t d r k other x.first x.value x.others (not-true _ x.passes) x.spells;
     }
 finish _ (LabelledOr s t r k other) d fine =
     let y = finish t (other a_name_leaf) d (fine.first a_name_leaf) in

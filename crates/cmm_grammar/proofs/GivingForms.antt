@@ -142,7 +142,7 @@ module _ (k : Facts) (c : IsClosed k) where
     out e p = c.deeper d (suc d) e (next_le d) p
 
     operands_give : (Q : List Expression → Type 0) → ((es : List Expression) → PartsHave k d AnExpression es → Q es) → Gives k d operands Q
-    unfolding operands close a_token
+    unfolding operands a_token
     operands_give Q q = record { first = λ e p. p; second = λ es parts u. q es parts }
 
     to_close_gives : (Q : Expression → Type 0) → ((e : Expression) → Holds e → Q e) → Gives k d sequence_to_close Q
@@ -171,7 +171,7 @@ module _ (k : Facts) (c : IsClosed k) where
     let_body_gives at bs parts = to_close_gives _ (λ e p. out _ (c.bound d at bs e parts p))
 
     let_gives : (at : ℕ) (r : Rule ABinding) → BindingsGive r → Gives k d (let_form at r) Out
-    unfolding let_form bindings_to_close close a_token
+    unfolding let_form bindings_to_close a_token
     let_gives at r gives = record {
       first = λ place.
           gives _ (λ b p. record { first = gives (PartHas k d ABinding) (λ b p. p); second = λ bs parts u. let_body_gives at (b ∷ bs) (p, parts) });
@@ -179,14 +179,14 @@ module _ (k : Facts) (c : IsClosed k) where
     }
 
     assign_gives : (at : ℕ) → Gives k d (assign_form at) Out
-    unfolding assign_form close a_token
+    unfolding assign_form a_token
     assign_gives at = λ name v p u. out _ (c.assigned d at _ _ v p)
 
     -- ---- calls
 
     arguments_give : (made : Expressions → ResultPart → Expression) →
         ((es : List Expression) (r : ResultPart) → PartsHave k d AnExpression es → Out (made (expressions es) r)) → Gives k d (arguments_of made) Out
-    unfolding arguments_of a_result close a_token
+    unfolding arguments_of a_result a_token
     arguments_give made q = record { first = λ e p. p; second = λ es parts r u. q es r.value parts }
 
     app_gives : (at : ℕ) → Gives k d (app_form at) Out
@@ -208,11 +208,11 @@ module _ (k : Facts) (c : IsClosed k) where
     stored_has at (Some w) chunk_at x y p q = c.store d at w x y p q
 
     load_rest_gives : (at : ℕ) (o : Option Chunk) (chunk_at : ℕ) → Gives k d (load_rest at o chunk_at) Out
-    unfolding load_rest close a_token
+    unfolding load_rest a_token
     load_rest_gives at o chunk_at = λ x p u. out _ (loaded_has at o chunk_at x p)
 
     store_rest_gives : (at : ℕ) (o : Option Chunk) (chunk_at : ℕ) → Gives k d (store_rest at o chunk_at) Out
-    unfolding store_rest close a_token
+    unfolding store_rest a_token
     store_rest_gives at o chunk_at = λ x p y q u. out _ (stored_has at o chunk_at x y p q)
 
     chunk_rest_gives : (w : ChunkWord) (rest : Option Chunk → Rule AnExpression) → ((o : Option Chunk) → Gives k d (rest o) Out) →
@@ -249,15 +249,15 @@ module _ (k : Facts) (c : IsClosed k) where
     tripled_has at (triple.SetElement w) x y z p q r = c.store d at w _ z (element_has d at x y p q) r
 
     raise_gives : (at : ℕ) → Gives k d (raise_form at) Out
-    unfolding raise_form close a_token
+    unfolding raise_form a_token
     raise_gives at = λ x p u. out _ (c.raised d at x p)
 
     pair_gives : (at : ℕ) (w : Pair) → Gives k d (pair_form at w) Out
-    unfolding pair_form close a_token
+    unfolding pair_form a_token
     pair_gives at w = λ x p y q u. out _ (paired_has at w x y p q)
 
     triple_gives : (at : ℕ) (w : Triple) → Gives k d (triple_form at w) Out
-    unfolding triple_form close a_token
+    unfolding triple_form a_token
     triple_gives at w = λ x p y q z r u. out _ (tripled_has at w x y z p q r)
 
     float_gives : (at word_at : ℕ) → Gives k d (float_form at word_at) Out
@@ -291,7 +291,7 @@ module _ (k : Facts) (c : IsClosed k) where
     switch_gives at = λ size selector p u. record { first = case_gives; second = λ a others q parts. out _ (c.switch d at _ _ selector a others p q parts) }
 
     parameters_give : (Q : List Parameter → Type 0) → ((ps : List Parameter) → Q ps) → Gives k d parameters Q
-    unfolding parameters a_parameter a_comp close a_token
+    unfolding parameters a_parameter a_comp a_token
     parameters_give Q q = record { first = λ name colon comp. tt; second = λ ps parts u. q ps }
 
     label_rest_gives : (name : TokenTree) (Q : HeadPart → Type 0) → ((l : HeadPart) → Q l) → Gives k d (label_rest name) Q
@@ -321,7 +321,7 @@ module _ (k : Facts) (c : IsClosed k) where
     })
 
     exit_gives : (at : ℕ) → Gives k d (exit_form at) Out
-    unfolding exit_form exit_rest close a_token
+    unfolding exit_form exit_rest a_token
     exit_gives at = record { first = λ name. operands_give _ (λ es parts. out _ (c.exit d at _ _ es parts)); second = λ u. out _ (done d at Bare) }
 
     try_gives : (at : ℕ) → Gives k d (try_form at) Out
@@ -372,7 +372,7 @@ module _ (k : Facts) (c : IsClosed k) where
     data_have d (i ∷ items) p = (p.0, data_have d items p.1)
 
     data_items_give : (d at : ℕ) → Gives k d (data_items at) (ItemHas k d)
-    unfolding data_items a_data_item close a_token
+    unfolding data_items a_data_item a_token
     data_items_give d at = record { first = λ w. datum_gives d w; second = λ items parts u. data_have d items parts }
 
     function_gives : (d at : ℕ) → Gives k d (a_function at) (ItemHas k d)

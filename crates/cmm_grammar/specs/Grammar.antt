@@ -31,7 +31,7 @@ use Rattle.cmm_grammar.specs.Rule.{AToken, AnExpression, AParameter, ADeclaratio
 unfoldable pub a_token : (TokenTree → Bool) → Rule AToken
 a_token test = One AToken (passing test)
 
-unfoldable pub close : Rule AToken
+abbrev pub close : Rule AToken
 close = a_token is_close
 
 -- int, val, addr or float

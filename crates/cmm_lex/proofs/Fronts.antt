@@ -23,7 +23,7 @@ use Rattle.cmm_lex.proofs.Spelled.{accepted-token, token-found, kind-some}
 -- ---- tokens that are no strings
 
 -- bytes that begin with a string begin with a quote
-string-quote : (bytes text rest : List ℕ) → IsString text → bytes ≡ text ++ rest → BeginsWith bytes (34 ∷ [])
+pub string-quote : (bytes text rest : List ℕ) → IsString text → bytes ≡ text ++ rest → BeginsWith bytes (34 ∷ [])
 string-quote bytes text rest (inside, e, h) whole = (inside ++ rest, whole ∙ ap (λ (v : List ℕ). v ++ rest) e)
 
 pub first-none : (bytes : List ℕ) → AreBytes bytes → scan Start 0 None bytes ≡ None

@@ -165,11 +165,11 @@ for_each_kind p = for_each kinds p
 for_each_kind-at : (p : Shape → Bool) → for_each_kind p ≡ true → (k : Shape) → p k ≡ true
 for_each_kind-at p e k = for_each-at kinds p e k (kinds-all k)
 
-abbrev all_below : ℕ → (ℕ → Bool) → Bool
+abbrev pub all_below : ℕ → (ℕ → Bool) → Bool
 all_below zero p = true
 all_below (suc n) p = p n && all_below n p
 
-all_below-at : (n : ℕ) (p : ℕ → Bool) → all_below n p ≡ true → (b : ℕ) → b < n → p b ≡ true
+pub all_below-at : (n : ℕ) (p : ℕ → Bool) → all_below n p ≡ true → (b : ℕ) → b < n → p b ≡ true
 all_below-at zero p e b h = absurd (omega arith)
 all_below-at (suc n) p e b h =
     let both = and_parts (p n) (all_below n p) e in

@@ -1,7 +1,7 @@
 -- Words of a table that have the length of a text.
 use Rattle.std.proofs.Common.{◌≡◌, ℕ, ◌==◌, Bool, true, false, cond, List, [], ◌∷◌, Some, bytes_eq, length, ◌≤◌, ◌||◌, ◌&&◌, inl, inr, nat_le, None, refl, sym, ap, ◌∙◌}
 use Rattle.std.specs.List.{list_all}
-use Rattle.std.proofs.lemmas.Bool.{eqb-false, eqb-true, leb-true, and_parts, or_cases}
+use Rattle.std.proofs.lemmas.Bool.{false_from_ne_true, eqb-false, eqb-true, leb-true, and_parts, or_cases}
 use Rattle.std.proofs.lemmas.Slice.Eq.{bytes_eq-Decides}
 use Rattle.cmm_lex.specs.declared.token.TokenKind.{TokenKind}
 use Rattle.cmm_lex.specs.Scanning.{find_spelled, keyword_table}
@@ -10,10 +10,6 @@ use Rattle.cmm_lex.specs.Scanning.{find_spelled, keyword_table}
 abbrev pub of_length : ℕ → List (List ℕ × TokenKind) → List (List ℕ × TokenKind)
 of_length n [] = []
 of_length n (entry ∷ entries) = cond (length entry.0 == n) (entry ∷ of_length n entries) (of_length n entries)
-
-false-unless : (b : Bool) → (b ≡ true → ⊥) → b ≡ false
-false-unless true not_true = absurd (not_true refl)
-false-unless false not_true = refl
 
 -- a text of this length is found among them, if at all
 pub find-of-length : (n : ℕ) (table : List (List ℕ × TokenKind)) (text : List ℕ)
@@ -30,7 +26,7 @@ find-of-length n (entry ∷ entries) text long = at_length (length entry.0 == n)
     at_length true e later = ap (cond (bytes_eq entry.0 text) (Some entry.1)) later
     at_length false e later =
         let other : bytes_eq entry.0 text ≡ false =
-        false-unless (bytes_eq entry.0 text)
+        false_from_ne_true (bytes_eq entry.0 text)
         (λ same. eqb-false (length entry.0) n e (ap length ((bytes_eq-Decides entry.0 text).0 same) ∙ long)) in
         rw other later
 
@@ -47,7 +43,7 @@ none-among [] text all other = refl
 none-among (entry ∷ entries) text all other =
     let parts = and_parts _ _ all in
     let unlike : bytes_eq entry.0 text ≡ false =
-    false-unless (bytes_eq entry.0 text)
+    false_from_ne_true (bytes_eq entry.0 text)
     (λ same. other (ap (λ (w : List ℕ). is_keyword_length (length w)) (sym ((bytes_eq-Decides entry.0 text).0 same)) ∙ parts.0)) in
     rw unlike (none-among entries text parts.1 other)
 

@@ -24,7 +24,7 @@ unfolding accepts after
 run-dead [] = refl
 run-dead (x ∷ xs) = run-dead xs
 
-dead-is : (s : State) → is_dead s ≡ true → s ≡ Dead
+pub dead-is : (s : State) → is_dead s ≡ true → s ≡ Dead
 dead-is Dead e = refl
 dead-is Start e = cc
 dead-is (Name part) e = cc

@@ -6,12 +6,10 @@ use Rattle.cmm_tree.specs.Tree.{Parameter}
 use Rattle.cmm_tree.specs.declared.expr.Expr.{Expr}
 use Rattle.cmm_tree.specs.declared.file.Param.{Param}
 use Rattle.cmm_tree.specs.View.{param_view, expr_view, form_view, params_view}
-use Rattle.cmm_tree.specs.declared.expr.Form.{Row_of-Expr, end_of-Expr, more_of-Expr, items-the_row-Expr, items_hidden-the_row-Expr-0, items_hidden-the_row-Binding-1, items_hidden-the_row-Case-2, items_hidden-the_row-Handler-3, Row_of-Binding, end_of-Binding, more_of-Binding, items-the_row-Binding, Row_of-Case, end_of-Case, more_of-Case, items-the_row-Case, Row_of-Handler, end_of-Handler, more_of-Handler, items-the_row-Handler}
-use Rattle.cmm_tree.specs.declared.expr.Form.{Form}
 use Rattle.cmm_tree.specs.declared.expr.Form as form
 use Rattle.cmm_tree.specs.Place.{place_of}
 use Rattle.cmm_tree.specs.Rows.{row_of, bindings_of, cases_of, handlers_of}
-use Rattle.cmm_tree.proofs.Rows.{place_view, row_items, bindings_items, cases_items, handlers_items}
+use Rattle.cmm_tree.proofs.Rows.{place_view, seq_view, exit_view, alloc_view, float_view, extcall_view, app_view, let_view, switch_view, catch_view}
 use Rattle.cmm_limits.specs.Limits.{places, too_many, size_faults, faults_in, row_faults, binding_faults, case_faults, handler_faults}
 use Rattle.bs_fault.specs.Limits.{most_params}
 use Rattle.bs_fault.specs.Reported.{Both}
@@ -49,80 +47,41 @@ param-none ps h =
 
 -- ---- the faults of forms that hold lists
 
-abbrev exprs_in : Form → (n : _) × Row_of-Expr n
-exprs_in (form.Float' word_at shape row) = (_, row)
-exprs_in (form.Alloc' header_at header shape row) = (_, row)
-exprs_in (form.App' p callee_at callee_ty callee shape row result result_at) = (_, row)
-exprs_in (form.Extcall' frame name shape row result result_at) = (_, row)
-exprs_in (form.Seq' shape row) = (_, row)
-exprs_in (form.Exit' label_at label shape row) = (_, row)
-exprs_in _ = (_, end_of-Expr)
-
-abbrev bindings_in : Form → (n : _) × Row_of-Binding n
-bindings_in (form.Let' shape row p body_at body_ty body) = (_, row)
-bindings_in _ = (_, end_of-Binding)
-
-abbrev cases_in : Form → (n : _) × Row_of-Case n
-cases_in (form.Switch' size_at size p selector_at selector_ty selector shape row) = (_, row)
-cases_in _ = (_, end_of-Case)
-
-abbrev handlers_in : Form → (n : _) × Row_of-Handler n
-handlers_in (form.Catch' p body_at body_ty body shape row) = (_, row)
-handlers_in _ = (_, end_of-Handler)
-
 pub float-faults : (at word_at : ℕ) (operands : Vec Expr Global)
     → faults_in (form_view at (form.Float word_at operands)) ≡ row_faults (row_of operands.items)
-float-faults at word_at operands =
-    let r = exprs_in (form.Float word_at operands) in
-    ap row_faults (row_items r.0 r.1 ∙ ap row_of (items_hidden-the_row-Expr-0 operands))
+float-faults at word_at operands = ap faults_in (float_view at word_at operands)
 
 pub alloc-faults : (at header_at header : ℕ) (operands : Vec Expr Global)
     → faults_in (form_view at (form.Alloc header_at header operands)) ≡ row_faults (row_of operands.items)
-alloc-faults at header_at header operands =
-    let r = exprs_in (form.Alloc header_at header operands) in
-    ap row_faults (row_items r.0 r.1 ∙ ap row_of (items_hidden-the_row-Expr-0 operands))
+alloc-faults at header_at header operands = ap faults_in (alloc_view at header_at header operands)
 
 pub seq-faults : (at : ℕ) (elements : Vec Expr Global)
     → faults_in (form_view at (form.Seq elements)) ≡ row_faults (row_of elements.items)
-seq-faults at elements =
-    let r = exprs_in (form.Seq elements) in
-    ap row_faults (row_items r.0 r.1 ∙ ap row_of (items_hidden-the_row-Expr-0 elements))
+seq-faults at elements = ap faults_in (seq_view at elements)
 
 pub exit-faults : (at label_at : ℕ) (label : Label) (arguments : Vec Expr Global)
     → faults_in (form_view at (form.Exit label_at label arguments)) ≡ row_faults (row_of arguments.items)
-exit-faults at label_at label arguments =
-    let r = exprs_in (form.Exit label_at label arguments) in
-    ap row_faults (row_items r.0 r.1 ∙ ap row_of (items_hidden-the_row-Expr-0 arguments))
+exit-faults at label_at label arguments = ap faults_in (exit_view at label_at label arguments)
 
 pub extcall-faults : (at : ℕ) (frame : Bool) (name : List ℕ) (arguments : Vec Expr Global) (result : Ret) (result_at : ℕ)
     → faults_in (form_view at (form.Extcall frame name arguments result result_at))
     ≡ Both (too_many (places (row_of arguments.items))) (row_faults (row_of arguments.items))
-extcall-faults at frame name arguments result result_at =
-    let r = exprs_in (form.Extcall frame name arguments result result_at) in
-    ap (λ v. Both (too_many (places v)) (row_faults v)) (row_items r.0 r.1 ∙ ap row_of (items_hidden-the_row-Expr-0 arguments))
+extcall-faults at frame name arguments result result_at = ap faults_in (extcall_view at frame name arguments result result_at)
 
 pub app-faults : (at : ℕ) (callee : Box Expr Global) (arguments : Vec Expr Global) (result : Ret) (result_at : ℕ)
     → faults_in (form_view at (form.App callee arguments result result_at))
     ≡ Both (too_many (places (row_of arguments.items))) (Both (faults_in (expr_view callee.value)) (row_faults (row_of arguments.items)))
-app-faults at callee arguments result result_at =
-    let r = exprs_in (form.App callee arguments result result_at) in
-    ap (λ v. Both (too_many (places v)) (Both (faults_in (expr_view callee.value)) (row_faults v))) (row_items r.0 r.1 ∙ ap row_of (items_hidden-the_row-Expr-0 arguments))
+app-faults at callee arguments result result_at = ap faults_in (app_view at callee arguments result result_at)
 
 pub let-faults : (at : ℕ) (bindings : Vec Binding Global) (body : Box Expr Global)
     → faults_in (form_view at (form.Let bindings body)) ≡ Both (binding_faults (bindings_of bindings.items)) (faults_in (expr_view body.value))
-let-faults at bindings body =
-    let r = bindings_in (form.Let bindings body) in
-    ap (λ v. Both (binding_faults v) (faults_in (expr_view body.value))) (bindings_items r.0 r.1 ∙ ap bindings_of (items_hidden-the_row-Binding-1 bindings))
+let-faults at bindings body = ap faults_in (let_view at bindings body)
 
 pub switch-faults : (at size_at size : ℕ) (selector : Box Expr Global) (cases : Vec Case Global)
     → faults_in (form_view at (form.Switch size_at size selector cases))
     ≡ Both (size_faults size_at size) (Both (faults_in (expr_view selector.value)) (case_faults size (cases_of cases.items)))
-switch-faults at size_at size selector cases =
-    let r = cases_in (form.Switch size_at size selector cases) in
-    ap (λ v. Both (size_faults size_at size) (Both (faults_in (expr_view selector.value)) (case_faults size v))) (cases_items r.0 r.1 ∙ ap cases_of (items_hidden-the_row-Case-2 cases))
+switch-faults at size_at size selector cases = ap faults_in (switch_view at size_at size selector cases)
 
 pub catch-faults : (at : ℕ) (body : Box Expr Global) (handlers : Vec Handler Global)
     → faults_in (form_view at (form.Catch body handlers)) ≡ Both (faults_in (expr_view body.value)) (handler_faults (handlers_of handlers.items))
-catch-faults at body handlers =
-    let r = handlers_in (form.Catch body handlers) in
-    ap (λ v. Both (faults_in (expr_view body.value)) (handler_faults v)) (handlers_items r.0 r.1 ∙ ap handlers_of (items_hidden-the_row-Handler-3 handlers))
+catch-faults at body handlers = ap faults_in (catch_view at body handlers)

@@ -1,5 +1,5 @@
 -- The run of a function of a file.
-use Rattle.std.specs.Prelude.{ℕ, zero, suc, ◌+◌, Bool, true, false, List, [], ◌∷◌, ◌++◌, Option, Some, None, slice_get, slice_index, option_map, map}
+use Rattle.std.specs.Prelude.{⊤, ℕ, zero, suc, ◌+◌, Bool, true, false, List, [], ◌∷◌, ◌++◌, Option, Some, None, slice_get, slice_index, option_map, map}
 use Rattle.bs_words.specs.Memory.{heap_need as need_of}
 use Rattle.bs_words.specs.External.{External}
 use Rattle.bs_words.specs.Observed.{Made}
@@ -26,6 +26,10 @@ pub data Outcome : Type 0 where
   Asks : (call : Made) → Outcome
   More : Outcome
   Improper : (kind : Kind) → Outcome
+
+abbrev pub IsProper : Outcome → Type 0
+IsProper (Improper kind) = ⊥
+IsProper _ = ⊤
 
 -- What is reported of a run of so many units.
 pub record Run : Type 0 where

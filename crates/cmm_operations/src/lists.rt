@@ -95,7 +95,7 @@ pub fn list<'t, F: Fn(&'t [Token], u32, u32) -> Result<(Expr, &'t [Token]), Stop
 /// # Errors
 ///
 /// Where reading stops, and why; or `Stop::OutOfMemory`.
-#[tactic(auto, unfolding(cmm_grammar::specs::Grammar::operands, cmm_grammar::specs::Grammar::close, cmm_grammar::specs::Grammar::a_token))]
+#[tactic(auto, unfolding(cmm_grammar::specs::Grammar::operands, cmm_grammar::specs::Grammar::a_token))]
 pub fn operands<'t, F: Fn(&'t [Token], u32, u32) -> Result<(Expr, &'t [Token]), Stop>>(
     forms: &F,
     alloc: Global,

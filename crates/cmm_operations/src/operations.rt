@@ -22,7 +22,7 @@ use std::alloc::Global;
 /// # Errors
 ///
 /// Where reading stops, and why; or `Stop::OutOfMemory`.
-#[tactic(auto, unfolding(cmm_grammar::specs::Grammar::assign_form, cmm_grammar::specs::Grammar::close, cmm_grammar::specs::Grammar::a_token))]
+#[tactic(auto, unfolding(cmm_grammar::specs::Grammar::assign_form, cmm_grammar::specs::Grammar::a_token))]
 pub fn assign_form<'t, F: Fn(&'t [Token], u32, u32) -> Result<(Expr, &'t [Token]), Stop>>(
     forms: &F,
     alloc: Global,
@@ -47,7 +47,7 @@ pub fn assign_form<'t, F: Fn(&'t [Token], u32, u32) -> Result<(Expr, &'t [Token]
 /// # Errors
 ///
 /// Where reading stops, and why; or `Stop::OutOfMemory`.
-#[tactic(auto, unfolding(cmm_grammar::specs::Grammar::app_form, cmm_grammar::specs::Grammar::arguments_of, cmm_grammar::specs::Grammar::close, cmm_grammar::specs::Grammar::a_token))]
+#[tactic(auto, unfolding(cmm_grammar::specs::Grammar::app_form, cmm_grammar::specs::Grammar::arguments_of, cmm_grammar::specs::Grammar::a_token))]
 pub fn app_form<'t, F: Fn(&'t [Token], u32, u32) -> Result<(Expr, &'t [Token]), Stop>>(
     forms: &F,
     alloc: Global,
@@ -68,7 +68,7 @@ pub fn app_form<'t, F: Fn(&'t [Token], u32, u32) -> Result<(Expr, &'t [Token]), 
 }
 
 /// A call of what lies outside, from its symbol on.
-#[tactic(auto, unfolding(cmm_grammar::specs::Grammar::extcall_rest, cmm_grammar::specs::Grammar::arguments_of, cmm_grammar::specs::Grammar::close, cmm_grammar::specs::Grammar::a_token))]
+#[tactic(auto, unfolding(cmm_grammar::specs::Grammar::extcall_rest, cmm_grammar::specs::Grammar::arguments_of, cmm_grammar::specs::Grammar::a_token))]
 fn extcall_rest<'t, F: Fn(&'t [Token], u32, u32) -> Result<(Expr, &'t [Token]), Stop>>(
     forms: &F,
     alloc: Global,
@@ -144,7 +144,7 @@ pub fn alloc_form<'t, F: Fn(&'t [Token], u32, u32) -> Result<(Expr, &'t [Token])
 }
 
 /// What a load takes, after its chunk.
-#[tactic(auto, unfolding(cmm_grammar::specs::Grammar::load_rest, cmm_grammar::specs::Grammar::close, cmm_grammar::specs::Grammar::a_token))]
+#[tactic(auto, unfolding(cmm_grammar::specs::Grammar::load_rest, cmm_grammar::specs::Grammar::a_token))]
 fn load_rest<'t, F: Fn(&'t [Token], u32, u32) -> Result<(Expr, &'t [Token]), Stop>>(
     forms: &F,
     alloc: Global,
@@ -187,7 +187,7 @@ pub fn load_form<'t, F: Fn(&'t [Token], u32, u32) -> Result<(Expr, &'t [Token]),
 }
 
 /// What a store takes, after its chunk.
-#[tactic(auto, unfolding(cmm_grammar::specs::Grammar::store_rest, cmm_grammar::specs::Grammar::close, cmm_grammar::specs::Grammar::a_token))]
+#[tactic(auto, unfolding(cmm_grammar::specs::Grammar::store_rest, cmm_grammar::specs::Grammar::a_token))]
 fn store_rest<'t, F: Fn(&'t [Token], u32, u32) -> Result<(Expr, &'t [Token]), Stop>>(
     forms: &F,
     alloc: Global,
@@ -235,7 +235,7 @@ pub fn store_form<'t, F: Fn(&'t [Token], u32, u32) -> Result<(Expr, &'t [Token])
 /// # Errors
 ///
 /// Where reading stops, and why; or `Stop::OutOfMemory`.
-#[tactic(auto, unfolding(cmm_grammar::specs::Grammar::raise_form, cmm_grammar::specs::Grammar::close, cmm_grammar::specs::Grammar::a_token))]
+#[tactic(auto, unfolding(cmm_grammar::specs::Grammar::raise_form, cmm_grammar::specs::Grammar::a_token))]
 pub fn raise_form<'t, F: Fn(&'t [Token], u32, u32) -> Result<(Expr, &'t [Token]), Stop>>(
     forms: &F,
     alloc: Global,
@@ -258,7 +258,7 @@ pub fn raise_form<'t, F: Fn(&'t [Token], u32, u32) -> Result<(Expr, &'t [Token])
 /// # Errors
 ///
 /// Where reading stops, and why; or `Stop::OutOfMemory`.
-#[tactic(auto, unfolding(cmm_grammar::specs::Grammar::pair_form, cmm_grammar::specs::Grammar::close, cmm_grammar::specs::Grammar::a_token))]
+#[tactic(auto, unfolding(cmm_grammar::specs::Grammar::pair_form, cmm_grammar::specs::Grammar::a_token))]
 pub fn pair_form<'t, F: Fn(&'t [Token], u32, u32) -> Result<(Expr, &'t [Token]), Stop>>(
     forms: &F,
     alloc: Global,
@@ -283,7 +283,7 @@ pub fn pair_form<'t, F: Fn(&'t [Token], u32, u32) -> Result<(Expr, &'t [Token]),
 /// # Errors
 ///
 /// Where reading stops, and why; or `Stop::OutOfMemory`.
-#[tactic(auto, unfolding(cmm_grammar::specs::Grammar::triple_form, cmm_grammar::specs::Grammar::close, cmm_grammar::specs::Grammar::a_token))]
+#[tactic(auto, unfolding(cmm_grammar::specs::Grammar::triple_form, cmm_grammar::specs::Grammar::a_token))]
 pub fn triple_form<'t, F: Fn(&'t [Token], u32, u32) -> Result<(Expr, &'t [Token]), Stop>>(
     forms: &F,
     alloc: Global,

@@ -7,7 +7,8 @@ ghost use Rattle.cmm_tree.specs.Tree.{Let, Assign, Alloc, App, Extcall, Raise, F
 ghost use Rattle.cmm_tree.specs.View.{expr_view, label_view};
 ghost use Rattle.cmm_grammar.specs.Parts.{expressions, bindings};
 ghost use Rattle.cmm_grammar.specs.Grammar.{loaded, stored, bare_catch};
-ghost use Rattle.cmm_parts.specs.Nodes.{binding_part, cases_from, handlers_from};
+ghost use Rattle.cmm_parts.specs.Nodes.{binding_part};
+ghost use Rattle.cmm_tree.specs.Rows.{cases_of, handlers_of};
 ghost use Rattle.cmm_parts.specs.declared.stop.Stop.TheVariants.{OutOfMemory};
 
 use crate::node::node;
@@ -157,7 +158,7 @@ pub fn raise_node(at: u32, value: Box<Expr>) -> Expr
 #[tactic(auto, using(crate::proofs::Rows::switch_is))]
 pub fn switch_node(at: u32, size_at: u32, size: u64, selector: Box<Expr>, cases: Vec<Case>) -> Expr
     ensures { expr_view result
-        ≡ Switch at size_at size (expr_view selector.value) (cases_from cases.items) }
+        ≡ Switch at size_at size (expr_view selector.value) (cases_of cases.items) }
 {
     let form = Form::Switch {
         size_at,
@@ -171,7 +172,7 @@ pub fn switch_node(at: u32, size_at: u32, size: u64, selector: Box<Expr>, cases:
 /// A body, and the handlers to which an exit may leave.
 #[tactic(auto, using(crate::proofs::Rows::catch_is))]
 pub fn catch_node(at: u32, body: Box<Expr>, handlers: Vec<Handler>) -> Expr
-    ensures { expr_view result ≡ Catch at (expr_view body.value) (handlers_from handlers.items) }
+    ensures { expr_view result ≡ Catch at (expr_view body.value) (handlers_of handlers.items) }
 {
     node(at, Form::Catch(body, handlers))
 }

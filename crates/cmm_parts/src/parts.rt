@@ -211,7 +211,7 @@ fn parameter_list<'t>(
 /// # Errors
 ///
 /// `Stop::Unexpected` where a token is none of a parameter, or where the text ends.
-#[tactic(auto, unfolding(cmm_grammar::specs::Grammar::parameters, cmm_grammar::specs::Grammar::close, cmm_grammar::specs::Grammar::a_token))]
+#[tactic(auto, unfolding(cmm_grammar::specs::Grammar::parameters, cmm_grammar::specs::Grammar::a_token))]
 pub fn parameters<'t>(
     alloc: Global,
     source: &[u8],

@@ -296,7 +296,7 @@ fn data_item_list<'t>(
 }
 
 /// The items of a list of static data, up to the parenthesis that closes it.
-#[tactic(auto, unfolding(cmm_grammar::specs::Grammar::data_items, cmm_grammar::specs::Grammar::close, cmm_grammar::specs::Grammar::a_token))]
+#[tactic(auto, unfolding(cmm_grammar::specs::Grammar::data_items, cmm_grammar::specs::Grammar::a_token))]
 fn data_items<'t>(
     alloc: Global,
     source: &[u8],

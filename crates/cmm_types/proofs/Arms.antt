@@ -3,7 +3,7 @@ use Rattle.std.proofs.Common.{◌≡◌, ℕ, ◌-◌, Bool, List, [], ◌∷◌
 use Rattle.bs_fault.specs.declared.fault.Fault.{Fault}
 use Rattle.bs_words.specs.declared.types.Ty.{Ty}
 use Rattle.bs_words.specs.declared.types.Ret.{Ret}
-use Rattle.cmm_tree.specs.Tree.{Expression, Expressions, Bindings, Cases, Handlers, Parameter}
+use Rattle.cmm_tree.specs.Tree.{Expression, Expressions, Bindings, Parameter}
 use Rattle.cmm_tree.specs.Tree as tree
 use Rattle.cmm_tree.specs.View.{expr_view, form_view, label_view}
 use Rattle.cmm_tree.specs.declared.expr.Expr.{Expr}

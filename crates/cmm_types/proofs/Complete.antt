@@ -8,12 +8,12 @@ use Rattle.bs_fault.specs.declared.fault.Fault.{Fault}
 use Rattle.bs_fault.specs.declared.fault.Fault.TheVariants as fault
 use Rattle.cmm_tree.specs.Tree.{Expression, Expressions, NoMore, More, Bindings, NoBinding, Bind, Cases, NoCase, Choose, Handlers, NoHandler, Handle, Parameter, FunctionTree, LabelTree}
 use Rattle.cmm_tree.specs.Place.{place_of}
-use Rattle.cmm_types.specs.Types.{Scoped, binding_of, is_float, with_parameters, with_bindings, type_of}
+use Rattle.cmm_types.specs.Types.{Scoped, is_float, with_parameters, with_bindings, type_of}
 use Rattle.cmm_types.specs.Standing
-use Rattle.cmm_types.specs.Standing.{Visible, Stands, Takes, PartOf, InRow, InCases, InHandlers, InBindings, handler_of, labels_of, lasting_labels_of}
+use Rattle.cmm_types.specs.Standing.{Visible, Stands, Takes, PartOf, InRow, InCases, InHandlers, InBindings}
 use Rattle.cmm_tree.specs.Symbols.{DefinedSymbol, definition_of}
 use Rattle.cmm_types.specs.Faults
-use Rattle.cmm_types.specs.Faults.{FaultOf, Labelled, Repeated, DeclaresFloat, row_length, is_header}
+use Rattle.cmm_types.specs.Faults.{FaultOf, Labelled, Repeated, DeclaresFloat}
 use Rattle.cmm_types.specs.Gathered.{role_faults, comp_faults, params_faults, labelled_faults, repeated_faults, used_as, faults_in, row_faults, bindings_faults, cases_faults, handlers_faults}
 use Rattle.bs_fault.specs.Reported.{Faults, Both}
 use Rattle.cmm_types.specs.declared.role.Role.{Role}

@@ -11,7 +11,7 @@ use Rattle.cmm_tree.specs.Symbols.{DefinedSymbol, definition_of}
 use Rattle.cmm_types.specs.Gathered.{with_symbol, with_symbols, symbol_faults}
 use Rattle.cmm_types.proofs.Among.{Among, first, second, one_if-from, one_if-among}
 
-definition_of-append : (a b : List DefinedSymbol) (name : List ℕ) → definition_of (a ++ b) name ≡ option_or (definition_of a name) (definition_of b name)
+pub definition_of-append : (a b : List DefinedSymbol) (name : List ℕ) → definition_of (a ++ b) name ≡ option_or (definition_of a name) (definition_of b name)
 definition_of-append a b name = find-append (λ (s : DefinedSymbol). bytes_eq s.name name) a b
 
 -- the same look-ups

@@ -1,6 +1,5 @@
 -- The type of a name, by its innermost binding.
 use Rattle.std.proofs.Common.{◌≡◌, ℕ, List, Option, Some, None, option_map, refl, ap}
-use Rattle.bs_words.specs.declared.types.Ty.{Ty}
 use Rattle.bs_words.specs.declared.types.Ty.TheVariants.{Never}
 use Rattle.cmm_types.specs.Types.{Scoped, binding_of, type_bound_by, type_named}
 use Rattle.cmm_types.specs.Scopes.{meaning_of}

@@ -13,7 +13,7 @@ use Rattle.cmm_tree.specs.Tree.{Expression, Integer, Pointer, Symbol, Name, Noth
 use Rattle.cmm_tree.specs.Place.{place_of}
 use Rattle.cmm_types.specs.Types.{Scoped, binding_of, is_float, with_parameters, with_bindings, type_of}
 use Rattle.cmm_types.specs.Standing
-use Rattle.cmm_types.specs.Standing.{Visible, Stands, Takes, PartOf, InRow, InCases, InHandlers, InBindings, handler_of, labels_of, lasting_labels_of}
+use Rattle.cmm_types.specs.Standing.{Visible, Stands, Takes, InRow, InCases, InHandlers, InBindings, handler_of, labels_of, lasting_labels_of}
 use Rattle.cmm_tree.specs.Symbols.{DefinedSymbol, definition_of}
 use Rattle.cmm_types.specs.Faults
 use Rattle.cmm_types.specs.Faults.{FaultOf, Labelled, Repeated, DeclaresFloat, row_length, is_header}

@@ -1,5 +1,5 @@
 -- One turn of a loop over the parts of a node: the part at the index is replaced by one of the same view.
-use Rattle.std.proofs.Common.{◌≡◌, ℕ, zero, suc, ◌+◌, ◌<◌, List, [], ◌∷◌, ◌++◌, length, get_or, take, drop, set, map, option_map, Option, Bool, true, false, ◌||◌, refl, ap, sym, ◌∙◌, subst, arith}
+use Rattle.std.proofs.Common.{◌≡◌, ℕ, zero, suc, ◌+◌, ◌<◌, List, [], ◌∷◌, ◌++◌, length, get_or, take, drop, set, map, option_map, Option, Bool, ◌||◌, refl, ap, sym, ◌∙◌, subst, arith}
 use Rattle.std.proofs.lemmas.List.{drop_more, drop-set-lt, take_more_set}
 use Rattle.cmm_tree.specs.Tree.{Expression, Expressions, NoMore, More, NoBinding, Bind, Choose, Handle}
 use Rattle.cmm_tree.specs.View.{expr_view, params_view, label_view, declared_view, index_view}

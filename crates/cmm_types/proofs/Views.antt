@@ -1,5 +1,5 @@
 -- Forms with rows hold their types, where the lists that the code holds do.
-use Rattle.std.proofs.Common.{◌≡◌, ℕ, Bool, List, option_map, sym, subst, Vec, Box, Global}
+use Rattle.std.proofs.Common.{ℕ, Bool, List, option_map, sym, subst, Vec, Box, Global}
 use mathlib.Core.Former.{Count}
 use Rattle.bs_words.specs.declared.types.Ret.{Ret}
 use Rattle.cmm_tree.specs.declared.expr.Expr.{Expr}

@@ -6,7 +6,7 @@ use Rattle.bs_words.specs.declared.types.Ret.TheVariants as ret
 use Rattle.bs_words.specs.declared.types.Ty.TheVariants as ty
 use Rattle.bs_fault.specs.declared.fault.Fault as faults
 use Rattle.bs_fault.specs.declared.fault.Fault.TheVariants as fault
-use Rattle.cmm_tree.specs.Tree.{Expression, Symbol, Name, Float, Let, Assign, Alloc, App, Extcall, Catch, Exit, Expressions, NoMore, More, Bindings, Bind, Declaration, Handlers, NoHandler, Handle, Parameter, FunctionTree, LabelTree, DataItemTree, DataListTree, FileTree, functions, data_lists, same_label}
+use Rattle.cmm_tree.specs.Tree.{Expression, Symbol, Name, Float, Let, Assign, Alloc, App, Extcall, Catch, Exit, Expressions, NoMore, More, Bindings, Bind, Declaration, Handlers, Handle, Parameter, FunctionTree, LabelTree, DataItemTree, DataListTree, FileTree, functions, data_lists, same_label}
 use Rattle.cmm_tree.specs.Tree as tree
 use Rattle.cmm_tree.specs.Place.{place_of}
 use Rattle.cmm_types.specs.Types.{Scoped, binding_of, type_of, body_type}

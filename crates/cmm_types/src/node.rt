@@ -532,7 +532,7 @@ impl Checker {
 
     /// The same of a part with this role in its node.
     #[cycle(node)]
-    #[tactic(auto, using(crate::proofs::Views::place_view))]
+    #[tactic(auto, using(cmm_tree::proofs::Rows::place_view))]
     fn operand(
         &mut self,
         alloc: Global,

@@ -2,7 +2,7 @@
 use Rattle.std.proofs.Common.{get_or, ◌≡◌, ◌⊎◌, ℕ, zero, suc, ◌+◌, ◌<◌, ◌≤◌, Bool, true, false, ◌&&◌, ◌||◌, cond, List, [], ◌∷◌, ◌++◌, length, sym, ◌∙◌, ap, inl, inr, arith, refl, subst}
 use Rattle.std.specs.Prelude.{◌==◌, Option, Some, None, filter_map, flat_map}
 use Rattle.std.specs.List.{All, Contains, list_any}
-use Rattle.std.proofs.lemmas.Bool.{eqb-true, eq-eqb}
+use Rattle.std.proofs.lemmas.Bool.{and_parts, eqb-true, eq-eqb}
 use Rattle.std.proofs.lemmas.List.Elements.{Contains-append_left, Contains-append_right, Contains-append_cases, Contains-get_or, All-contains, All-head, All-tail}
 use Rattle.cmm_walks.specs.Walks.{Event}
 use Rattle.cmm_walks.specs.Walks as event
@@ -32,10 +32,6 @@ record OfBinding (nodes : List node.Node) (goal : Goal) (labels : List ℕ) (slo
   pub binds : step_at nodes p ≡ step.Binds slot true bound
   pub both : Both (known_label labels n) (bound_by goal.part goal.limits.bound bound) s.label
 
-both_true : (a b : Bool) → (a && b) ≡ true → (a ≡ true) × (b ≡ true)
-both_true true b e = (refl, e)
-both_true false b e = cc
-
 binding_from : (nodes : List node.Node) (goal : Goal) (labels : List ℕ) (slot p n : ℕ) (s : Seed) (st : Step) → step_at nodes p ≡ st → binding_seed goal labels slot p st n ≡ Some s → OfBinding nodes goal labels slot s p n
 binding_from nodes goal labels slot p n s step.Quiet is e = cc
 binding_from nodes goal labels slot p n s (step.Uses own at) is e = cc
@@ -44,7 +40,7 @@ binding_from nodes goal labels slot p n s (step.Binds own address at) is e =
     let l : Option ℕ = later (known_label labels n) (bound_by goal.part goal.limits.bound at) in
     let r = guarded (address && own == slot) (seed_with p l) s e in
     let t = seed_from p l s r.1 in
-    let q = both_true address (own == slot) r.0 in
+    let q = and_parts address (own == slot) r.0 in
     let same : own ≡ slot = eqb-true own slot q.1 in
     record {
       bound = at;

@@ -1,6 +1,6 @@
 -- An image is correct for a file: the machine does what the text means.
 use Rattle.std.specs.Prelude.{◌≡◌, ⊤, ℕ, ◌+◌, ◌*◌, ◌<◌, ◌≤◌, List, length}
-use Rattle.cmm_meaning.specs.Run.{Outcome, Returned, Raised, Asks, More, Improper, Run, cmm_run}
+use Rattle.cmm_meaning.specs.Run.{Outcome, Returned, Raised, Asks, More, Improper, IsProper, Run, cmm_run}
 use Rattle.cmm_tree.specs.Tree.{FunctionTree, FileTree, functions}
 use Rattle.correctness.specs.Setting.{layout_of, AreRowsOf, Entered}
 use Rattle.image_form.specs.Tables.{Tables, Func}
@@ -24,10 +24,6 @@ EndsAlike (Improper kind) end = ⊤
 pub record Alike (run : Run) (now : Seen) : Type 0 where
   pub calls : now.calls ≡ run.calls
   pub end : EndsAlike run.outcome now.end
-
-abbrev pub IsProper : Outcome → Type 0
-IsProper (Improper kind) = ⊥
-IsProper _ = ⊤
 
 -- the run is proper, and what it needs fits
 pub record IsGiven (run : Run) (stack heap : ℕ) : Type 0 where

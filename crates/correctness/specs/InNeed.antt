@@ -1,8 +1,8 @@
 -- Compiled code asks for an allocation only in need: where it has come below the limit word.
 use Rattle.std.specs.Prelude.{◌≡◌, ℕ, ◌+◌, ◌*◌, ◌<◌, ◌≤◌, List, Some, length}
-use Rattle.cmm_meaning.specs.Run.{Run, cmm_run}
+use Rattle.cmm_meaning.specs.Run.{IsProper, Run, cmm_run}
 use Rattle.cmm_tree.specs.Tree.{FunctionTree, FileTree}
-use Rattle.correctness.specs.Correct.{Alike, IsGiven, IsProper}
+use Rattle.correctness.specs.Correct.{Alike, IsGiven}
 use Rattle.correctness.specs.Setting.{layout_of, Entered}
 use Rattle.image_form.specs.Tables.{Tables, Func}
 use Rattle.rv_isa.specs.Decoding.{decoded}

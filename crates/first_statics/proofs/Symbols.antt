@@ -1,12 +1,12 @@
 -- What the symbols of a file stand for: its functions, and addresses of its data.
-use Rattle.std.proofs.Common.{◌≡◌, ℕ, suc, ◌+◌, ◌<◌, ◌≤◌, Bool, true, false, cond, List, [], ◌∷◌, length, map, Some, None, refl, subst, arith}
-use Rattle.std.specs.Prelude.{bytes_eq}
+use Rattle.std.proofs.Common.{◌≡◌, ℕ, suc, ◌+◌, ◌<◌, ◌≤◌, List, [], ◌∷◌, length, map, Some, refl, arith}
 use Rattle.std.specs.List.{AllByRecursion}
 use Rattle.bs_words.specs.Fits.{data_start}
 use Rattle.bs_words.specs.declared.values.Value.{Value}
 use Rattle.bs_words.specs.declared.values.Value.TheVariants.{Word, Block, Function}
-use Rattle.cmm_data.specs.Placement.{PlacedItem, Definition, definition_of_data, symbols_among, size_at, items_from, end_of_items, start_behind, end_behind, end_of_lists, built_in, defined_at, defined_by_list, defined_from, definitions, value_among, value_of_symbol, data_end}
+use Rattle.cmm_data.specs.Placement.{PlacedItem, Definition, definition_of_data, symbols_among, size_at, items_from, end_of_items, start_behind, end_behind, end_of_lists, built_in, defined_at, defined_by_list, defined_from, definitions, value_of_symbol, data_end}
 use Rattle.cmm_data.proofs.Laws.{end_of_items-above}
+use Rattle.cmm_data.proofs.Table.{value_among-from}
 use Rattle.cmm_tree.specs.Tree.{DatumTree, Define, DataItemTree, ItemTree, AFunction, AData, FileTree, functions, functions_among, data_among, data_lists}
 use Rattle.image_rules.proofs.Placed.{end_of_lists-above}
 use Rattle.layout_rules.proofs.Rules.{all_append}
@@ -46,14 +46,6 @@ all_of_file count high n end (AData d ∷ items) few low less =
     (items_of_file count high (start_behind end) d.items start (omega (arith, less, end_of_lists-above next (data_among items))))
     (all_of_file count high n next items few (omega (arith, start, rises)) less)
 
-found : (count high : ℕ) (ds : List Definition) (name : List ℕ) (v : Value) → AreOfFile count high ds → value_among ds name ≡ Some v → IsOfFile count high v
-found count high [] name v p e = absurd (let no' : None ≡ Some v = e in cc)
-found count high (d ∷ ds) name v p e = by (bytes_eq d.name name) e (λ e. found count high ds name v p.1 e)
-  where
-    by : (b : Bool) → cond b (Some d.value) (value_among ds name) ≡ Some v → (value_among ds name ≡ Some v → IsOfFile count high v) → IsOfFile count high v
-    by true e more = let same : d.value ≡ v = cc in subst (IsOfFile count high) same p.0
-    by false e more = more e
-
 pub symbol_of_file : (file : FileTree) (name : List ℕ) (v : Value) → value_of_symbol file name ≡ Some v → IsOfFile (length (functions file)) (data_end file) v
 symbol_of_file file name v e =
     let count = length (functions file) in
@@ -61,7 +53,7 @@ symbol_of_file file name v e =
     let next = end_behind data_start built_in in
     let first : next ≡ data_start + 8 = refl in
     let above = end_of_lists-above next (data_lists file) in
-    found count high (definitions file) name v
+    value_among-from (IsOfFile count high) (definitions file) name v
     (all_append (λ (d : Definition). IsOfFile count high d.value) (defined_by_list data_start built_in) (defined_from 0 next file.items)
     (items_of_file count high data_start built_in.items (omega arith) (omega (arith, above)))
     (all_of_file count high 0 next file.items (omega arith) (omega (arith, first)) (omega arith)))

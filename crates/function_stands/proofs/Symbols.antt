@@ -1,16 +1,16 @@
 -- What symbols stand for: functions of the file, and addresses of its static data.
-use Rattle.std.proofs.Common.{◌≡◌, ℕ, suc, ◌+◌, ◌<◌, ◌≤◌, Bool, true, false, cond, List, [], ◌∷◌, ◌++◌, length, map, bytes_eq, Some, None, sym, subst, arith}
+use Rattle.std.proofs.Common.{◌≡◌, ℕ, suc, ◌+◌, ◌<◌, ◌≤◌, List, [], ◌∷◌, ◌++◌, length, map, Some, None, sym, subst, arith}
 use Rattle.std.specs.Option.{option_to_list}
+use Rattle.std.specs.List.{AllByRecursion}
 use Rattle.bs_words.specs.Fits.{data_limit, data_start}
 use Rattle.bs_words.specs.declared.values.Value.{Value}
 use Rattle.bs_words.specs.declared.values.Value.TheVariants.{Word, Function}
 use Rattle.cmm_data.specs.Faults.{data_fault_of, first_fault}
-use Rattle.cmm_data.specs.Placement.{Definition, built_in, defined_at, defined_by_list, defined_from, definition_of_data, definitions, end_behind, items_from, items_of_lists, lists_behind, size_at, start_behind, symbol_at, value_among, value_of_symbol}
+use Rattle.cmm_data.specs.Placement.{Definition, built_in, defined_at, defined_by_list, defined_from, definition_of_data, definitions, end_behind, items_from, items_of_lists, lists_behind, size_at, start_behind, symbol_at, value_of_symbol}
 use Rattle.cmm_data.proofs.Steps.{end-within}
-use Rattle.cmm_data.proofs.Table.{defined_at-next}
+use Rattle.cmm_data.proofs.Table.{defined_at-next, value_among-from}
 use Rattle.cmm_data.proofs.Walk.{sound-first, sound-list, start-within}
 use Rattle.cmm_tree.specs.Tree.{AData, AFunction, Address, AFloat, Align, Byte, DataItemTree, DataListTree, DatumTree, Define, FileTree, Global, Half, Int, ItemTree, Skip, Text, Val, data_among, functions, functions_among}
-use Rattle.linear_rules.proofs.Homes.{IsIn, is_first, is_later}
 
 -- a function below this number, or an address of the data
 pub data IsInFile (count : ℕ) : Value → Type 0 where
@@ -18,42 +18,31 @@ pub data IsInFile (count : ℕ) : Value → Type 0 where
   of_data : {a : ℕ} → a ≤ data_start + data_limit → IsInFile count (Word a)
 
 abbrev AllPlaced : ℕ → List Definition → Type 0
-AllPlaced count ds = (d : Definition) → IsIn d ds → IsInFile count d.value
-
-no_definition : (count : ℕ) → AllPlaced count []
-no_definition count d z = elim z [ ]
-
-one_more : (count : ℕ) (d : Definition) (ds : List Definition) → IsInFile count d.value → AllPlaced count ds → AllPlaced count (d ∷ ds)
-one_more count d ds h all e z = by e z h all
-  where
-    by : (e : Definition) → IsIn e (d ∷ ds) → IsInFile count d.value → AllPlaced count ds → IsInFile count e.value
-    by e is_first h all = h
-    by e (is_later z) h all = all e z
+AllPlaced count ds = AllByRecursion (λ (d : Definition). IsInFile count d.value) ds
 
 both_placed : (count : ℕ) (ds es : List Definition) → AllPlaced count ds → AllPlaced count es → AllPlaced count (ds ++ es)
 both_placed count [] es all more = more
-both_placed count (d ∷ ds) es all more =
-    one_more count d (ds ++ es) (all d is_first) (both_placed count ds es (λ e z. all e (is_later z)) more)
+both_placed count (d ∷ ds) es all more = (all.0, both_placed count ds es all.1 more)
 
 -- ---- of the data
 
 item_placed : (count address : ℕ) (datum : DatumTree) → address ≤ data_start + data_limit →
     AllPlaced count (map definition_of_data (option_to_list (symbol_at address datum)))
-item_placed count address (Define name) h = one_more count _ [] (of_data h) (no_definition count)
-item_placed count address (Byte word) h = no_definition count
-item_placed count address (Half word) h = no_definition count
-item_placed count address (Int word) h = no_definition count
-item_placed count address (Val word) h = no_definition count
-item_placed count address (Address root at name) h = no_definition count
-item_placed count address (Skip n) h = no_definition count
-item_placed count address (Align n) h = no_definition count
-item_placed count address (Text bytes) h = no_definition count
-item_placed count address (Global at name) h = no_definition count
-item_placed count address AFloat h = no_definition count
+item_placed count address (Define name) h = (of_data h, tt)
+item_placed count address (Byte word) h = tt
+item_placed count address (Half word) h = tt
+item_placed count address (Int word) h = tt
+item_placed count address (Val word) h = tt
+item_placed count address (Address root at name) h = tt
+item_placed count address (Skip n) h = tt
+item_placed count address (Align n) h = tt
+item_placed count address (Text bytes) h = tt
+item_placed count address (Global at name) h = tt
+item_placed count address AFloat h = tt
 
 items_placed : (count address : ℕ) (items : List DataItemTree) → address ≤ data_start + data_limit → first_fault (items_from address items) ≡ None →
     AllPlaced count (defined_at address items)
-items_placed count address [] h none = no_definition count
+items_placed count address [] h none = tt
 items_placed count address (i ∷ items) h none =
     let sound = sound-first address i items h none in
     let next : ℕ = address + size_at address i.datum in
@@ -73,10 +62,9 @@ list_within end d h none = (end-within (start_behind end) d.items (start-within 
 
 from_placed : (count before end : ℕ) (items : List ItemTree) → end ≤ data_start + data_limit → before + length (functions_among items) ≤ count →
     first_fault (items_of_lists (lists_behind end (data_among items))) ≡ None → AllPlaced count (defined_from before end items)
-from_placed count before end [] h few none = no_definition count
+from_placed count before end [] h few none = tt
 from_placed count before end (AFunction f ∷ items) h few none =
-    one_more count (record { name = f.name; value = Function before }) (defined_from (suc before) end items) (of_function (omega (arith, few)))
-    (from_placed count (suc before) end items h (omega (arith, few)) none)
+    (of_function (omega (arith, few)), from_placed count (suc before) end items h (omega (arith, few)) none)
 from_placed count before end (AData d ∷ items) h few none =
     let sound = sound-list end d (data_among items) none in
     both_placed count (defined_by_list end d) (defined_from before (end_behind end d) items) (list_placed count end d h sound.0)
@@ -90,15 +78,8 @@ file_placed file none =
     (list_placed (length (functions file)) data_start built_in within sound.0)
     (from_placed (length (functions file)) 0 (end_behind data_start built_in) file.items (list_within data_start built_in within sound.0) (omega arith) sound.1)
 
-value_placed : (count : ℕ) (ds : List Definition) (name : List ℕ) (v : Value) → AllPlaced count ds → value_among ds name ≡ Some v → IsInFile count v
-value_placed count [] name v all e = cc
-value_placed count (d ∷ ds) name v all e = by (bytes_eq d.name name) e (λ q. value_placed count ds name v (λ x z. all x (is_later z)) q)
-  where
-    by : (b : Bool) → cond b (Some d.value) (value_among ds name) ≡ Some v → (value_among ds name ≡ Some v → IsInFile count v) → IsInFile count v
-    by true e go = let same : d.value ≡ v = cc in subst (IsInFile count) same (all d is_first)
-    by false e go = go e
-
 -- what a symbol of the file stands for
 pub symbol_placed : (file : FileTree) (name : List ℕ) (v : Value) → data_fault_of file ≡ None → value_of_symbol file name ≡ Some v →
     IsInFile (length (functions file)) v
-symbol_placed file name v none e = value_placed (length (functions file)) (definitions file) name v (file_placed file none) e
+symbol_placed file name v none e =
+    value_among-from (IsInFile (length (functions file))) (definitions file) name v (file_placed file none) e

@@ -150,7 +150,9 @@ unfoldable pub ext_at : List Ext → List ℕ → Result (Ext × List ℕ) ℕ
 ext_at before bytes = do
   name ← name_at bytes
   params ← params_at 1 name.1
-  result ← kept (λ result. not (has (map ext_bytes before) (ext_bytes (record { name = name.0; params = params.0; result = result })))) (type_at ext_result_of) params.1
+  result ←
+      kept (λ result. not (has (map ext_bytes before) (ext_bytes (record { name = name.0; params = params.0; result = result }))))
+      (type_at ext_result_of) params.1
   Ok (record { name = name.0; params = params.0; result = result.0 }, result.1)
 
 unfoldable pub is_entry : ℕ → ℕ → Bool

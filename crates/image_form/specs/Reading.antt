@@ -117,7 +117,18 @@ reading bytes = do
   roots ← part_at (length bytes) (codes "ROOT") table_limits (table_at (root_at (length data_.0))) syms.1
   extcs ← part_at (length bytes) (codes "EXTC") table_limits (table_at ext_at) roots.1
   descs ← part_at (length bytes) (codes "DESC") table_limits (table_at (desc_at front.0 (4 * length code.0))) extcs.1
-  if length descs.1 == 0 then Ok (record { version = front.0; funcs = funcs.0; code = code.0; bytes = data_.0; syms = syms.0; roots = roots.0; extcs = extcs.0; descs = descs.0 }) else Err (refused faults.Trailing (length bytes) descs.1)
+  if length descs.1 == 0
+      then Ok (record {
+        version = front.0;
+        funcs = funcs.0;
+        code = code.0;
+        bytes = data_.0;
+        syms = syms.0;
+        roots = roots.0;
+        extcs = extcs.0;
+        descs = descs.0;
+      })
+      else Err (refused faults.Trailing (length bytes) descs.1)
 
 -- no image has these bytes
 abbrev pub NoImage : List ℕ → Type 0

@@ -4,7 +4,8 @@ ghost use Rattle.std.specs.Prelude.{◌≡◌, ◌++◌, ◌<◌, ◌^◌, ℕ, 
 ghost use Rattle.lin_ir.specs.Formed.{label_of, labels_in};
 ghost use Rattle.lin_ir.specs.declared.lin.Line.{Line};
 ghost use Rattle.lin_flow.specs.Labels.{AreLabelsOf};
-ghost use Rattle.tidy_rules.specs.Turning.{next_free, label_here, label_on, head_by, head_at, comes_first, stands_first, exit_head, is_on, line_turn, branch_line, tested_again, label_put, turned_line, turned_all};
+ghost use Rattle.tidy_rules.specs.Turning.{next_free, label_here, label_on, head_by, head_at, comes_first, stands_first, exit_head};
+ghost use Rattle.tidy_rules.specs.Turning.{is_on, line_turn, branch_line, tested_again, label_put, turned_line, turned_all};
 ghost use Rattle.linear_tidy.specs.Loops.{head_view, turn_view, turns_in, is_opened, opened_in, first_of, others_of, turned_by, AreChanges};
 
 use crate::forms::{exit_of, goes_away, own_label};

@@ -7,10 +7,10 @@ use Rattle.bs_words.specs.declared.types.Ret.{Ret}
 use Rattle.bs_words.specs.declared.types.Ty.TheVariants as ty
 use Rattle.bs_words.specs.declared.values.Value.{Value}
 use Rattle.cmm_meaning.specs.Layout.{Layout}
-use Rattle.cmm_meaning.specs.Run.{Outcome, Run, Returned, Raised, Asks, More, Improper, finished}
+use Rattle.cmm_meaning.specs.Run.{Outcome, Run, Returned, Raised, Asks, More, Improper, IsProper, finished}
 use Rattle.cmm_meaning.specs.State.{Doing, World, Here}
 use Rattle.cmm_meaning.specs.Evaluation.{OutOfFuel, NotProper, NoAnswer, Asking, Evaluation, Gives, Exits, Raises, Stops}
-use Rattle.correctness.specs.Correct.{EndsAlike, Alike, IsProper, IsGiven, Forwards, Accounted, Backwards}
+use Rattle.correctness.specs.Correct.{EndsAlike, Alike, IsGiven, Forwards, Accounted, Backwards}
 use Rattle.machine_laws.specs.Steps.{moments, IsFrontOf, IsOrderly}
 use Rattle.meaning_laws.specs.Fitting.{FitsResult, GivesFit, gives_fit, RaisedFits, raised_fits}
 use Rattle.meaning_laws.proofs.Units.{Begins-same}

@@ -11,10 +11,10 @@ use Rattle.cmm_tree.specs.Tree.{FunctionTree, FileTree, functions, comps_of}
 use Rattle.cmm_types.specs.Types.{body_type, result_of}
 use Rattle.cmm_meaning.specs.Evaluation.{Evaluation}
 use Rattle.cmm_meaning.specs.Layout.{Layout}
-use Rattle.cmm_meaning.specs.Run.{Asks, Improper, More, Outcome, Raised, Returned, Run, callees, cmm_run, first_call, first_world}
+use Rattle.cmm_meaning.specs.Run.{Asks, Improper, IsProper, More, Outcome, Raised, Returned, Run, callees, cmm_run, first_call, first_world}
 use Rattle.cmm_meaning.specs.Setting.{setting_of}
 use Rattle.cmm_meaning.specs.State.{Doing, World}
-use Rattle.correctness.specs.Correct.{Accounted, Alike, Backwards, EndsAlike, Forwards, IsCorrect, IsProper}
+use Rattle.correctness.specs.Correct.{Accounted, Alike, Backwards, EndsAlike, Forwards, IsCorrect}
 use Rattle.correctness.specs.Correct as correct
 use Rattle.correctness.specs.InNeed.{AsksInNeed, AsksOnlyInNeed, AsksOnlyInNeedUntil, NeedsItsAsks}
 use Rattle.correctness.specs.Setting.{layout_of, IsRowOf, AreRowsOf, Entered}

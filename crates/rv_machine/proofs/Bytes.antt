@@ -1,15 +1,8 @@
 -- Powers of two up to a word, and a word cut into three runs of bytes.
 use Rattle.std.proofs.Common.{◌≡◌, ℕ, ◌+◌, ◌-◌, ◌*◌, ◌/◌, ◌%◌, ◌^◌, ◌<◌, ◌≤◌, arith, ap, sym, ◌∙◌, subst}
 use Rattle.std.proofs.Math.Nat.{mod-lt, mod-eq_of_lt, mul-le-mul_right, div-mul-le_self, lt_of_mul-lt-mul_right, div-add-mod', div-div-eq-div-mul}
-use Rattle.std.proofs.lemmas.Nat.{pow_below, pow_pos, pow-add}
+use Rattle.std.proofs.lemmas.Nat.{pow_pos, pow-add}
 use Rattle.rv_machine.specs.Memory.{replaced}
-
--- the shift of 1
-pub shifted : (k : ℕ) → k < 64 → 1 * 2 ^ k % 2 ^ 64 ≡ 2 ^ k
-shifted k h =
-    let small : 2 ^ k < 2 ^ 64 = pow_below k 64 h in
-    let one : 1 * 2 ^ k ≡ 2 ^ k = omega arith in
-    rw one (mod-eq_of_lt small)
 
 -- a number cut at a and at a * b, with v between in place of what was there
 three_below : (a b c n v : ℕ) → 0 < a → v < b → n < c * (a * b) → n % a + v * a + n / (a * b) * (a * b) < c * (a * b)

@@ -8,7 +8,7 @@ use Rattle.std.proofs.lemmas.Int.{to_z-of_z, fits_signed_mul}
 use Rattle.std.proofs.Math.Pow.{mod-mod-pow, pow_mono}
 use Rattle.std.proofs.Math.Nat.{mod-lt, mod-mod, mod-eq_of_lt}
 use Rattle.bs_words.specs.Word.{word_of, signed_of, signed_in, sar_word, shl_word, shr_word, mul_word, div_word, rem_word, sext_word}
-use Rattle.bs_words.proofs.Word.{word_of-bits}
+use Rattle.bs_words.proofs.Word.{word_of-bits, div_euclid-shr, high_below, again128}
 use Rattle.rv_machine.specs.Arithmetic.{low, extended, low_signed, sar_low}
 
 -- a number of so many bits, extended by its sign
@@ -86,20 +86,6 @@ rem_extended a b =
     ∙ ap (λ z. word_of (int_rem (low_signed a) z)) (signed_low b)
 
 -- ---- the high half of a product of one signed word
-
-div_euclid-shr : (z : ℤ) (m : ℕ) → int_div_euclid z (pos m) ≡ shr_z z m
-div_euclid-shr (pos n) m = refl
-div_euclid-shr (negsuc n) m = refl
-
-quotient_below : (n : ℕ) → n < 2 ^ 127 → n / 2 ^ 64 < 2 ^ 63
-quotient_below n h = omega arith
-
-high_below : (z : ℤ) → mag z < 2 ^ 127 → mag (shr_z z (2 ^ 64)) < 2 ^ 63
-high_below (pos n) h = quotient_below n h
-high_below (negsuc n) h = quotient_below n h
-
-again128 : (z : ℤ) → FitsSigned w128 z → cast_signed w128 (cast_unsigned w128 z) ≡ z
-again128 z f = to_z-of_z w128 z f
 
 pub mulhsu-returns : (a b : ℕ) (x y : ℤ) (r : ℕ) → b < 2 ^ 64
     → FitsSigned w64 x → x ≡ signed_of a → y ≡ pos b

@@ -1,24 +1,22 @@
 -- The symbols of a file without a fault in its static data are words and functions: data lies below a limit.
-use Rattle.std.proofs.Common.{◌≡◌, ℕ, suc, ◌+◌, ◌≤◌, ◌<◌, ◌^◌, Bool, true, false, cond, List, [], ◌∷◌, ◌++◌, map, Option, Some, None, Ok, subst, arith}
-use Rattle.std.specs.Prelude.{bytes_eq}
-use Rattle.bs_fault.specs.Reported.{second}
+use Rattle.std.proofs.Common.{◌≡◌, ℕ, suc, ◌+◌, ◌≤◌, ◌<◌, ◌^◌, List, [], ◌∷◌, ◌++◌, map, Option, Some, None, subst, arith}
+use Rattle.std.specs.List.{AllByRecursion}
 use Rattle.bs_words.specs.Fits.{data_limit, data_start}
 use Rattle.bs_words.specs.declared.values.Value.{Value}
 use Rattle.cmm_tree.specs.Tree.{DatumTree, Define, DataItemTree, ItemTree, AFunction, AData, FileTree, data_among, data_lists}
-use Rattle.cmm_data.specs.Placement.{PlacedItem, Definition, definition_of_data, symbols_among, size_at, items_from, start_behind, end_behind, lists_behind, items_of_lists, built_in, defined_at, defined_by_list, defined_from, definitions, value_among, value_of_symbol}
+use Rattle.cmm_data.specs.Placement.{PlacedItem, Definition, definition_of_data, symbols_among, size_at, items_from, start_behind, end_behind, lists_behind, items_of_lists, built_in, defined_at, defined_by_list, defined_from, definitions, value_of_symbol}
 use Rattle.cmm_data.specs.Faults.{first_fault, data_fault_of}
 use Rattle.cmm_data.proofs.Walk.{sound-first, sound-list, start-within}
 use Rattle.cmm_data.proofs.Steps.{end-within}
+use Rattle.cmm_data.proofs.Table.{value_among-from}
 use Rattle.cmm_meaning.specs.Setting.{Setting}
-use Rattle.cmm_reader.specs.Text as said
-use Rattle.cmm_reader.specs.Text.{ReadsAs}
 use Rattle.cmm_front.specs.FileOf.{IsFileOf}
+use Rattle.cmm_front.proofs.Readings.{is_placed}
 use Rattle.selection_rules.specs.Bounded.{Bounded, BoundedSymbols}
-use Rattle.cmm_front.proofs.Readings.{no_fault}
+use Rattle.bs_fault.proofs.Reported.{no_fault}
 
 abbrev AllDefined : List Definition → Type 0
-AllDefined [] = Unit {0}
-AllDefined (d ∷ more) = Bounded d.value × AllDefined more
+AllDefined ds = AllByRecursion (λ (d : Definition). Bounded d.value) ds
 
 both_defined : (xs ys : List Definition) → AllDefined xs → AllDefined ys → AllDefined (xs ++ ys)
 both_defined [] ys p q = q
@@ -53,18 +51,10 @@ all_defined file none =
     both_defined (defined_by_list data_start built_in) (defined_from 0 (end_behind data_start built_in) file.items)
     (items_defined (start_behind data_start) built_in.items start sound.0) (file_defined 0 (end_behind data_start built_in) file.items behind.1 sound.1)
 
-found_defined : (ds : List Definition) (name : List ℕ) (v : Value) → AllDefined ds → value_among ds name ≡ Some v → Bounded v
-found_defined [] name v p e = absurd (let no' : None ≡ Some v = e in cc)
-found_defined (d ∷ ds) name v p e = by (bytes_eq d.name name) e (λ e. found_defined ds name v p.1 e)
-  where
-    by : (b : Bool) → cond b (Some d.value) (value_among ds name) ≡ Some v → (value_among ds name ≡ Some v → Bounded v) → Bounded v
-    by true e more = let same : d.value ≡ v = cc in subst Bounded same p.0
-    by false e more = more e
-
 -- What each symbol of a file stands for is a word or a function, where its static data has a place.
 pub symbols_bounded : (file : FileTree) → data_fault_of file ≡ None → (c : Setting) → c.symbol ≡ value_of_symbol file → BoundedSymbols c
 symbols_bounded file none c same =
-    record { each = λ name v e. found_defined (definitions file) name v (all_defined file none) (subst (λ (f : List ℕ → Option Value). f name ≡ Some v) same e) }
+    record { each = λ name v e. value_among-from Bounded (definitions file) name v (all_defined file none) (subst (λ (f : List ℕ → Option Value). f name ≡ Some v) same e) }
 
 -- ---- a file that the front accepts
 
@@ -72,4 +62,4 @@ pub read_places : (text : List ℕ) (file : FileTree) → ReadsAs text (Ok file)
 read_places text _ (said.file tokens items short cut are faultless) = no_fault _ (λ f among. faultless f (second _ _ (second _ _ among)))
 
 pub front_symbols : (text : List ℕ) (file : FileTree) → IsFileOf text file → (c : Setting) → c.symbol ≡ value_of_symbol file → BoundedSymbols c
-front_symbols text file is c same = symbols_bounded file (read_places text file is.read) c same
+front_symbols text file is c same = symbols_bounded file (is_placed text file is.read) c same

@@ -1,11 +1,12 @@
 -- The words of a command line's arguments and answers, by the file.
-use Rattle.std.specs.Prelude.{◌≡◌, ℕ, true, false, List, [], ◌∷◌, Option, Some, None, map, slice_get, option_map, find, bytes_eq}
+use Rattle.std.specs.Prelude.{◌≡◌, ℕ, true, false, List, [], ◌∷◌, Option, Some, None, map, slice_get, find, bytes_eq}
 use Rattle.bs_words.specs.declared.values.Value.{Value}
 use Rattle.bs_words.specs.declared.values.Value.TheVariants as value
 use Rattle.cmm_data.specs.Placement.{data_end, value_of_symbol}
 use Rattle.cmm_meaning.specs.Evaluation.{fit_parameters}
 use Rattle.cmm_tree.specs.Tree.{FunctionTree, FileTree, functions, comps_of}
 use Rattle.command_line.specs.Command.{CheckTree}
+use Rattle.rv_machine.specs.Loading.{before}
 use Rattle.rv_machine.specs.declared.setup.Arg.{Arg}
 use Rattle.rv_machine.specs.declared.setup.Arg.TheVariants.{Word, Symbol}
 
@@ -18,11 +19,6 @@ address_in _ = None
 abbrev pub word_of : (List ℕ → Option Value) → Arg → Option ℕ
 word_of symbol (Word word) = Some word
 word_of symbol (Symbol name) = address_in (symbol name)
-
--- a word before the others, where there are all of them
-abbrev pub before : Option ℕ → Option (List ℕ) → Option (List ℕ)
-before None words = None
-before (Some word) words = option_map (λ ws. word ∷ ws) words
 
 -- the words of all, where each has one
 abbrev pub words_of : (List ℕ → Option Value) → List Arg → Option (List ℕ)

@@ -23,7 +23,7 @@ use Rattle.cmm_grammar.specs.declared.word.DataWord.TheVariants as item
 use Rattle.cmm_grammar.specs.Parts.{ResultPart, BindingPart, CasePart, HandlerPart, HeadPart, ItemPart, FunctionItem, DataItem, item_of, expressions, bindings, cases, handlers, sequence_at, sequence}
 use Rattle.cmm_grammar.specs.Rewriting.{element_by, element, turn_by, turn, while_loop}
 use Rattle.cmm_grammar.specs.Words.{leaf_of, word_of}
-use Rattle.cmm_grammar.specs.Grammar.{a_token, close, a_comp, a_result, operands, sequence_to_close, sequence_to_with, a_binding, a_mutable_binding, bindings_to_close, let_body, let_form, assign_form, arguments_of, app_form, extcall_rest, extcall_form, alloc_form, loaded, stored, load_rest, store_rest, chunk_rest, chunked, load_form, store_form, paired, tripled, raise_form, pair_form, triple_form, float_form, seq_form, while_form, case_number, another_number, case_body, a_case, switch_form, a_parameter, parameters, label_rest, handler_rest, a_label, next_handler, more_handlers, labelled_handlers, bare_handler, catch_form, exit_rest, exit_form, try_form, form_of, form, a_data_integer, datum_of, a_data_item, data_items, data_list, a_function, item_rest, an_item}
+use Rattle.cmm_grammar.specs.Grammar.{a_token, a_comp, a_result, operands, sequence_to_close, sequence_to_with, a_binding, a_mutable_binding, bindings_to_close, let_body, let_form, assign_form, arguments_of, app_form, extcall_rest, extcall_form, alloc_form, loaded, stored, load_rest, store_rest, chunk_rest, chunked, load_form, store_form, paired, tripled, raise_form, pair_form, triple_form, float_form, seq_form, while_form, case_number, another_number, case_body, a_case, switch_form, a_parameter, parameters, label_rest, handler_rest, a_label, next_handler, more_handlers, labelled_handlers, bare_handler, catch_form, exit_rest, exit_form, try_form, form_of, form, a_data_integer, datum_of, a_data_item, data_items, data_list, a_function, item_rest, an_item}
 use Rattle.cmm_tree.specs.Measures.{total, row_total, bindings_total, cases_total, handlers_total}
 use Rattle.cmm_tree.specs.Tree.{DatumTree, Byte, Half, Int, Val, Address, Skip, Align, DataItemTree}
 use Rattle.cmm_types.specs.Faults.{row_length}
@@ -103,7 +103,7 @@ part_more e m p = weighed_more e m (m + 0) (omega arith) p
 operands_take : (n : ℕ) (Q : List Expression → ℕ → Type 0)
     → ((es : List Expression) (m all : ℕ) → PartsOf AnExpression es m → m + n ≤ all → Q es all)
     → Takes operands n Q
-unfolding operands close a_token
+unfolding operands a_token
 operands_take n Q q = record { first = part_more; second = λ es m parts t c e. q es m (weight t + (m + n)) parts (omega arith) }
 
 to_close_take : (n : ℕ) (Q : Expression → ℕ → Type 0)
@@ -147,7 +147,7 @@ let_body_takes at bs m n parts h =
     record { calls = omega (arith, r, a, size, h) })
 
 let_takes : (at : ℕ) (r : Rule ABinding) (n : ℕ) → BindingsTake r → Takes (let_form at r) n Weighed
-unfolding let_form bindings_to_close close a_token
+unfolding let_form bindings_to_close a_token
 let_takes at r n takes = record {
   first = λ place.
       takes (1 + n) _ (λ b m all p size. record {
@@ -159,7 +159,7 @@ let_takes at r n takes = record {
 }
 
 assign_takes : (at n : ℕ) → Takes (assign_form at) n Weighed
-unfolding assign_form close a_token
+unfolding assign_form a_token
 assign_takes at n = λ t name e v m p u c f. let a = p.calls in record { calls = omega (arith, a) }
 
 -- ---- calls
@@ -168,7 +168,7 @@ arguments_take : (made : Expressions → ResultPart → Expression) (n : ℕ)
     → ((es : List Expression) (r : ResultPart) (m all : ℕ) → row_total call_bytes (expressions es) + row_length (expressions es) ≤ m → 2 + (m + n) ≤ all →
     Weighed (made (expressions es) r) all)
     → Takes (arguments_of made) n Weighed
-unfolding arguments_of a_result close a_token
+unfolding arguments_of a_result a_token
 arguments_take made n q = record {
   first = part_more;
   second = λ es m parts t r e u c f.
@@ -210,11 +210,11 @@ stored_weighed at None chunk_at x y m k n p q h = let a = p.calls in let b = q.c
 stored_weighed at (Some w) chunk_at x y m k n p q h = let a = p.calls in let b = q.calls in record { calls = omega (arith, a, b, h) }
 
 load_rest_takes : (at : ℕ) (c : Option Chunk) (chunk_at n : ℕ) → Takes (load_rest at c chunk_at) n Weighed
-unfolding load_rest close a_token
+unfolding load_rest a_token
 load_rest_takes at c chunk_at n = λ x m p t u e. loaded_weighed at c chunk_at x m _ p (omega arith)
 
 store_rest_takes : (at : ℕ) (c : Option Chunk) (chunk_at n : ℕ) → Takes (store_rest at c chunk_at) n Weighed
-unfolding store_rest close a_token
+unfolding store_rest a_token
 store_rest_takes at c chunk_at n = λ x m p y k q t u e. stored_weighed at c chunk_at x y m k _ p q (omega arith)
 
 chunk_rest_takes : (w : ChunkWord) (k : Option Chunk → Rule AnExpression) (n : ℕ) → ((c : Option Chunk) (m : ℕ) → Takes (k c) m Weighed) →
@@ -265,15 +265,15 @@ tripled_weighed at (triple.SetElement w) x y z m k l n p q r h =
     let a = p.calls in let b = q.calls in let c = r.calls in let both = element_few at x y in record { calls = omega (arith, a, b, c, both, h) }
 
 raise_takes : (at n : ℕ) → Takes (raise_form at) n Weighed
-unfolding raise_form close a_token
+unfolding raise_form a_token
 raise_takes at n = λ x m p t u e. let a = p.calls in record { calls = omega (arith, a) }
 
 pair_takes : (at : ℕ) (w : Pair) (n : ℕ) → Takes (pair_form at w) n Weighed
-unfolding pair_form close a_token
+unfolding pair_form a_token
 pair_takes at w n = λ x m p y k q t u e. paired_weighed at w x y m k _ p q (omega arith)
 
 triple_takes : (at : ℕ) (w : Triple) (n : ℕ) → Takes (triple_form at w) n Weighed
-unfolding triple_form close a_token
+unfolding triple_form a_token
 triple_takes at w n = λ x m p y k q z l r t u e. tripled_weighed at w x y z m k l _ p q r (omega arith)
 
 float_takes : (at word_at n : ℕ) → 2 ≤ n → Takes (float_form at word_at) n Weighed
@@ -328,7 +328,7 @@ switch_takes at n = λ t size e selector m p u c f. record {
 }
 
 parameters_take : (n : ℕ) (Q : List Parameter → ℕ → Type 0) → ((ps : List Parameter) (all : ℕ) → n ≤ all → Q ps all) → Takes parameters n Q
-unfolding parameters a_parameter a_comp close a_token
+unfolding parameters a_parameter a_comp a_token
 parameters_take n Q q = record {
   first = λ t name e u colon f v c g. tt;
   second = λ ps m parts t c e. q ps (weight t + (m + n)) (omega arith);
@@ -375,7 +375,7 @@ catch_takes at n = to_with_take n _ (λ body m all p size. record {
 })
 
 exit_takes : (at n : ℕ) → 2 ≤ n → Takes (exit_form at) n Weighed
-unfolding exit_form exit_rest close a_token
+unfolding exit_form exit_rest a_token
 exit_takes at n h = record {
   first = λ t name e. operands_take (weight t + n) _ (λ es k all parts size. let row = row_weighed es k parts in record { calls = omega (arith, row, size, h) });
   second = λ t c e. record { calls = omega (arith, h) };
@@ -463,7 +463,7 @@ data_token t w e = by (is_symbol_token t) (data_keyword t.kind) e
     by false (Some a) e = ap (token_of t) e
 
 data_items_take : (at n : ℕ) → Takes (data_items at) n ItemTakes
-unfolding data_items a_data_item close a_token
+unfolding data_items a_data_item a_token
 data_items_take at n = record {
   first = λ t w e.
       let short = string_short t.text in
