@@ -1,11 +1,12 @@
 -- Words of the memory, after others were written.
-use Rattle.std.proofs.Common.{◌≡◌, ◌≢◌, ℕ, zero, suc, ◌<◌, ◌≤◌, List, [], ◌∷◌, ◌++◌, slice_index, refl, ap, arith, ◌∙◌, sym, get_or-set_other}
+use Rattle.std.proofs.Common.{◌≡◌, ◌≢◌, ℕ, suc, ◌<◌, ◌≤◌, List, [], ◌∷◌, ◌++◌, slice_index, refl, ap, arith, ◌∙◌, sym}
 use Rattle.std.specs.List.{AllByRecursion}
 use Rattle.rv_machine.specs.Memory.{Region, word, write}
 use Rattle.rv_machine.specs.Hart.{with_register}
 use Rattle.rv_machine.specs.Moving.{redirected, redirected_registers}
 use Rattle.machine_laws.proofs.Memory.{other_word}
 use Rattle.machine_laws.proofs.Rise.{Rise, none_below}
+use Rattle.machine_laws.proofs.Words.{other_register}
 use Rattle.alloc_service.specs.Forward.{redirected_now, redirected_registers_now}
 
 -- ---- words that are rewritten
@@ -47,10 +48,6 @@ both_now f old as' bs from middle top r s =
     ∙ now_is f old bs (redirected_now f old as') from middle s (λ b h k. kept f old as' b (none_below middle top b as' k r))
 
 -- ---- registers
-
-other_register : (rs : List ℕ) (r s v : ℕ) → r ≢ s → slice_index (with_register r v rs) s ≡ slice_index rs s
-other_register rs zero s v n = refl
-other_register rs (suc r) s v n = get_or-set_other rs (suc r) s v 0 (λ e. n (sym e))
 
 pub registers_now :
     (f : ℕ → ℕ) (old : List ℕ) (ns regs : List ℕ) (low high : ℕ) → Rise low high ns →

@@ -8,7 +8,7 @@ use Rattle.assemble.specs.Sizes.{item_size, symbol_size, call_size, pieces_size}
 use Rattle.assemble.specs.Source.{IsSource, tree_of, entries_of, laid_of}
 use Rattle.assemble.specs.declared.source.Source.{Source}
 use Rattle.assemble.proofs.Bounds.{end_is}
-use Rattle.assemble.proofs.Totals.{table_length, row_size, row_length, rows_size, items_are, functions_most, sym_size, sym_length, symbols_are, symbols_most, ext_size, ext_length, calls_are, exts_most, desc_size, desc_length, descs_are, pieces_most, roots_most}
+use Rattle.assemble.proofs.Totals.{table_length, row_size, row_length, rows_size, items_are, functions_most, sym_size, sym_length, symbols_are, symbols_most, ext_size, ext_length, calls_are, exts_most, desc_size, desc_length, descs_are, pieces_most}
 use Rattle.bs_fault.specs.declared.large.Section.TheVariants as section
 use Rattle.bs_words.specs.Contents.{contents}
 use Rattle.bs_words.specs.Fits.{data_start}
@@ -22,7 +22,7 @@ use Rattle.image_form.specs.Tables.{ext}
 use Rattle.image_form.specs.declared.image.ExtRow.{ExtRow}
 use Rattle.image_form.proofs.Lengths.{length-le32, length-words}
 use Rattle.image_rules.proofs.Externals.{each_ext}
-use Rattle.image_rules.proofs.Placed.{roots_in_data}
+use Rattle.image_rules.proofs.Placed.{roots_in_data, cells_few}
 use Rattle.image_rules.proofs.Whole.{all_length, length_of_data}
 use Rattle.layout_rules.specs.Externals.{ext_of, externals}
 use Rattle.layout_rules.specs.Laid.{stub_words, code_from, rows_from, descs_from, sym_of}
@@ -76,7 +76,7 @@ sized s source calls same =
       bytes = source.placed.bytes ∙ sym (length_of_data file (entries_of s));
       syms_few = omega (arith, symbols_most symbols named, symbols_few);
       syms = omega (arith, symbols_are symbols, syms_same, table_length sym_bytes sym_size sym_length (map sym_of (symbols_of file)));
-      roots_few = omega (arith, roots_most data_start (data_end file) (root_cells file) (roots_in_data file), root_count, source.placed.bytes);
+      roots_few = omega (arith, cells_few data_start (data_end file) (root_cells file) (roots_in_data file), root_count, source.placed.bytes);
       roots = omega (arith, roots_length (map in_data (root_cells file)), length-map (root_cells file) in_data, root_count);
       calls_few = omega (arith, calls_are calls, exts_same, few_exts, length-map (externals file) ext_of, source.can.of_file.few_externals);
       extcs = omega (arith, calls_are calls, exts_same, table_length ext_bytes ext_size ext_length exts);

@@ -19,7 +19,6 @@ use Rattle.image_form.specs.Image.{IsExt, le16, le32, le_entry, name_bytes, para
 use Rattle.image_form.specs.Tables.{Func, Sym, Ext, Desc, ext}
 use Rattle.image_form.specs.declared.image.ExtRow.{ExtRow}
 use Rattle.image_form.proofs.Lengths.{length-le16, length-le32}
-use Rattle.image_rules.proofs.Placed.{CellsLie}
 use Rattle.layout_rules.specs.declared.form.Form.{Form}
 use Rattle.layout_rules.specs.Conditions.{IsRowLaid, weight, weight_of}
 use Rattle.layout_rules.specs.Forms.{words_of, total_words, place_of}
@@ -242,7 +241,3 @@ pieces_most [] = omega arith
 pieces_most (p ∷ ps) = omega (arith, sum_by-cons pieces_size p ps, sum_by-cons size_of p ps, code_most p.code, pieces_most ps)
 
 -- ---- root cells
-
-pub roots_most : (low high : ℕ) (rs : List ℕ) → CellsLie low high rs → low + 8 * length rs ≤ high
-roots_most low high [] lie = omega (arith, lie)
-roots_most low high (r ∷ rs) lie = omega (arith, lie.0, roots_most (r + 8) high rs lie.1)

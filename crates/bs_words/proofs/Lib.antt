@@ -1,3 +1,5 @@
 pub mod Below
 pub mod Word
 mod Rows
+pub mod Lists
+pub mod Truths

@@ -34,7 +34,6 @@ use Rattle.pass_rules.specs.Carried.{TriesAtMost, EndsInReturn}
 use Rattle.pass_rules.specs.Carried as carried
 use Rattle.linear_rules.specs.Lowered.{is_idle, pops, lines_of, lowered_code, slot_number, slot_count, lowered}
 use Rattle.linear_rules.proofs.Homes.{IsIn, is_first, is_later, in_of, contains_of}
-use Rattle.linear_rules.proofs.Marks.{instr}
 use Rattle.linear_rules.proofs.Meeting.{comes}
 use Rattle.linear_rules.proofs.Places.{place_tries}
 use Rattle.linear_rules.proofs.Standing.{is_at}
@@ -51,6 +50,8 @@ use Rattle.tidy_rules.proofs.Handlers.{handler_stands}
 use Rattle.tidy_rules.proofs.Tidied.{tidied_regular}
 use Rattle.tidy_rules.proofs.Turning as round
 use Rattle.tidy_rules.proofs.TurningLines.{From, was_line, new_line, new_flow, from_line}
+use Rattle.tidy_rules.proofs.Turning.{none_left}
+use Rattle.mach_laws.proofs.Instructions.{instr}
 
 -- ---- tries
 
@@ -226,9 +227,6 @@ none_closed c = elim c [ ]
 pub lowered_unended : (p : Mach) → IsRegular (lowered p) → EndsInReturn p.code → IsUnended (lowered p)
 lowered_unended p regular e tries r = none_closed (reached_closed (lowered p) regular (lowered_closed (slot_number p) e) r)
 
-no_lines : (j : Line) (js : List Line) → j ∷ js ≡ [] → ⊥
-no_lines j js e = cc
-
 module _ (m : Lin) (goes : ℕ → Bool) (each : (i : Line) (next : List Line) → walks.Stands i next m.code → goes (length next) ≡ true → IsUseless m i next) (unended : IsUnended m) where
   abbrev K : List Line → List Line
   K = without goes
@@ -240,7 +238,7 @@ module _ (m : Lin) (goes : ℕ → Bool) (each : (i : Line) (next : List Line) �
     where
       by : {A : Type 0} (b : Bool) → goes (length next) ≡ b → cond b (K next) (leaving_out.bare (flow.Label l) ∷ K next) ≡ [] → A
       by true s e = absurd (true≢false (useless_landing (each (leaving_out.bare (flow.Label l)) next (tail_stands w) s)))
-      by false s e = absurd (no_lines _ (K next) e)
+      by false s e = absurd (none_left _ (K next) e)
 
   ended : (is : List Line) (tries : List ℕ) → Comes m is tries → K is ≡ [] → ⊥
   ended [] tries (there r) e = unended tries r
@@ -258,14 +256,14 @@ module _ (m : Lin) (goes : ℕ → Bool) (each : (i : Line) (next : List Line) �
 
       by : (b : Bool) → goes (length next) ≡ b → cond b (K next) (i ∷ K next) ≡ [] → (Comes m next tries → K next ≡ [] → ⊥) → ⊥
       by true s e ih = gone (each i next (tail_stands (comes_tail c)) s) e ih
-      by false s e ih = no_lines i (K next) e
+      by false s e ih = none_left i (K next) e
 
   leaving_unended : IsUnended (with_code m (K m.code))
   leaving_unended tries r = let y = left.source m goes each r in ended y.code tries y.reached y.same
 
 no_turned : (to : ℕ → ℕ) (exits : ℕ → Option ℕ) (is : List Line) → map (redirect to exits) is ≡ [] → is ≡ []
 no_turned to exits [] e = refl
-no_turned to exits (i ∷ is) e = absurd (no_lines _ _ e)
+no_turned to exits (i ∷ is) e = absurd (none_left _ _ e)
 
 -- The tidy function is left as the first is.
 pub tidied_unended : {m r : Lin} → IsRegular m → Tidies m r → IsUnended m → IsUnended r

@@ -30,7 +30,7 @@ use Rattle.linear_rules.specs.Lowered.{slot_number, lowered}
 use Rattle.linear_rules.specs.Sizes.{tries_ended}
 use Rattle.linear_rules.proofs.Homes.{IsIn, in_of, contains_of}
 use Rattle.linear_rules.proofs.Lines.{all_of, named_from}
-use Rattle.linear_rules.proofs.Marks.{all_in, instr}
+use Rattle.linear_rules.proofs.Marks.{all_in}
 use Rattle.tidy_rules.specs.Redirecting.{Tidies}
 use Rattle.tidy_rules.proofs.Following.{tidied_tidies}
 use Rattle.tidy_rules.specs.Regular.{IsRegular}
@@ -47,6 +47,7 @@ use Rattle.placed_functions.proofs.Placed.{placed_for}
 use Rattle.placed_functions.proofs.Tries.{few_nest}
 use Rattle.made_once.specs.Made.{IsChained}
 use Rattle.made_once.specs.Made.{IsMadeOf}
+use Rattle.mach_laws.proofs.Instructions.{instr}
 use Rattle.chained_functions.proofs.Carried.{lowered_shallow, tidied_shallow, tidied_named, lowered_unended, tidied_unended}
 
 -- ---- how many lines

@@ -14,7 +14,7 @@ use Rattle.cmm_data.specs.Placement.{DataSymbolTree, PlacedItem, size_at, items_
 use Rattle.cmm_tree.specs.Tree.{DatumTree, Define, Byte, Half, Int, Val, Address, Skip, Align, Text, Global, AFloat, DataItemTree, DataListTree, FileTree, ItemTree, AFunction, AData, data_among}
 use Rattle.image_form.specs.Image.{le32, sym_bytes, table_bytes}
 use Rattle.image_form.proofs.Lengths.{length-words}
-use Rattle.image_rules.proofs.Placed.{CellsLie, roots_in_data}
+use Rattle.image_rules.proofs.Placed.{roots_in_data, cells_few}
 use Rattle.layout_rules.specs.Laid.{sym_of}
 use Rattle.text_sizes.specs.Measures.{datum_bytes, list_bytes, items_bytes}
 use Rattle.code_bounds.proofs.Bodies.{sym_length, table_length}
@@ -157,13 +157,6 @@ syms_short file named short =
     omega (arith, table, rows, names, lists, first, short)
 
 -- ---- root cells
-
-cells_few : (low high : ℕ) (rs : List ℕ) → CellsLie low high rs → low + 8 * length rs ≤ high
-cells_few low high [] lie = omega (arith, lie)
-cells_few low high (r ∷ rs) lie =
-    let here : low ≤ r = lie.0 in
-    let others = cells_few (r + 8) high rs lie.1 in
-    omega (arith, here, others)
 
 pub roots_short : (file : FileTree) → data_bytes file ≤ 16777216 → length (table_bytes le32 (map (λ address. address - data_start) (root_cells file))) ≤ 67108864
 roots_short file short =

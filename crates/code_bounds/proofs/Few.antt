@@ -18,7 +18,7 @@ use Rattle.rv_pieces.specs.declared.piece.Pieces.{Pieces}
 use Rattle.selection_laws.proofs.Accepting.{right}
 use Rattle.selection_promise.proofs.Promised.{few_tokens}
 use Rattle.selection_accepted.proofs.Promised.{function_accepted}
-use Rattle.text_sizes.proofs.Whole.{text_held}
+use Rattle.text_sizes.proofs.Whole.{text_held, tokens_of}
 use Rattle.code_bounds.specs.Kept.{KeepsTo}
 use Rattle.code_bounds.proofs.Modest.{few_points, few_indexes}
 
@@ -77,9 +77,6 @@ function_few f p modest keeps =
     omega (arith, weigh, words, labels, carried, marks, count, points, indexes)
 
 -- ---- all functions
-
-abbrev tokens_of : FunctionTree → ℕ
-tokens_of f = f.tokens
 
 abbrev weight_in : Pieces → ℕ
 weight_in p = weight_of p.code

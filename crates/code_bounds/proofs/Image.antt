@@ -18,10 +18,11 @@ use Rattle.layout_rules.specs.Laid.{stub_words, row_at, rows_from, descs_in, des
 use Rattle.layout_rules.proofs.Functions.{filled}
 use Rattle.layout_rules.proofs.Rules.{all_append}
 use Rattle.chained_functions.specs.Made.{IsBoundedBy}
-use Rattle.rv_pieces.specs.Named.{marks_in, has_words}
+use Rattle.rv_pieces.specs.Named.{marks_in}
 use Rattle.rv_pieces.specs.declared.piece.Piece.{Piece}
 use Rattle.rv_pieces.specs.declared.piece.Piece.TheVariants.{Label, Branch, Jump, Descriptor}
 use Rattle.rv_pieces.specs.declared.piece.Pieces.{Pieces}
+use Rattle.image_rules.proofs.Whole.{some_words}
 use Rattle.code_bounds.specs.Kept.{KeepsTo}
 
 -- ---- words
@@ -48,23 +49,6 @@ pieces_few (p ∷ ps) [] = omega arith
 pieces_few (p ∷ ps) (f ∷ fs) = let here = piece_few p f in let others = pieces_few ps fs in omega (arith, here, others)
 
 -- ---- where descriptors are
-
-branch_some : (f : Form) → 1 ≤ branch_words f
-branch_some Near = omega arith
-branch_some Middle = omega arith
-branch_some Far = omega arith
-
-jump_some : (f : Form) → 1 ≤ jump_words f
-jump_some Near = omega arith
-jump_some Middle = omega arith
-jump_some Far = omega arith
-
-some_words : (p : Piece) (f : Form) → has_words p ≡ true → 1 ≤ words_of p f
-some_words (Label l) f e = absurd (cc)
-some_words (Descriptor d) f e = absurd (cc)
-some_words (Branch c a b l) f e = branch_some f
-some_words (Jump l) f e = jump_some f
-some_words p f e = omega arith
 
 -- after one word, and not after another
 abbrev Above : ℕ → List Desc → Type 0

@@ -7,6 +7,7 @@ use Rattle.std.proofs.lemmas.Map.Steps.{length-le_from_distinct_below}
 use Rattle.std.proofs.lemmas.Map.Views.{Contains-from_any}
 use Rattle.std.specs.Prelude.{Contains}
 use Rattle.std.specs.List.{AllZip}
+use Rattle.std.proofs.lemmas.List.Elements.{All-contains}
 use Rattle.cmm_front.specs.FileOf.{IsFileOf}
 use Rattle.cmm_tree.specs.Symbols.{DefinedSymbol}
 use Rattle.cmm_tree.specs.Tree.{FunctionTree, FileTree, functions}
@@ -18,7 +19,6 @@ use Rattle.lin_ir.specs.declared.descr.Descr.{Descr}
 use Rattle.lin_ir.specs.declared.lin.Lin.{Lin}
 use Rattle.mach_ir.specs.Formed.{labels_in, WellFormed}
 use Rattle.mach_ir.specs.declared.mach.Mach.{Mach}
-use Rattle.places_rules.proofs.Lists.{of_all}
 use Rattle.chained_functions.proofs.Placed.{placed_for}
 use Rattle.rv_pieces.specs.Named.{marks_in, places_in}
 use Rattle.rv_pieces.specs.declared.piece.Pieces.{Pieces}
@@ -36,7 +36,7 @@ few_labels : (p : Mach) → WellFormed p → length (labels_in p.code) ≤ p.lab
 few_labels p formed =
     length-le_from_distinct_below (labels_in p.code) p.labels
     (IsDistinct-from_AllPairs Decides-eqb (labels_in p.code) formed.labels_once)
-    (λ l seen. of_all (λ l. l < p.labels) (labels_in p.code) l formed.labels_below (Contains-from_any eqb-true l (labels_in p.code) seen))
+    (λ l seen. All-contains (λ l. l < p.labels) (labels_in p.code) l formed.labels_below (Contains-from_any eqb-true l (labels_in p.code) seen))
 
 module _ (defined : List ℕ → Option DefinedSymbol) (tree : FunctionTree) (m : Lin) (ds : List Descr) (pieces : Pieces) (accepted : IsAccepted defined tree)
     (made : IsMadeOf tree m ds pieces) where

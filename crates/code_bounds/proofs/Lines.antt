@@ -22,7 +22,6 @@ use Rattle.rv_isa.specs.declared.instr.LoadWidth.TheVariants as loads
 use Rattle.rv_isa.specs.declared.instr.StoreWidth.TheVariants as stores
 use Rattle.rv_isa.specs.declared.register.Register.{Register}
 use Rattle.rv_isa.specs.declared.register.Register.TheVariants.{Sp, T1, T2}
-use Rattle.rv_pieces.specs.declared.piece.Piece.{Piece}
 use Rattle.emit_rules.specs.Constants.{constant}
 use Rattle.emit_rules.specs.Instructions.{register_at, load, store}
 use Rattle.emit_rules.specs.Slots.{far_stack, stack_load, stack_store, slot_offset, first, second, register_of, fetched, target, kept, copied, moved}
@@ -31,13 +30,9 @@ use Rattle.pass_rules.specs.Measures.{copy_words}
 use Rattle.emit_rules.specs.Emitted.{parts, part_of, part_before, descriptor, left_after, emitted}
 use Rattle.emit_rules.specs.Entry.{Frame, frame_of, entry}
 use Rattle.emit_rules.specs.Sizes.{most_words, words_at_most}
-use Rattle.emit_rules.proofs.Sizes.{constant-in, entry-in, part_is_short}
+use Rattle.emit_rules.proofs.Sizes.{constant-in, entry-in, part_is_short, words-join}
 use Rattle.emit_rules.proofs.Units.{part_by}
 use Rattle.code_bounds.specs.Lines.{words_with, line_words, lines_words}
-
-words-join : (xs ys : List Piece) → words_at_most (xs ++ ys) ≡ words_at_most xs + words_at_most ys
-words-join [] ys = omega arith
-words-join (x ∷ xs) ys = let e : words_at_most (xs ++ ys) ≡ words_at_most xs + words_at_most ys = words-join xs ys in omega (arith, e)
 
 -- ---- copies
 

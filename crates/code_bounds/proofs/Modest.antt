@@ -1,14 +1,13 @@
 -- What the nodes of a function that the front accepts bound: frame points, and indexes of switches.
-use Rattle.std.proofs.Common.{◌≡◌, ℕ, ◌*◌, ◌≤◌, Bool, true, false, not, ◌&&◌, nat_le, refl, arith}
+use Rattle.std.proofs.Common.{ℕ, ◌*◌, ◌≤◌, true, false, ◌&&◌, nat_le, arith}
 use Rattle.std.proofs.lemmas.Bool.{leb-true, and_parts}
-use Rattle.bs_fault.specs.declared.fault.Fault.{Fault}
 use Rattle.bs_fault.specs.Limits.{most_indexes}
-use Rattle.bs_fault.specs.Reported.{Faultless, here, one_if}
+use Rattle.bs_fault.specs.Reported.{Faultless}
 use Rattle.cmm_limits.specs.Limits.{faults_in, row_faults, binding_faults, case_faults, handler_faults, size_faults}
 use Rattle.cmm_tree.specs.Measures.{total, row_total, bindings_total, cases_total, handlers_total, counts_one}
 use Rattle.cmm_tree.specs.Tree.{Expression, Integer, Pointer, Symbol, Name, Nothing, Float, Let, Assign, Operator, Load, Store, Alloc, App, Extcall, Checkbound, Raise, Seq, If, Switch, Catch, Exit, Try, Expressions, NoMore, More, Bindings, NoBinding, Bind, Cases, NoCase, Choose, Handlers, NoHandler, Handle}
 use Rattle.correctness.specs.Measures.{is_frame_point, indexes_of}
-use Rattle.selection_laws.proofs.Accepting.{left, right}
+use Rattle.selection_laws.proofs.Accepting.{left, right, holds_if}
 
 -- ---- frame points
 
@@ -55,10 +54,6 @@ mutual
   handler_points (Handle at label params body rest) = omega (arith, few_points body, handler_points rest)
 
 -- ---- indexes of switches
-
-holds_if : (b : Bool) (f : Fault) → Faultless (one_if (not b) f) → b ≡ true
-holds_if true f none = refl
-holds_if false f none = absurd (none f here)
 
 size_few : (at size : ℕ) → Faultless (size_faults at size) → size ≤ 4096
 size_few at size none =

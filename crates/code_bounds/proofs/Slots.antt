@@ -1,24 +1,18 @@
 -- A function has as few slots as the text has tokens, and its frame is as small.
-use Rattle.std.proofs.Common.{◌≡◌, ℕ, ◌+◌, ◌*◌, ◌/◌, ◌<◌, ◌≤◌, ⊎_elim, Bool, true, false, cond, List, [], ◌∷◌, length, map, subst, arith}
+use Rattle.std.proofs.Common.{◌≡◌, ℕ, ◌+◌, ◌*◌, ◌/◌, ◌<◌, ◌≤◌, ⊎_elim, Bool, true, false, cond, List, length, map, subst, arith}
 use Rattle.std.specs.Prelude.{Contains, nat_eq}
 use Rattle.std.specs.List.{list_any}
 use Rattle.std.proofs.lemmas.List.{length-map}
 use Rattle.std.proofs.lemmas.Map.Steps.{le-length_from_below}
 use Rattle.std.proofs.lemmas.Map.Views.{list_any-from_Contains}
 use Rattle.std.specs.Cmp.{nat_eq_equiv}
-use Rattle.cmm_types.proofs.Containing.{contains_none, contains_cases, contains_head, contains_tail}
 use Rattle.mach_ir.specs.Walks.{is_param, is_in_code}
 use Rattle.mach_ir.specs.declared.mach.Mach.{Mach}
 use Rattle.places_rules.specs.Places.{IsSlot, SlotsGrow}
 use Rattle.lin_ir.specs.Descriptors.{has_frame_point, frame_bytes}
 use Rattle.lin_ir.specs.declared.lin.Lin.{Lin}
 use Rattle.linear_pass.specs.Linear.{IsSlotOf, OneForEach}
-
-contains_map : (f : ℕ → ℕ) (xs : List ℕ) (k : ℕ) → Contains xs k → Contains (map f xs) (f k)
-contains_map f [] k c = absurd (contains_none k c)
-contains_map f (x ∷ xs) k c =
-    ⊎_elim (λ same. subst (λ k. Contains (f x ∷ map f xs) (f k)) same (contains_head (f x) (map f xs)))
-    (λ later. contains_tail (f x) (map f xs) (f k) (contains_map f xs k later)) (contains_cases x xs k c)
+use Rattle.bs_words.proofs.Lists.{mapped}
 
 is_slot : (p : Mach) (k : ℕ) → IsSlotOf p k → IsSlot p k
 is_slot p k h = record { register = h.0; among = ⊎_elim (λ c. is_param c) (λ c. is_in_code c) h.1; stands = h.2 }
@@ -35,7 +29,7 @@ slots_among q slots numbers among each =
     covered n less =
         let k = each.onto n less in
         list_any-from_Contains nat_eq_equiv n (map each.number numbers)
-        (subst (Contains (map each.number numbers)) k.2 (contains_map each.number numbers k.0 (among k.0 (is_slot q k.0 k.1))))
+        (subst (Contains (map each.number numbers)) k.2 (mapped each.number numbers k.0 (among k.0 (is_slot q k.0 k.1))))
 
 -- So where they grow by so many from none, there are so many.
 pub few_slots : (p q : Mach) (slots most : ℕ) → ((slot : ℕ) → IsSlot p slot → ⊥) → SlotsGrow p q most → OneForEach q slots → slots ≤ most

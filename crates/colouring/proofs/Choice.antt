@@ -4,10 +4,10 @@ use Rattle.std.specs.List.{Contains, filter}
 use Rattle.std.proofs.lemmas.Bool.{eqb-true, eqb-false, eq-eqb, cases_Bool}
 use Rattle.bs_words.specs.declared.types.Loc.{Loc}
 use Rattle.bs_words.specs.declared.types.Loc.TheVariants as loc
+use Rattle.bs_words.proofs.Lists.{none_in, first_in, later_in}
 use Rattle.mach_ir.specs.Placed.{Colouring, colours}
 use Rattle.mach_ir.specs.declared.graph.Node.{Node}
 use Rattle.mach_ir.specs.declared.graph.Graph.{Graph}
-use Rattle.mach_laws.proofs.Walking.{none_in, first_in, later_in}
 use Rattle.colouring.specs.declared.merit.Merit.{Merit}
 use Rattle.colouring.specs.Chosen.{merit, is_in, standing, is_better, is_free, kept, first_best, place_for, chosen}
 use Rattle.colouring.proofs.Found.{none_counted, some_counted, Counted, in_filter, into_filter}

@@ -5,15 +5,15 @@ use Rattle.std.specs.List.{AllPairs, Contains}
 use Rattle.std.proofs.lemmas.Bool.{eq-eqb, ne_eqb, cases_eq}
 use Rattle.bs_words.specs.declared.types.Loc.{Loc}
 use Rattle.bs_words.specs.declared.types.Loc.TheVariants as loc
+use Rattle.bs_words.proofs.Lists.{none_in, first_in, later_in, in_cons, pairs_later}
 use Rattle.mach_ir.specs.Graph.{IsColourable, InGraph, JoinedIn, ColoursGraph, place_in}
 use Rattle.mach_ir.specs.Placed.{Colouring, colours, IsPlaced, in_colour, in_slot, MayShare, placed_by, IsColouring, NoNeedlessSlot}
 use Rattle.mach_ir.specs.declared.reg.Reg.{Reg}
 use Rattle.mach_ir.specs.declared.graph.Node.{Node}
 use Rattle.mach_ir.specs.declared.graph.Graph.{Graph}
 use Rattle.mach_ir.specs.declared.graph.Colours.{Colours}
-use Rattle.mach_laws.proofs.Walking.{none_in, first_in, later_in, in_cons}
 use Rattle.colouring.specs.Chosen.{ComesBefore, IsOrder, IsColouredBy, OthersAreUnset, loc_of, fixed, put, chosen, coloured}
-use Rattle.colouring.proofs.Ordered.{pairs_first, pairs_later, strict_order}
+use Rattle.colouring.proofs.Ordered.{pairs_first, strict_order}
 use Rattle.colouring.proofs.Found.{found_at, one_of_number, node_of, in_graph, missing}
 use Rattle.colouring.proofs.Choice.{InColour, InSlot, choice}
 

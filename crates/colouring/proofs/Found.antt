@@ -5,9 +5,9 @@ use Rattle.std.proofs.lemmas.Bool.{eq-eqb, ne_eqb}
 use Rattle.std.proofs.lemmas.List.Sums.{sum_by-cons}
 use Rattle.mach_ir.specs.declared.reg.Reg.{Reg}
 use Rattle.mach_ir.specs.declared.graph.Node.{Node}
-use Rattle.mach_laws.proofs.Walking.{none_in, first_in, later_in, in_cons}
+use Rattle.bs_words.proofs.Lists.{none_in, first_in, later_in, in_cons, pairs_later}
 use Rattle.colouring.specs.Chosen.{node_at}
-use Rattle.colouring.proofs.Ordered.{pairs_first, pairs_later}
+use Rattle.colouring.proofs.Ordered.{pairs_first}
 
 abbrev pub Rising : List Node → Type 0
 Rising xs = AllPairs (λ (x y : Node). x.reg.number < y.reg.number) xs

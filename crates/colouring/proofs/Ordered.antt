@@ -5,7 +5,7 @@ use Rattle.std.specs.List.{AllPairs, Contains}
 use Rattle.mach_ir.specs.Placed.{Colouring}
 use Rattle.mach_ir.specs.declared.graph.Node.{Node}
 use Rattle.mach_ir.specs.declared.graph.Graph.{Graph}
-use Rattle.mach_laws.proofs.Walking.{none_in, first_in, later_in, in_cons}
+use Rattle.bs_words.proofs.Lists.{none_in, first_in, later_in, in_cons, pairs_later}
 use Rattle.colouring.specs.Chosen.{urgency, ComesBefore, fixed, coloured, OrderIsOne, ColoursAreOne}
 
 -- the first before each later one
@@ -13,9 +13,6 @@ pub pairs_first : {A : Type 0} (R : A → A → Type 0) (x : A) (xs : List A) �
     (y : A) → Contains xs y → R x y
 pairs_first R x xs h y c =
     let le = c.1 in subst (R x) c.2 (h 0 (suc c.0) y (omega arith) (omega (arith, le)))
-
-pub pairs_later : {A : Type 0} (R : A → A → Type 0) (x : A) (xs : List A) → AllPairs R (x ∷ xs) → AllPairs R xs
-pairs_later R x xs h = λ i j d lt le. h (suc i) (suc j) d (omega (arith, lt)) (omega (arith, le))
 
 module _ {A : Type 0} (R : A → A → Type 0) (strict : (x y : A) → R x y → R y x → ⊥) where
   -- what stands after one head stands after the other, which is equal

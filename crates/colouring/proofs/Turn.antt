@@ -7,11 +7,11 @@ use Rattle.std.proofs.lemmas.Bool.{ltb-true, eq-eqb, ne_eqb, cases_eq}
 use Rattle.std.proofs.lemmas.List.Elements.{All-contains}
 use Rattle.bs_words.specs.declared.types.Loc.{Loc}
 use Rattle.bs_words.specs.declared.types.Loc.TheVariants as loc
+use Rattle.bs_words.proofs.Lists.{none_in, first_in, later_in, in_cons}
 use Rattle.mach_ir.specs.Placed.{Colouring, colours}
 use Rattle.mach_ir.specs.declared.graph.Node.{Node}
 use Rattle.mach_ir.specs.declared.graph.Graph.{Graph}
 use Rattle.mach_ir.specs.declared.graph.Colours.{Colours}
-use Rattle.mach_laws.proofs.Walking.{none_in, first_in, later_in, in_cons}
 use Rattle.colouring.specs.declared.merit.Merit.{Merit}
 use Rattle.colouring.specs.declared.tallies.Tallies.{Tallies}
 use Rattle.colouring.specs.Chosen.{merit, standing, wanted_by, is_better, is_free, kept, first_best, place_for, put, fixed, chosen, coloured, IsOrder, IsColouredBy}

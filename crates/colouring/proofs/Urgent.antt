@@ -14,6 +14,7 @@ use Rattle.std.proofs.lemmas.Map.Keys.{ge_from_not_lt}
 use Rattle.std.proofs.Math.ListN.{length-map}
 use Rattle.bs_words.specs.declared.types.Loc.{Loc}
 use Rattle.bs_words.specs.declared.types.Loc.TheVariants as loc
+use Rattle.bs_words.proofs.Lists.{pairs_later}
 use Rattle.mach_ir.specs.declared.graph.Node.{Node}
 use Rattle.mach_ir.specs.declared.graph.Graph.{Graph}
 use Rattle.mach_ir.specs.Placed.{Colouring}
@@ -21,7 +22,7 @@ use Rattle.colouring.specs.Chosen.{fixed, urgency, ComesBefore, IsOrder}
 use Rattle.colouring.specs.Tables.{is_unset, is_open, ranked_nodes, AreRanked, is_more_urgent}
 use Rattle.colouring.specs.declared.order.Ranked.{Ranked}
 use Rattle.colouring.proofs.Found.{Rising, in_filter, into_filter}
-use Rattle.colouring.proofs.Ordered.{pairs_first, pairs_later}
+use Rattle.colouring.proofs.Ordered.{pairs_first}
 
 -- two that pass a test stand to each other as among those that pass
 within_filter : {A : Type 0} (R : A → A → Type 0) (p : A → Bool) (xs : List A) (i j : ℕ) (d : A) → i < j →

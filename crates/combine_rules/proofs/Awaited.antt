@@ -1,9 +1,10 @@
 -- What is known of registers that go to an open allocation.
-use Rattle.std.proofs.Common.{◌≡◌, ℕ, zero, suc, ◌<◌, Bool, true, false, ⊎_elim, List, [], ◌∷◌, ◌++◌, length, Option, Some, None, refl, sym, ap, ◌∙◌, subst, arith}
+use Rattle.std.proofs.Common.{◌≡◌, ℕ, suc, ◌<◌, Bool, true, false, ⊎_elim, List, [], ◌∷◌, ◌++◌, length, Option, Some, None, refl, sym, ap, ◌∙◌, subst, arith}
 use Rattle.std.specs.List.{Contains}
-use Rattle.std.specs.Prelude.{slice_index_or}
 use Rattle.std.proofs.lemmas.List.{length-append}
+use Rattle.std.proofs.lemmas.List.Elements.{All-contains}
 use Rattle.bs_words.specs.declared.types.Comp.{Comp}
+use Rattle.bs_words.proofs.Lists.{first_in, later_in}
 use Rattle.combine_rules.specs.Combined.{joins, bytes_past, open_past, Scanned, allocation, allocated, scanned_at, scan}
 use Rattle.combine_rules.specs.Kept.{holds_block, IsCombinable}
 use Rattle.combine_rules.specs.Neighbours.{Allocates}
@@ -17,20 +18,17 @@ use Rattle.mach_ir.specs.Placed.{is_straight, AreStraight, IsFresh}
 use Rattle.mach_ir.specs.Walks.{Among, first, later, Stands, Writes}
 use Rattle.mach_ir.specs.declared.blocks.NewBlock.{NewBlock}
 use Rattle.mach_ir.specs.declared.op.Access.TheVariants as access
-use Rattle.mach_ir.specs.declared.op.Op.{Op}
 use Rattle.mach_ir.specs.declared.op.Op.TheVariants as op
 use Rattle.mach_ir.specs.declared.reg.Reg.{Reg}
-use Rattle.mach_ir.specs.declared.mach.Mark.{Mark}
 use Rattle.mach_ir.specs.declared.mach.MachOp.{MachOp}
 use Rattle.mach_ir.specs.declared.mach.MachOp.TheVariants as mach
 use Rattle.mach_ir.specs.declared.mach.Instr.{Instr}
 use Rattle.mach_ir.specs.declared.mach.Mach.{Mach}
 use Rattle.mach_laws.specs.Expand.{Ending}
-use Rattle.mach_laws.proofs.Places.{ending_next}
-use Rattle.mach_laws.proofs.Walking.{first_in, later_in}
-use Rattle.places_rules.proofs.Walked.{left_among, split_among, stands_of}
-use Rattle.split_rules.proofs.Formed.{contains_of, of_each}
-use Rattle.split_rules.proofs.Text.{number_among}
+use Rattle.mach_laws.proofs.Places.{ending_next, stands_of, straight_cons}
+use Rattle.mach_laws.proofs.Among.{left_among, split_among, number_among}
+use Rattle.mach_laws.proofs.Instructions.{same_op, no_mark, no_comps, length_comps}
+use Rattle.split_rules.proofs.Formed.{contains_of}
 
 -- ---- allocations that are formed
 
@@ -38,46 +36,22 @@ pub record IsAllocation (i : Instr) (blocks : List NewBlock) : Type 0 where
   pub is : i ≡ allocation blocks i.results
   pub sized : length i.results ≡ length blocks
 
-no_args : (rs : List Reg) → comps rs ≡ [] → rs ≡ []
-no_args [] e = refl
-no_args (r ∷ rs) e = absurd (none r.comp (comps rs) e)
-  where
-    none : (t : Comp) (ts : List Comp) → t ∷ ts ≡ [] → ⊥
-    none t ts e = cc
-
-length_comps : (rs : List Reg) → length (comps rs) ≡ length rs
-length_comps [] = refl
-length_comps (r ∷ rs) = ap suc (length_comps rs)
-
 of_form : (blocks : List NewBlock) (ts ds : List Comp) → HasForm (op.Access (access.Alloc blocks)) ts ds →
     (ts ≡ []) × (length ds ≡ length blocks)
 of_form blocks ts ds (form.allocates n a le e) = (refl, e)
 
-is_op : (f g : Op) → mach.Op f ≡ mach.Op g → f ≡ g
-is_op f g e = cc
-
-no_mark : (f : Mark) (g : Op) → mach.Mark f ≡ mach.Op g → ⊥
-no_mark f g e = cc
-
 pub formed_allocation : {i : Instr} → IsFormed i → (blocks : List NewBlock) → Allocates i blocks → IsAllocation i blocks
 formed_allocation (formed_op {f = f} {args = args} {results = results} h) blocks e =
-    let same : f ≡ op.Access (access.Alloc blocks) = is_op f (op.Access (access.Alloc blocks)) e in
+    let same : f ≡ op.Access (access.Alloc blocks) = same_op f (op.Access (access.Alloc blocks)) e in
     let k = of_form blocks (comps args) (comps results) (subst (λ g. HasForm g (comps args) (comps results)) same h) in
     record {
       is = ap (λ g. record { op = mach.Op g; args = args; results = results }) same
-          ∙ ap (λ rs. record { op = mach.Op (op.Access (access.Alloc blocks)); args = rs; results = results }) (no_args args k.0);
+          ∙ ap (λ rs. record { op = mach.Op (op.Access (access.Alloc blocks)); args = rs; results = results }) (no_comps args k.0);
       sized = sym (length_comps results) ∙ k.1;
     }
 formed_allocation (formed_mark {f = f} h) blocks e = absurd (no_mark f (op.Access (access.Alloc blocks)) e)
 
 -- ---- lists
-
-all_cons : (i : Instr) (is : List Instr) → is_straight i.op ≡ true → AreStraight is → AreStraight (i ∷ is)
-all_cons i is e h = λ k d lt. by k d lt
-  where
-    by : (k : ℕ) (d : Instr) → k < length (i ∷ is) → is_straight (slice_index_or (i ∷ is) k d).op ≡ true
-    by zero d lt = e
-    by (suc k) d lt = h k d (omega (arith, lt))
 
 no_instrs : AreStraight []
 no_instrs = λ k d lt. absurd (omega (arith, lt))
@@ -109,7 +83,7 @@ module _ (m : Mach) (is : IsCombinable m) where
   pub allocation_at : {i : Instr} {next : List Instr} → Ending (i ∷ next) m.code → (blocks : List NewBlock) → Allocates i blocks →
       IsAllocation i blocks
   allocation_at {i} e blocks a =
-      formed_allocation (of_each IsFormed m.code i (is.formed).instrs (contains_of (stands_of e))) blocks a
+      formed_allocation (All-contains IsFormed m.code i (is.formed).instrs (contains_of (stands_of e))) blocks a
 
   -- ---- where a register is awaited
 
@@ -140,7 +114,7 @@ module _ (m : Mach) (is : IsCombinable m) where
         alloc = f.alloc;
         tail = f.tail;
         splits = ap (λ xs. i ∷ xs) f.splits;
-        straight = all_cons i f.run s f.straight;
+        straight = straight_cons i f.run s f.straight;
         fresh = f.fresh;
         home = f.home;
       }
@@ -162,7 +136,7 @@ module _ (m : Mach) (is : IsCombinable m) where
       Among r.number i.args → ⊥
   unread {i = i} {next = next} e s a c =
       let f = fresh_of (ending_next e) a in
-      (f.fresh).unread i f.run (subst (λ xs. Stands i xs m.code) f.splits (stands_of e)) (all_cons i f.run s f.straight) c
+      (f.fresh).unread i f.run (subst (λ xs. Stands i xs m.code) f.splits (stands_of e)) (straight_cons i f.run s f.straight) c
 
   -- ---- what goes to an open allocation
 
@@ -193,7 +167,7 @@ module _ (m : Mach) (is : IsCombinable m) where
           Distinct (allocated b blocks i.results (scan o next)).results
       by_joins false blocks o ih = no_regs
       by_joins true blocks o ih =
-          distinct_append (distinct_of_pairs i.results (of_each (λ (i : Instr). AreDistinct i.results) m.code i (is.formed).distinct (contains_of (stands_of e))))
+          distinct_append (distinct_of_pairs i.results (All-contains (λ (i : Instr). AreDistinct i.results) m.code i (is.formed).distinct (contains_of (stands_of e))))
           ih (λ n x y. apart_from o e y (left_among i.results _ x))
 
       none : {rs : List Reg} → rs ≡ [] → Distinct rs

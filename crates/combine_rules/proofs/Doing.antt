@@ -1,13 +1,13 @@
 -- The result does what the function does: it may have allocated blocks already that the function has not yet.
 use Rattle.std.proofs.Common.{◌≡◌, ℕ, ◌+◌, Bool, true, false, ◌⊎◌, inl, inr, ⊎_elim, List, [], ◌∷◌, ◌++◌, length, Option, Some, None, refl, sym, ap, ◌∙◌, subst, arith}
 use Rattle.std.proofs.lemmas.Bool.{true≢false}
-use Rattle.std.proofs.lemmas.List.{length-append}
+use Rattle.std.proofs.lemmas.List.{length-append, nil_from_length}
 use Rattle.bs_words.specs.declared.values.Value.{Value}
 use Rattle.combine_rules.specs.Combined.{Scanned, allocation, allocated, combined}
 use Rattle.combine_rules.specs.Kept.{IsCombinable}
 use Rattle.combine_rules.specs.Neighbours.{Allocates}
 use Rattle.combine_rules.proofs.Awaited.{IsAllocation, allocation_at, apart_from, not_read, homes, distinct, counted}
-use Rattle.combine_rules.proofs.Files.{put_view, put_of, put_is, Has, Puts, puts_has, puts_append, clear_has, frame_has, frame_loses, Holds, holds_none, starts, starts_append, holds_after, holds_before, holds_same, write_starts, held_has, values_has, length_ahead, allocated as made_blocks}
+use Rattle.combine_rules.proofs.Files.{put_is, Has, Puts, puts_has, puts_append, clear_has, frame_has, frame_loses, Holds, holds_none, starts, starts_append, holds_after, holds_before, holds_same, write_starts, held_has, values_has, length_ahead, allocated as made_blocks}
 use Rattle.combine_rules.proofs.Live.{Runs, View, runs, ends, joined, opened, view, calm_label, calm_handler, label_is, handler_is, tries_here, calm, alloc_writes, alloc_goes, live_before}
 use Rattle.combine_rules.proofs.Places.{open_at, scanned, merged, keeps_marks, is_code, at_start}
 use Rattle.combine_rules.proofs.Scan.{nothing_goes}
@@ -32,14 +32,8 @@ use Rattle.mach_laws.proofs.General.{at}
 use Rattle.mach_laws.proofs.Leads.{Within, goes_in, pushes_in, jumps_in, unwinds_in, asks_in, within}
 use Rattle.mach_laws.proofs.Places.{ending_next, ending_label, ending_from_handler, ending_land as ending_landing}
 use Rattle.mach_laws.proofs.Simulate.{Agrees}
-use Rattle.places_rules.proofs.Walked.{left_among, right_among, split_among}
-
-none_length : {A : Type 0} (xs : List A) → length xs ≡ 0 → xs ≡ []
-none_length [] e = refl
-none_length (x ∷ xs) e = absurd (omega (arith, e))
-
-none_among : {A : Type 0} {n : ℕ} → Among n [] → A
-none_among a = elim a [ ]
+use Rattle.mach_laws.proofs.Among.{none_among, left_among, right_among, split_among}
+use Rattle.mach_laws.proofs.Files.{put_view, of_view}
 
 lacks : (x y : Option Held) → Has x y → y ≡ None → x ≡ None
 lacks None y h e = refl
@@ -75,7 +69,7 @@ module _ (m : Mach) (is : IsCombinable m) where
 
   pub no_blocks : {rest : List Instr} → Ending rest m.code → (at_place rest).results ≡ [] → (at_place rest).blocks ≡ []
   no_blocks {rest} e r =
-      none_length (at_place rest).blocks
+      nil_from_length (at_place rest).blocks
       (sym (counted m is (open_at (length rest) None m.code) rest e) ∙ ap length r)
 
   pub quiet : {a b : File} (rest : List Instr) (x : Around) → Ending rest m.code → (at_place rest).results ≡ [] →
@@ -187,7 +181,7 @@ module _ (m : Mach) (is : IsCombinable m) where
         Puts end i.results vs (clear (killed m i) a) d (clear (killed q i) b)
     put_both i vs a b d e =
         puts_has (clear (killed q i) b)
-        (put_of (put_all end i.results vs (clear (killed m i) a)) (put_view end i.results vs (clear (killed m i) a)) e)
+        (of_view (put_all end i.results vs (clear (killed m i) a)) (put_view end i.results vs (clear (killed m i) a)) e)
 
     acts_quiet : (i : Instr) (next : List Instr) (a b : File) (u w : Around) → general.Seen u w → Ending (i ∷ next) m.code →
         (at_place next).results ≡ [] → ((n : ℕ) → Has (a n) (b n)) → (act : Act) → Within i.op act →
@@ -358,7 +352,7 @@ module _ (m : Mach) (is : IsCombinable m) where
             (homes m is (open_at (length next) None m.code) next (ending_next ending))
             (distinct m is (open_at (length next) None m.code) next (ending_next ending)) in
             let y = puts_has rest.file
-            (put_of (put_all end i.results (starts (length x.memory.blocks) i.results) (past_frame true a))
+            (of_view (put_all end i.results (starts (length x.memory.blocks) i.results) (past_frame true a))
             (put_view end i.results (starts (length x.memory.blocks) i.results) (past_frame true a))
             (ap (λ ks. put_all end i.results (starts (length x.memory.blocks) i.results) (clear ks (past_frame true a))) (sym nothing_killed) ∙ e)) in (
               y.file,
@@ -412,7 +406,7 @@ module _ (m : Mach) (is : IsCombinable m) where
             put_all end i.results (starts (length x.memory.blocks) i.results) (clear (killed m i) (past_frame (passes_frame i.op) a)) ≡ Some d →
             general.Skips c m q f (keeps_marks m.code) (is_code m) Ahead Rel i next [] (ahead blocks x) (ahead (blocks ++ (at_place next).blocks) x) b d
         go d e =
-            let puts = put_of (put_all end i.results (starts (length x.memory.blocks) i.results) (past_frame (passes_frame i.op) a))
+            let puts = of_view (put_all end i.results (starts (length x.memory.blocks) i.results) (past_frame (passes_frame i.op) a))
             (put_view end i.results (starts (length x.memory.blocks) i.results) (past_frame (passes_frame i.op) a))
             (ap (λ ks. put_all end i.results (starts (length x.memory.blocks) i.results) (clear ks (past_frame (passes_frame i.op) a))) (sym nothing_killed) ∙ e) in
             record {

@@ -2,12 +2,15 @@
 use Rattle.std.proofs.Common.{◌≡◌, ℕ, suc, ◌+◌, Bool, true, false, cond, List, [], ◌∷◌, ◌++◌, length, Option, Some, None, refl, sym, ap, ◌∙◌, subst, arith, append_assoc}
 use Rattle.std.specs.Prelude.{nat_eq}
 use Rattle.std.proofs.lemmas.Bool.{true≢false, eq-eqb, eqb-true}
-use Rattle.std.proofs.lemmas.List.{length-append}
+use Rattle.std.proofs.lemmas.List.{length-append, append-nil}
+use Rattle.std.proofs.lemmas.Option.{none-some}
 use Rattle.bs_words.specs.Fits.{fits, type_of_comp}
 use Rattle.bs_words.specs.declared.types.Comp.{Comp}
 use Rattle.bs_words.specs.declared.types.Comp.TheVariants as comp
 use Rattle.bs_words.specs.declared.values.Value.{Value}
 use Rattle.bs_words.specs.declared.values.Value.TheVariants as value
+use Rattle.mach_laws.proofs.Among.{among_number}
+use Rattle.mach_laws.proofs.Files.{PutAll, nil, cons, put_other, put_same}
 use Rattle.combine_rules.specs.Kept.{holds_block}
 use Rattle.mach_ir.specs.Acts.{Around, On, Goes, new_blocks, with_block, fresh_block}
 use Rattle.mach_ir.specs.Keeps.{ahead}
@@ -15,39 +18,12 @@ use Rattle.mach_ir.specs.Meaning.{Held, File, put, put_if, put_all, clear, value
 use Rattle.mach_ir.specs.Walks.{Among, first, later}
 use Rattle.mach_ir.specs.declared.blocks.NewBlock.{NewBlock}
 use Rattle.mach_ir.specs.declared.reg.Reg.{Reg}
-use Rattle.places_rules.proofs.Files.{none_some, some_same, put_here, put_other}
 
 -- ---- writes, one by one
-
-pub data PutAll (end : ℕ) (a : File) : List Reg → List Value → File → Type 0 where
-  nil : PutAll end a [] [] a
-  cons : {r : Reg} {v : Value} {rs : List Reg} {vs : List Value} {d : File} → fits end (type_of_comp r.comp) v ≡ true → PutAll end a rs vs d → PutAll end a (r ∷ rs) (v ∷ vs) (put r v d)
-
-pub data PutView (end : ℕ) (rs : List Reg) (vs : List Value) (a : File) : Option File → Type 0 where
-  is_stuck : PutView end rs vs a None
-  is_put : {d : File} → PutAll end a rs vs d → PutView end rs vs a (Some d)
-
-view_if : {end : ℕ} {rs : List Reg} {vs : List Value} {a : File} {o : Option File} (r : Reg) (v : Value) (b : Bool) → fits end (type_of_comp r.comp) v ≡ b → PutView end rs vs a o → PutView end (r ∷ rs) (v ∷ vs) a (put_if b r v o)
-view_if r v false e x = is_stuck
-view_if r v true e is_stuck = is_stuck
-view_if r v true e (is_put p) = is_put (cons e p)
-
-pub put_view : (end : ℕ) (rs : List Reg) (vs : List Value) (a : File) → PutView end rs vs a (put_all end rs vs a)
-put_view end [] [] a = is_put nil
-put_view end [] (v ∷ vs) a = is_stuck
-put_view end (r ∷ rs) [] a = is_stuck
-put_view end (r ∷ rs) (v ∷ vs) a = view_if r v (fits end (type_of_comp r.comp) v) refl (put_view end rs vs a)
-
-pub put_of : {end : ℕ} {rs : List Reg} {vs : List Value} {a d : File} (o : Option File) → PutView end rs vs a o → o ≡ Some d → PutAll end a rs vs d
-put_of o is_stuck e = absurd (none_some e)
-put_of {end} {rs} {vs} {a} o (is_put p) e = subst (λ x. PutAll end a rs vs x) (some_same e) p
 
 pub put_is : {end : ℕ} {a : File} {rs : List Reg} {vs : List Value} {d : File} → PutAll end a rs vs d → put_all end rs vs a ≡ Some d
 put_is nil = refl
 put_is {end} {a = a} (cons {r = r} {v = v} {rs = rs} {vs = vs} {d = d} e p) = ap (λ o. put_if (fits end (type_of_comp r.comp) v) r v o) (put_is p) ∙ ap (λ b. put_if b r v (Some d)) e
-
-pub put_same : (r : Reg) (v : Value) (f : File) → put r v f r.number ≡ Some (record { comp = r.comp; value = v })
-put_same r v f = put_here r v f r.number refl
 
 -- ---- where one file has all that another has
 
@@ -93,11 +69,11 @@ frame_has false a b n h = h
 frame_has true a b n h = by (a n) refl
   where
     by_addr : (x : Held) → a n ≡ Some x → (t : Bool) → is_addr x.comp ≡ t → Has (cond t None (Some x)) (unless_addr (b n))
-    by_addr x e true t v g = absurd (none_some g)
+    by_addr x e true t v g = absurd (none-some _ g)
     by_addr x e false t v g = ap unless_addr (h x e) ∙ ap (λ z. cond z None (Some x)) t ∙ g
 
     by : (o : Option Held) → a n ≡ o → Has (unless_addr o) (unless_addr (b n))
-    by None e v g = absurd (none_some g)
+    by None e v g = absurd (none-some _ g)
     by (Some x) e v g = by_addr x e (is_addr x.comp) refl v g
 
 -- ---- starts of blocks
@@ -153,9 +129,6 @@ pub record Written (end s : ℕ) (rs : List Reg) (b : File) : Type 0 where
   pub holds : Holds file s rs
   pub free : (n : ℕ) → (Among n rs → ⊥) → file n ≡ b n
 
-among_same : {n m : ℕ} {rs : List Reg} → n ≡ m → Among n rs → Among m rs
-among_same {rs = rs} e i = subst (λ k. Among k rs) e i
-
 pub write_starts : (end s : ℕ) {rs : List Reg} (b : File) → Homes rs → Distinct rs → Written end s rs b
 write_starts end s b no_homes d = record { file = b; puts = nil; holds = holds_none; free = λ n f. refl }
 write_starts end s b (a_home {r = r} {rs = rs} e h) (one_more free d) =
@@ -164,7 +137,7 @@ write_starts end s b (a_home {r = r} {rs = rs} e h) (one_more free d) =
       file = put r (value.Block s 0) y.file;
       puts = cons (home_fits end s r.comp e) y.puts;
       holds = holds_one (put_same r (value.Block s 0) y.file)
-          (holds_same (λ n i. put_other r (value.Block s 0) y.file n (λ z. free (among_same (sym z) i))) y.holds);
+          (holds_same (λ n i. put_other r (value.Block s 0) y.file n (λ z. free (among_number (sym z) i))) y.holds);
       free = λ n f. put_other r (value.Block s 0) y.file n (λ z. f (first z)) ∙ y.free n (λ i. f (later i));
     }
 
@@ -185,7 +158,7 @@ frame_loses false a n v e = e
 frame_loses true a n v e = by (a n) e
   where
     by_addr : (x : Held) (t : Bool) → cond t None (Some x) ≡ Some v → Some x ≡ Some v
-    by_addr x true g = absurd (none_some g)
+    by_addr x true g = absurd (none-some _ g)
     by_addr x false g = g
 
     by : (o : Option Held) → unless_addr o ≡ Some v → o ≡ Some v
@@ -210,10 +183,6 @@ values_has a b (r ∷ rs) h vs e = by (a r.number) (values a rs) refl refl (λ w
 
 -- ---- what an allocation makes
 
-appended_none : {A : Type 0} (xs : List A) → xs ++ [] ≡ xs
-appended_none [] = refl
-appended_none (x ∷ xs) = ap (λ ys. x ∷ ys) (appended_none xs)
-
 pub length_ahead : (bs : List NewBlock) (a : Around) → length (ahead bs a).memory.blocks ≡ length a.memory.blocks + length bs
 length_ahead [] a = omega arith
 length_ahead (b ∷ bs) a =
@@ -223,7 +192,7 @@ length_ahead (b ∷ bs) a =
 
 pub allocated : (bs : List NewBlock) (rs : List Reg) (so_far : List Value) (a : Around) → length rs ≡ length bs →
     new_blocks bs so_far a ≡ Goes (so_far ++ starts (length a.memory.blocks) rs) On (ahead bs a)
-allocated [] [] so_far a e = ap (λ vs. Goes vs On a) (sym (appended_none so_far))
+allocated [] [] so_far a e = ap (λ vs. Goes vs On a) (sym (append-nil so_far))
 allocated [] (r ∷ rs) so_far a e = absurd (omega (arith, e))
 allocated (b ∷ bs) [] so_far a e = absurd (omega (arith, e))
 allocated (b ∷ bs) (r ∷ rs) so_far a e =

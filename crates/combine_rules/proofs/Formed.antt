@@ -4,7 +4,7 @@ use Rattle.std.specs.List.{All, AllPairs, Contains}
 use Rattle.std.specs.Prelude.{slice_index_or}
 use Rattle.std.proofs.lemmas.Bool.{true≢false}
 use Rattle.std.proofs.lemmas.List.{length-append}
-use Rattle.std.proofs.lemmas.List.Elements.{Contains-get_or}
+use Rattle.std.proofs.lemmas.List.Elements.{Contains-get_or, All-contains, All-append}
 use Rattle.bs_words.specs.declared.types.Comp.{Comp}
 use Rattle.combine_rules.specs.Combined.{joins, bytes_past, open_past, Scanned, allocation, allocated, scanned_at, scan, combined}
 use Rattle.combine_rules.specs.Kept.{IsCombinable}
@@ -38,10 +38,10 @@ use Rattle.mach_ir.specs.declared.mach.MachOp.TheVariants as mach
 use Rattle.mach_ir.specs.declared.mach.Instr.{Instr}
 use Rattle.mach_ir.specs.declared.mach.Mach.{Mach}
 use Rattle.mach_laws.specs.Expand.{Ending}
-use Rattle.mach_laws.proofs.Places.{ending_next, tries_expand}
-use Rattle.places_rules.proofs.Walked.{ending_of}
-use Rattle.places_rules.proofs.Walked.{left_among, stands_of}
-use Rattle.split_rules.proofs.Formed.{contains_of, stands_in, of_each}
+use Rattle.mach_laws.proofs.Places.{ending_next, tries_expand, stands_of, ending_of}
+use Rattle.mach_laws.proofs.Among.{left_among}
+use Rattle.mach_laws.proofs.Instructions.{same_op, no_mark, length_comps}
+use Rattle.split_rules.proofs.Formed.{contains_of, stands_in}
 
 -- ---- labels, places, tries and marks
 
@@ -169,15 +169,6 @@ handler_there {l} held code h =
 
 -- ---- lists
 
-all_append : {A : Type 0} (P : A → Type 0) (xs ys : List A) → All P xs → All P ys → All P (xs ++ ys)
-all_append P [] ys h g = g
-all_append {A = A} P (x ∷ xs) ys h g =
-    λ k d lt. by (all_append P xs ys (λ j e le. h (suc j) e (omega (arith, le))) g) k d lt
-  where
-    by : All P (xs ++ ys) → (k : ℕ) (d : A) → k < length (x ∷ (xs ++ ys)) → P (slice_index_or (x ∷ (xs ++ ys)) k d)
-    by ih zero d lt = h 0 d (omega arith)
-    by ih (suc k) d lt = ih k d (omega (arith, lt))
-
 among_at : (rs : List Reg) (k : ℕ) (d : Reg) → k < length rs → Among (slice_index_or rs k d).number rs
 among_at [] k d lt = absurd (omega (arith, lt))
 among_at (r ∷ rs) zero d lt = first refl
@@ -196,14 +187,6 @@ pairs_of_distinct (one_more {r = r} {rs = rs} free h) = λ i j d lt within. by (
     by ih zero (suc j) d lt within = λ e. free (moved 0 (slice_index_or rs j d).number e (among_at rs j d (omega (arith, within))))
     by ih (suc i) (suc j) d lt within = ih i j d (omega (arith, lt)) (omega (arith, within))
 
-appended_none : {A : Type 0} (xs : List A) → xs ++ [] ≡ xs
-appended_none [] = refl
-appended_none (x ∷ xs) = ap (λ ys. x ∷ ys) (appended_none xs)
-
-comps_length : (rs : List Reg) → length (comps rs) ≡ length rs
-comps_length [] = refl
-comps_length (r ∷ rs) = ap suc (comps_length rs)
-
 -- ---- allocations
 
 -- what an allocation that is formed has
@@ -216,18 +199,12 @@ record Sound (blocks : List NewBlock) (count : ℕ) : Type 0 where
 sound_form : (blocks : List NewBlock) (ts ds : List Comp) → HasForm (op.Access (access.Alloc blocks)) ts ds → Sound blocks (length ds)
 sound_form blocks ts ds (form.allocates n a le e) = record { some = n; each = a; few = le; sized = e }
 
-op_is : (f g : Op) → mach.Op f ≡ mach.Op g → f ≡ g
-op_is f g e = cc
-
-mark_is : (f : Mark) (g : Op) → mach.Mark f ≡ mach.Op g → ⊥
-mark_is f g e = cc
-
 sound : {i : Instr} → IsFormed i → (blocks : List NewBlock) → Allocates i blocks → Sound blocks (length i.results)
 sound (formed_op {f = f} {args = args} {results = results} h) blocks e =
-    subst (Sound blocks) (comps_length results)
+    subst (Sound blocks) (length_comps results)
     (sound_form blocks (comps args) (comps results)
-    (subst (λ g. HasForm g (comps args) (comps results)) (op_is f (op.Access (access.Alloc blocks)) e) h))
-sound (formed_mark {f = f} h) blocks e = absurd (mark_is f (op.Access (access.Alloc blocks)) e)
+    (subst (λ g. HasForm g (comps args) (comps results)) (same_op f (op.Access (access.Alloc blocks)) e) h))
+sound (formed_mark {f = f} h) blocks e = absurd (no_mark f (op.Access (access.Alloc blocks)) e)
 
 not_empty : (xs ys : List NewBlock) → xs ≢ [] → xs ++ ys ≢ []
 not_empty [] ys n = λ e. n refl
@@ -245,7 +222,7 @@ module _ (m : Mach) (is : IsCombinable m) where
 
   sound_at : {i : Instr} {next : List Instr} → Ending (i ∷ next) m.code → (blocks : List NewBlock) → Allocates i blocks →
       Sound blocks (length i.results)
-  sound_at {i} e blocks a = sound (of_each IsFormed m.code i formed.instrs (contains_of (stands_of e))) blocks a
+  sound_at {i} e blocks a = sound (All-contains IsFormed m.code i formed.instrs (contains_of (stands_of e))) blocks a
 
   blocks_scan : (held : Option ℕ) (rest : List Instr) → Ending rest m.code → All IsBlock (scan held rest).blocks
   blocks_scan held [] e = λ k d lt. absurd (omega (arith, lt))
@@ -256,7 +233,7 @@ module _ (m : Mach) (is : IsCombinable m) where
 
       by_joins : (blocks : List NewBlock) → Allocates i blocks → (s : Scanned) → All IsBlock s.blocks → (b : Bool) →
           All IsBlock (allocated b blocks i.results s).blocks
-      by_joins blocks a s h true = all_append IsBlock blocks s.blocks (sound_at e blocks a).each h
+      by_joins blocks a s h true = All-append IsBlock blocks s.blocks (sound_at e blocks a).each h
       by_joins blocks a s h false = nothing
 
       by : (f : MachOp) → i.op ≡ f → ((o : Option ℕ) → All IsBlock (scan o next).blocks) →
@@ -275,7 +252,7 @@ module _ (m : Mach) (is : IsCombinable m) where
   opened_formed i next blocks s a =
       formed_op
       (form.allocates (not_empty blocks (scan (Some (bytes_of blocks)) next).blocks (sound_at e blocks a).some)
-      (all_append IsBlock blocks (scan (Some (bytes_of blocks)) next).blocks (sound_at e blocks a).each (blocks_scan (Some (bytes_of blocks)) next (ending_next e)))
+      (All-append IsBlock blocks (scan (Some (bytes_of blocks)) next).blocks (sound_at e blocks a).each (blocks_scan (Some (bytes_of blocks)) next (ending_next e)))
       (fits (what_goes (bytes_of blocks) next)) counts)
     where
       e : Ending (i ∷ next) m.code
@@ -293,7 +270,7 @@ module _ (m : Mach) (is : IsCombinable m) where
 
       counts : length (comps (i.results ++ (scan (Some (bytes_of blocks)) next).results)) ≡ length (blocks ++ (scan (Some (bytes_of blocks)) next).blocks)
       counts =
-          let a0 = comps_length (i.results ++ (scan (Some (bytes_of blocks)) next).results) in
+          let a0 = length_comps (i.results ++ (scan (Some (bytes_of blocks)) next).results) in
           let a1 = length-append i.results (scan (Some (bytes_of blocks)) next).results in
           let a2 = length-append blocks (scan (Some (bytes_of blocks)) next).blocks in
           let a3 = (sound_at (ending_of s) blocks a).sized in
@@ -306,7 +283,7 @@ module _ (m : Mach) (is : IsCombinable m) where
       let e = ending_of s in
       pairs_of_distinct
       (distinct_append
-      (distinct_of_pairs i.results (of_each (λ (i : Instr). AreDistinct i.results) m.code i formed.distinct (contains_of s)))
+      (distinct_of_pairs i.results (All-contains (λ (i : Instr). AreDistinct i.results) m.code i formed.distinct (contains_of s)))
       (distinct m is (Some (bytes_of blocks)) next (ending_next e))
       (λ n x y. apart_from m is (Some (bytes_of blocks)) e y (left_among i.results _ x)))
 
@@ -324,12 +301,12 @@ module _ (m : Mach) (is : IsCombinable m) where
       by j ys (opens i {next = next} blocks s a same t) = subst P (sym same) (allocs i next blocks s a)
 
   pub instrs : All IsFormed q.code
-  instrs = each_in IsFormed (λ i c. of_each IsFormed m.code i formed.instrs c) opened_formed
+  instrs = each_in IsFormed (λ i c. All-contains IsFormed m.code i formed.instrs c) opened_formed
 
   pub results_distinct : All (λ (i : Instr). AreDistinct i.results) q.code
   results_distinct =
       each_in (λ (i : Instr). AreDistinct i.results)
-      (λ i c. of_each (λ (i : Instr). AreDistinct i.results) m.code i formed.distinct c) opened_distinct
+      (λ i c. All-contains (λ (i : Instr). AreDistinct i.results) m.code i formed.distinct c) opened_distinct
 
   -- ---- where an instruction that is no allocation stood
 
@@ -353,7 +330,7 @@ module _ (m : Mach) (is : IsCombinable m) where
   tries_from {j} w = ap (tries_past j.op) (tries_after w)
 
   mark_apart : (j : Instr) (k : Mark) → j.op ≡ mach.Mark k → (blocks : List NewBlock) → Allocates j blocks → ⊥
-  mark_apart j k e blocks a = mark_is k (op.Access (access.Alloc blocks)) (sym e ∙ a)
+  mark_apart j k e blocks a = no_mark k (op.Access (access.Alloc blocks)) (sym e ∙ a)
 
   leads_apart : (j : Instr) (l : ℕ) → LeadsTo j.op l → (blocks : List NewBlock) → Allocates j blocks → ⊥
   leads_apart j l o blocks a = by (subst (λ f. LeadsTo f l) a o)

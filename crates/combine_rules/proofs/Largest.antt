@@ -3,6 +3,7 @@ use Rattle.std.proofs.Common.{◌≡◌, ℕ, ◌+◌, ◌≤◌, Bool, true, fa
 use Rattle.std.specs.Prelude.{nat_le}
 use Rattle.std.specs.List.{Contains}
 use Rattle.std.proofs.lemmas.Bool.{leb-true}
+use Rattle.std.proofs.lemmas.List.{append-nil}
 use Rattle.combine_rules.specs.Combined.{joins, open_past, allocated, scanned_at, scan, combined}
 use Rattle.combine_rules.specs.Neighbours.{Allocates}
 use Rattle.combine_rules.proofs.Scan.{bytes_append, nothing_goes}
@@ -17,10 +18,6 @@ use Rattle.mach_ir.specs.declared.mach.MachOp.TheVariants as mach
 use Rattle.mach_ir.specs.declared.mach.Instr.{Instr}
 use Rattle.mach_ir.specs.declared.mach.Mach.{Mach}
 use Rattle.split_rules.proofs.Formed.{contains_of, stands_in}
-
-appended_none : {A : Type 0} (xs : List A) → xs ++ [] ≡ xs
-appended_none [] = refl
-appended_none (x ∷ xs) = ap (λ ys. x ∷ ys) (appended_none xs)
 
 -- nothing goes to the open allocation, or all of it fits
 abbrev pub Fits : ℕ → List NewBlock → Type 0
@@ -68,7 +65,7 @@ largest m j blocks c e =
     of_size own more i d a same f =
         ⊎_elim
         (λ none.
-        inr (i, d, subst (Allocates i) (sym (appended_none own) ∙ ap (λ bs. own ++ bs) (sym none) ∙ same) a))
+        inr (i, d, subst (Allocates i) (sym (append-nil own) ∙ ap (λ bs. own ++ bs) (sym none) ∙ same) a))
         (λ fits.
         let g = bytes_append own more in
         let h = ap bytes_of same in

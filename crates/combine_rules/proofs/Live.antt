@@ -13,6 +13,7 @@ use Rattle.mach_ir.specs.declared.op.Access.TheVariants as access
 use Rattle.mach_ir.specs.declared.op.Op.TheVariants as op
 use Rattle.mach_ir.specs.declared.op.Pure.{Pure}
 use Rattle.bs_words.specs.declared.types.Chunk.{Chunk}
+use Rattle.bs_words.proofs.Lists.{head_same, tail_same}
 use Rattle.mach_ir.specs.declared.reg.Reg.{Reg}
 use Rattle.mach_ir.specs.declared.mach.MachOp.{MachOp}
 use Rattle.mach_ir.specs.declared.mach.MachOp.TheVariants as mach
@@ -20,15 +21,9 @@ use Rattle.mach_ir.specs.declared.mach.Instr.{Instr}
 use Rattle.mach_ir.specs.declared.mach.Mach.{Mach}
 use Rattle.mach_laws.specs.Expand.{expand, Ending, all}
 use Rattle.mach_laws.proofs.Places.{ending_next, ending_label, ending_from_handler, label_expand, handler_expand, tries_expand}
-use Rattle.places_rules.proofs.Lists.{head_same, tail_same}
-use Rattle.places_rules.proofs.Walked.{left_among, right_among, split_among}
+use Rattle.mach_laws.proofs.Among.{none_among, left_among, right_among, split_among}
+use Rattle.mach_laws.proofs.Instructions.{instr}
 use Rattle.places_rules.proofs.Files.{among_or_not}
-
-none_among : {A : Type 0} {n : ℕ} → Among n [] → A
-none_among a = elim a [ ]
-
-abbrev made : MachOp → List Reg → List Reg → Instr
-made f args results = record { op = f; args = args; results = results }
 
 -- what may stand within a straight run, and is no allocation
 pub record Runs (i : Instr) : Type 0 where
@@ -75,7 +70,7 @@ viewed : (held : Option ℕ) (i : Instr) (next : List Instr) → Viewed held i i
 viewed held i next = by i.op i.args i.results
   where
     by_joins : (blocks : List NewBlock) (args results : List Reg) (b : Bool) (after : Scanned) →
-        View (made (mach.Op (op.Access (access.Alloc blocks))) args results) after (allocated b blocks results after)
+        View (instr (mach.Op (op.Access (access.Alloc blocks))) args results) after (allocated b blocks results after)
         (cond b [] (allocation (blocks ++ after.blocks) (results ++ after.results) ∷ []))
     by_joins blocks args results true after = joined blocks refl
     by_joins blocks args results false after = opened blocks refl
@@ -96,7 +91,7 @@ viewed held i next = by i.op i.args i.results
         mach.Op (op.Access (access.Store k offset)) ≡ mach.Op (op.Access (access.Alloc blocks)) → ⊥
     no_store k offset blocks e = cc
 
-    by : (f : MachOp) (args results : List Reg) → Viewed held (made f args results) f next
+    by : (f : MachOp) (args results : List Reg) → Viewed held (instr f args results) f next
     by (mach.Op (op.Pure f)) args results = runs (plain refl (λ l. refl) (λ l. refl) (λ m. refl) refl (no_pure f))
     by (mach.Op (op.Access (access.Load k offset))) args results =
         runs (plain refl (λ l. refl) (λ l. refl) (λ m. refl) refl (no_load k offset))
@@ -197,7 +192,7 @@ module _ (m : Mach) where
   pub alloc_writes : {n : ℕ} (i : Instr) (blocks : List NewBlock) → i.op ≡ mach.Op (op.Access (access.Alloc blocks)) →
       Writes m i n → Among n i.results
   alloc_writes {n} i blocks e w =
-      ⊎_elim (λ a. a) (λ a. none_among (subst (λ f. Among n (killed m (made f i.args i.results))) e a))
+      ⊎_elim (λ a. a) (λ a. none_among (subst (λ f. Among n (killed m (instr f i.args i.results))) e a))
       (split_among n i.results (killed m i) w)
 
   pub alloc_goes : (i : Instr) (blocks : List NewBlock) → i.op ≡ mach.Op (op.Access (access.Alloc blocks)) → OneOf On (targets i.op)

@@ -1,7 +1,8 @@
 -- Neighbouring allocations of the result do not fit one reservation together.
-use Rattle.std.proofs.Common.{◌≡◌, ℕ, suc, ◌+◌, ◌<◌, Bool, true, false, cond, List, [], ◌∷◌, ◌++◌, Option, Some, None, refl, sym, ap, ◌∙◌, subst, arith, append_assoc}
+use Rattle.std.proofs.Common.{◌≡◌, ℕ, ◌+◌, ◌<◌, Bool, true, false, cond, List, [], ◌∷◌, ◌++◌, Option, Some, None, refl, sym, ap, ◌∙◌, subst, arith, append_assoc}
 use Rattle.std.specs.List.{All}
 use Rattle.std.proofs.lemmas.Bool.{true≢false, leb-false}
+use Rattle.std.proofs.lemmas.List.Elements.{All-head, All-tail}
 use Rattle.combine_rules.specs.Combined.{joins, bytes_past, open_past, Scanned, allocated, scanned_at, scan, combined}
 use Rattle.combine_rules.specs.Neighbours.{is_allocation, Allocates, AreNeighbours}
 use Rattle.combine_rules.proofs.Scan.{bytes_append}
@@ -15,12 +16,6 @@ use Rattle.mach_ir.specs.declared.mach.MachOp.{MachOp}
 use Rattle.mach_ir.specs.declared.mach.MachOp.TheVariants as mach
 use Rattle.mach_ir.specs.declared.mach.Instr.{Instr}
 use Rattle.mach_ir.specs.declared.mach.Mach.{Mach}
-
-all_head : (P : Instr → Type 0) (i : Instr) (is : List Instr) → All P (i ∷ is) → P i
-all_head P i is h = h 0 i (omega arith)
-
-all_tail : (P : Instr → Type 0) (i : Instr) (is : List Instr) → All P (i ∷ is) → All P is
-all_tail P i is h = λ k d lt. h (suc k) d (omega (arith, lt))
 
 -- an allocation of so many bytes does not fit what is open
 abbrev Passes : Option ℕ → ℕ → Type 0
@@ -115,11 +110,11 @@ to_next bytes [] two after others straight none e (run_ends s h) = absurd (strai
 to_next bytes [] two after others straight none e (allocates blocks g p h) =
     subst (λ bs. reservation_most < bytes + bytes_of bs) (same_blocks blocks others two g e) p
 to_next bytes (i ∷ between) two after others straight none e (goes_on s g h) =
-    to_next bytes between two after others (all_tail (λ (i : Instr). is_straight i.op ≡ true) i (between ++ two ∷ []) straight) (all_tail (λ (i : Instr). is_allocation i.op ≡ false) i between none) e h
+    to_next bytes between two after others (All-tail (λ (i : Instr). is_straight i.op ≡ true) i (between ++ two ∷ []) straight) (All-tail (λ (i : Instr). is_allocation i.op ≡ false) i between none) e h
 to_next bytes (i ∷ between) two after others straight none e (run_ends s h) =
-    absurd (true≢false (sym (all_head (λ (i : Instr). is_straight i.op ≡ true) i (between ++ two ∷ []) straight) ∙ s))
+    absurd (true≢false (sym (All-head (λ (i : Instr). is_straight i.op ≡ true) i (between ++ two ∷ []) straight) ∙ s))
 to_next bytes (i ∷ between) two after others straight none e (allocates blocks g p h) =
-    absurd (true≢false (sym (ap is_allocation g) ∙ all_head (λ (i : Instr). is_allocation i.op ≡ false) i between none))
+    absurd (true≢false (sym (ap is_allocation g) ∙ All-head (λ (i : Instr). is_allocation i.op ≡ false) i between none))
 
 at_one : {o : Option ℕ} (one : Instr) (between : List Instr) (two : Instr) (after : List Instr) (blocks others : List NewBlock) →
     AreStraight (one ∷ between ++ two ∷ []) → All (λ (i : Instr). is_allocation i.op ≡ false) between →
@@ -128,7 +123,7 @@ at_one : {o : Option ℕ} (one : Instr) (between : List Instr) (two : Instr) (af
 at_one one between two after blocks others straight none e g (goes_on s t h) = absurd (true≢false (sym (ap is_allocation e) ∙ t))
 at_one one between two after blocks others straight none e g (run_ends s h) = absurd (straight_allocation one.op s blocks e)
 at_one one between two after blocks others straight none e g (allocates bs t p h) =
-    to_next (bytes_of blocks) between two after others (all_tail (λ (i : Instr). is_straight i.op ≡ true) one (between ++ two ∷ []) straight) none g
+    to_next (bytes_of blocks) between two after others (All-tail (λ (i : Instr). is_straight i.op ≡ true) one (between ++ two ∷ []) straight) none g
     (subst (λ bs. Spaced (Some (bytes_of bs)) (between ++ (two ∷ after))) (same_blocks bs blocks one t e) h)
 
 pub neighbours : (m : Mach) (blocks others : List NewBlock) → AreNeighbours (combined m) blocks others →

@@ -15,16 +15,12 @@ use Rattle.mach_ir.specs.declared.reg.Reg.{Reg}
 use Rattle.mach_ir.specs.declared.mach.Instr.{Instr}
 use Rattle.mach_ir.specs.declared.mach.Mach.{Mach}
 use Rattle.mach_laws.specs.Expand.{expand, Ending, all, more}
-use Rattle.mach_laws.proofs.Places.{ending_next, ending_label}
-use Rattle.places_rules.proofs.Walked.{split_among, stands_of}
-use Rattle.split_rules.proofs.Text.{number_among}
+use Rattle.mach_laws.proofs.Places.{ending_next, ending_label, stands_of}
+use Rattle.mach_laws.proofs.Among.{none_among, split_among, number_among}
 
 in_ending : {r : Reg} {rest code : List Instr} → Ending rest code → InCode r rest → InCode r code
 in_ending all o = o
 in_ending (more e) o = further (in_ending e o)
-
-nothing_among : {n : ℕ} → Among n [] → ⊥
-nothing_among a = elim a [ ]
 
 module _ (m : Mach) (is : IsCombinable m) where
   abbrev q : Mach
@@ -97,7 +93,7 @@ module _ (m : Mach) (is : IsCombinable m) where
 
         none : Among k.number ((i.results ++ rest_results) ++ []) → ⊥
         none a =
-            ⊎_elim (λ b. ⊎_elim own others (split_among k.number i.results rest_results b)) nothing_among
+            ⊎_elim (λ b. ⊎_elim own others (split_among k.number i.results rest_results b)) none_among
             (split_among k.number (i.results ++ rest_results) [] a)
 
   -- ---- the graph

@@ -1,6 +1,6 @@
 -- The code that a scan makes, as the code in which each instruction has been replaced: by itself, by an allocation with what
 -- goes to it, or by nothing.
-use Rattle.std.proofs.Common.{◌≡◌, ℕ, suc, ◌-◌, ◌<◌, ◌≤◌, Bool, true, false, cond, ⊎_elim, List, [], ◌∷◌, ◌++◌, length, drop, Option, None, refl, sym, ap, ◌∙◌, arith}
+use Rattle.std.proofs.Common.{◌≡◌, ℕ, suc, ◌-◌, ◌<◌, Bool, true, false, cond, ⊎_elim, List, [], ◌∷◌, ◌++◌, length, drop, Option, None, refl, sym, ap, ◌∙◌, arith}
 use Rattle.std.specs.Prelude.{nat_eq}
 use Rattle.std.proofs.lemmas.Bool.{true≢false, cases_Bool, eq-eqb, eqb-true}
 use Rattle.combine_rules.specs.Combined.{joins, open_past, Scanned, allocation, allocated, scanned_at, scan, combined}
@@ -14,7 +14,7 @@ use Rattle.mach_ir.specs.declared.mach.MachOp.TheVariants as mach
 use Rattle.mach_ir.specs.declared.mach.Instr.{Instr}
 use Rattle.mach_ir.specs.declared.mach.Mach.{Mach}
 use Rattle.mach_laws.specs.Expand.{expand, NoLabel, no_label, not_labelled, NoHandler, no_handler, not_handled, bounds_try, NoBound, no_bound, not_bound, KeepsMarks, Ending, all, more}
-use Rattle.mach_laws.proofs.Places.{ending_next}
+use Rattle.mach_laws.proofs.Places.{ending_next, ending_short}
 use Rattle.mach_laws.proofs.Walking.{drop_ending}
 
 -- what is open at the place from which so many instructions are left
@@ -28,11 +28,7 @@ piece o i (mach.Op (op.Access (access.Alloc blocks))) after =
     cond (joins o blocks) [] (allocation (blocks ++ after.blocks) (i.results ++ after.results) ∷ [])
 piece o i _ after = i ∷ []
 
-length_ending : {rest code : List Instr} → Ending rest code → length rest ≤ length code
-length_ending all = omega arith
-length_ending (more e) = let le = length_ending e in omega (arith, le)
-
-eq_less : (a b : ℕ) → a < b → nat_eq a b ≡ false
+pub eq_less : (a b : ℕ) → a < b → nat_eq a b ≡ false
 eq_less a b lt =
     ⊎_elim (λ e. let same = eqb-true a b e in absurd (omega (arith, same, lt))) (λ e. e) (cases_Bool (nat_eq a b))
 
@@ -53,7 +49,7 @@ past_at {i} {next} all o =
     later_at (length next) o i next (omega arith) ∙ here_at (open_past o i.op) next
     ∙ ap (λ x. open_past x i.op) (sym (here_at o (i ∷ next)))
 past_at {i} {next} (more {i = j} {code = code} e) o =
-    let le = length_ending e in
+    let le = ending_short e in
     later_at (length next) o j code (omega (arith, le)) ∙ past_at e (open_past o j.op)
     ∙ ap (λ x. open_past x i.op) (sym (later_at (suc (length next)) o j code (omega (arith, le))))
 

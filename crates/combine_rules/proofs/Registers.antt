@@ -1,6 +1,8 @@
 -- Instructions and registers of the result, by those of the function.
-use Rattle.std.proofs.Common.{◌≡◌, ℕ, ◌+◌, Bool, true, false, cond, ◌⊎◌, inl, inr, ⊎_elim, List, [], ◌∷◌, ◌++◌, Option, Some, None, refl, sym, ap, ◌∙◌, subst}
+use Rattle.std.proofs.Common.{◌≡◌, ℕ, ◌+◌, Bool, true, false, cond, ◌⊎◌, ⊎_elim, List, [], ◌∷◌, ◌++◌, Option, Some, None, refl, sym, ap, ◌∙◌, subst}
 use Rattle.std.specs.List.{Contains}
+use Rattle.std.proofs.lemmas.List.Elements.{Contains-append_cases}
+use Rattle.bs_words.proofs.Lists.{none_in}
 use Rattle.combine_rules.specs.Combined.{joins, bytes_past, open_past, Scanned, allocation, allocated, scanned_at, scan}
 use Rattle.combine_rules.proofs.Scan.{nothing_goes}
 use Rattle.mach_ir.specs.Blocks.{bytes_of}
@@ -13,25 +15,6 @@ use Rattle.mach_ir.specs.declared.reg.Reg.{Reg}
 use Rattle.mach_ir.specs.declared.mach.MachOp.{MachOp}
 use Rattle.mach_ir.specs.declared.mach.MachOp.TheVariants as mach
 use Rattle.mach_ir.specs.declared.mach.Instr.{Instr}
-use Rattle.mach_laws.proofs.Walking.{none_in, first_in, later_in, in_cons}
-
--- ---- members
-
-pub contains_left : {A : Type 0} (xs ys : List A) (y : A) → Contains xs y → Contains (xs ++ ys) y
-contains_left [] ys y c = absurd (none_in y c)
-contains_left (x ∷ xs) ys y c =
-    ⊎_elim (λ e. subst (Contains (x ∷ (xs ++ ys))) e (first_in x (xs ++ ys)))
-    (λ d. later_in x y (xs ++ ys) (contains_left xs ys y d)) (in_cons x y xs c)
-
-pub contains_right : {A : Type 0} (xs ys : List A) (y : A) → Contains ys y → Contains (xs ++ ys) y
-contains_right [] ys y c = c
-contains_right (x ∷ xs) ys y c = later_in x y (xs ++ ys) (contains_right xs ys y c)
-
-pub contains_either : {A : Type 0} (xs ys : List A) (y : A) → Contains (xs ++ ys) y → Contains xs y ⊎ Contains ys y
-contains_either [] ys y c = inr c
-contains_either (x ∷ xs) ys y c =
-    ⊎_elim (λ e. inl (subst (Contains (x ∷ xs)) e (first_in x xs)))
-    (λ d. ⊎_elim (λ z. inl (later_in x y xs z)) inr (contains_either xs ys y d)) (in_cons x y (xs ++ ys) c)
 
 -- ---- what goes to the open allocation
 
@@ -53,7 +36,7 @@ awaited held (i ∷ is) r c = by i.op refl (λ o. awaited o is r) c
     by_joins blocks e false after ih d = absurd (none_in r d)
     by_joins blocks e true after ih d =
         ⊎_elim (λ z. awaits_here blocks e z) (λ z. awaits_on (ap is_straight e) (ih z))
-        (contains_either i.results after.results r d)
+        (Contains-append_cases i.results after.results r d)
 
     by : (f : MachOp) → i.op ≡ f → ((o : Option ℕ) → Contains (scan o is).results r → Awaits r is) →
         Contains (scanned_at held i f (scan (open_past held f) is)).results r → Awaits r (i ∷ is)

@@ -2,8 +2,10 @@
 use Rattle.std.proofs.Common.{ℕ, ◌+◌, ◌≤◌, Bool, true, false, ◌⊎◌, inl, inr, ⊎_elim, List, [], ◌∷◌, length, Option, Some, None, subst, arith}
 use Rattle.std.specs.List.{Contains}
 use Rattle.std.proofs.lemmas.List.{length-append}
+use Rattle.std.proofs.lemmas.List.Elements.{Contains-append_cases}
+use Rattle.bs_words.proofs.Lists.{none_in}
 use Rattle.combine_rules.specs.Combined.{joins, bytes_past, open_past, Scanned, allocated, scanned_at, scan, combined}
-use Rattle.combine_rules.proofs.Registers.{Came, stays, opens, came, contains_either, awaited, awaits_in}
+use Rattle.combine_rules.proofs.Registers.{Came, stays, opens, came, awaited, awaits_in}
 use Rattle.mach_ir.specs.Sizes.{operand_count, Size, HasSize, OpenAtMost}
 use Rattle.mach_ir.specs.Walks.{Stands, here, below, InCode, in_args, in_results, further, IsRegister, is_param, is_colour, is_in_code}
 use Rattle.mach_ir.specs.declared.blocks.NewBlock.{NewBlock}
@@ -14,7 +16,6 @@ use Rattle.mach_ir.specs.declared.mach.MachOp.{MachOp}
 use Rattle.mach_ir.specs.declared.mach.MachOp.TheVariants as mach
 use Rattle.mach_ir.specs.declared.mach.Instr.{Instr}
 use Rattle.mach_ir.specs.declared.mach.Mach.{Mach}
-use Rattle.mach_laws.proofs.Walking.{none_in}
 
 -- ---- registers
 
@@ -46,7 +47,7 @@ code_before {r} held code o =
         (λ z.
         ⊎_elim (λ y. in_code s (in_results y))
         (λ y. in_code s (further (awaits_in (awaited (Some (bytes_past None blocks)) next r y))))
-        (contains_either i.results (scan (Some (bytes_past None blocks)) next).results r
+        (Contains-append_cases i.results (scan (Some (bytes_past None blocks)) next).results r
         (subst (λ (k : Instr). Contains k.results r) same z)))
         c
 

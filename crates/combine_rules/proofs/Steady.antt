@@ -1,7 +1,7 @@
 -- What reads and writes registers and memory alone does the same where one block more has been allocated.
-use Rattle.std.proofs.Common.{◌≡◌, ℕ, zero, suc, ◌+◌, ◌-◌, ◌*◌, ◌/◌, ◌%◌, ◌<◌, ◌≤◌, Bool, true, false, cond, not, ◌&&◌, ◌||◌, ⊎_elim, List, [], ◌∷◌, ◌++◌, length, map, Option, Some, None, Result, Ok, Err, refl, sym, ap, ◌∙◌, subst, arith}
+use Rattle.std.proofs.Common.{◌≡◌, ℕ, zero, suc, ◌+◌, ◌-◌, ◌*◌, ◌/◌, ◌%◌, ◌<◌, ◌≤◌, Bool, true, false, cond, not, ◌&&◌, ◌||◌, List, [], ◌∷◌, ◌++◌, length, map, Option, Some, None, Result, Ok, Err, refl, sym, ap, ◌∙◌, subst, arith}
 use Rattle.std.specs.Prelude.{nat_eq, nat_le, ◌==◌, slice_get, slice_index, slice_index_or, slice_set}
-use Rattle.std.proofs.lemmas.Bool.{true≢false, cases_Bool, eqb-true, ltb-true, lt-ltb, leb-true, le-leb}
+use Rattle.std.proofs.lemmas.Bool.{true≢false, ltb-true, lt-ltb, leb-true, le-leb}
 use Rattle.std.proofs.lemmas.List.{length-set, map-append, get_or_append_left, set-append_left}
 use Rattle.std.proofs.Math.Seq.{map-set_same}
 use Rattle.bs_words.specs.Fits.{fits, misfit}
@@ -32,6 +32,7 @@ use Rattle.mach_ir.specs.declared.op.Pure.{Pure}
 use Rattle.mach_ir.specs.declared.op.Pure.TheVariants as pure
 use Rattle.mach_ir.specs.declared.op.Right.TheVariants as right
 use Rattle.mach_ir.specs.declared.mach.MachOp.TheVariants as mach
+use Rattle.combine_rules.proofs.Places.{eq_less}
 
 -- ---- operators
 
@@ -286,9 +287,6 @@ module _ (fs : List HeapBlock) where
   stored_in_same k m offset (InStatic l i) v low = stored_as_same k (end_of_data m) m (InStatic l i) offset v low
 
 -- ---- what is unwritten
-
-eq_less : (t s : ℕ) → t < s → nat_eq t s ≡ false
-eq_less t s lt = ⊎_elim (λ e. let same = eqb-true t s e in absurd (omega (arith, same, lt))) (λ e. e) (cases_Bool (nat_eq t s))
 
 not_header : (s : ℕ) (cell : Cell) → Low s cell → same_cell cell (InHeader s) ≡ false
 not_header s (InHeader t) (low_header lt) = eq_less t s lt

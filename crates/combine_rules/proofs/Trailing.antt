@@ -1,7 +1,7 @@
 -- The result may wait before an allocation until the function has made all the blocks that go to it: then it has allocated no
 -- more than the function has.
-use Rattle.std.proofs.Common.{◌≡◌, ℕ, Bool, true, false, ◌⊎◌, inl, inr, ⊎_elim, List, [], ◌∷◌, ◌++◌, length, map, Option, Some, None, refl, sym, ap, ◌∙◌, subst}
-use Rattle.std.proofs.lemmas.List.{map-append}
+use Rattle.std.proofs.Common.{◌≡◌, ℕ, Bool, true, false, ◌⊎◌, inl, inr, ⊎_elim, List, [], ◌∷◌, length, map, Option, Some, None, refl, sym, ap, ◌∙◌, subst}
+use Rattle.std.proofs.lemmas.List.{map-append, append-nil}
 use Rattle.bs_words.specs.declared.values.Value.{Value}
 use Rattle.cmm_meaning.specs.Extends.{shape_of}
 use Rattle.cmm_meaning.specs.State.{Doing}
@@ -34,10 +34,6 @@ use Rattle.mach_laws.proofs.Leads.{Within, asks_in, within}
 use Rattle.mach_laws.proofs.Places.{ending_next}
 use Rattle.mach_laws.proofs.Simulate.{Agrees, Arrives, both_continue, both_pay, both_deepen, both_wait, both_finish_by, both_finish, both_finish_raising, first_stuck, later, Answers, stays, stuck, steps, Closed, simulates}
 
-appended_none : {A : Type 0} (xs : List A) → xs ++ [] ≡ xs
-appended_none [] = refl
-appended_none (x ∷ xs) = ap (λ ys. x ∷ ys) (appended_none xs)
-
 -- ---- blocks are only added
 
 trails_block : (b : NewBlock) (x : Around) → Trails (with_block b x) x
@@ -61,7 +57,7 @@ data Onward (x : Around) : Act → Type 0 where
 steady_onward : {x : Around} {one two : Act} → AllSteady [] x one two → Onward x one
 steady_onward is_lost = lost
 steady_onward {x} (goes_ahead same shapes tries) =
-    goes (record { tries = tries; more = []; blocks = shapes ∙ sym (appended_none (map shape_of x.memory.blocks)) })
+    goes (record { tries = tries; more = []; blocks = shapes ∙ sym (append-nil (map shape_of x.memory.blocks)) })
 
 only_onward : {x : Around} (t : Bool) (vs : List Value) {after : Around} → Trails after x → Onward x (only_if t (Goes vs On after))
 only_onward true vs h = goes h

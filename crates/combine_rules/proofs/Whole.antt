@@ -3,6 +3,7 @@ use Rattle.std.proofs.Common.{◌≡◌, ℕ, true, inl, List, [], ◌∷◌, �
 use Rattle.std.proofs.lemmas.Bool.{true≢false}
 use Rattle.bs_words.specs.External.{External}
 use Rattle.bs_words.specs.declared.types.Comp.TheVariants as comp
+use Rattle.bs_words.proofs.Lists.{head_same, tail_same}
 use Rattle.combine_rules.specs.Combined.{Scanned, allocation, combined}
 use Rattle.combine_rules.specs.Kept.{IsCombinable}
 use Rattle.combine_rules.proofs.Doing.{across_ends, across_opened, no_less}
@@ -26,7 +27,6 @@ use Rattle.mach_ir.specs.declared.mach.Mach.{Mach}
 use Rattle.mach_laws.specs.Expand.{expand, Ending, all}
 use Rattle.mach_laws.proofs.Level as level
 use Rattle.mach_laws.proofs.Places.{ending_next, ending_label, ending_from_handler}
-use Rattle.places_rules.proofs.Lists.{head_same, tail_same}
 use Rattle.split_rules.proofs.Formed.{contains_of, stands_in}
 
 nothing_there : (i : Instr) (xs : List Instr) → i ∷ xs ≡ [] → ⊥

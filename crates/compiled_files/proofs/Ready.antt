@@ -22,7 +22,7 @@ use Rattle.lin_ir.specs.declared.lin.Line.{Line}
 use Rattle.lin_ir.specs.declared.lin.LinOp.{LinOp}
 use Rattle.lin_ir.specs.declared.lin.LinOp.TheVariants as lin
 use Rattle.linear_rules.proofs.Homes.{is_first}
-use Rattle.linear_rules.proofs.Turns as ops
+use Rattle.mach_laws.proofs.Turns as ops
 use Rattle.tidy_rules.proofs.Turns.{Turns, goes_in, exits_in, jumps_in, unwinds_in, pushes_in, asks_in, replaces_in, ends_in, raising_in, stuck_in, turns}
 use Rattle.line_calls.specs.Points.{IsReadyFor}
 use Rattle.function_stands.proofs.Handlers.{pushed, pushed_enters}

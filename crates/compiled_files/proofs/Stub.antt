@@ -12,6 +12,7 @@ use Rattle.bs_words.specs.declared.types.Ty.TheVariants as ty
 use Rattle.bs_words.specs.declared.values.Obs.TheVariants as obs
 use Rattle.bs_words.specs.declared.values.Value.{Value}
 use Rattle.bs_words.specs.declared.values.Value.TheVariants.{Word, Block, Function}
+use Rattle.bs_words.proofs.Lists.{head_same}
 use Rattle.cmm_data.specs.Placement.{data_end}
 use Rattle.cmm_meaning.specs.Layout.{observed}
 use Rattle.cmm_meaning.specs.State.{Doing, Gave, Threw}
@@ -53,7 +54,7 @@ use Rattle.linear_machine.specs.Straight.{Changes}
 use Rattle.linear_machine.specs.View.{Fixed, IsCode, Stands, View}
 use Rattle.linear_machine.proofs.Beginning.{nothing_below}
 use Rattle.linear_machine.proofs.Formats.{sets_imm}
-use Rattle.linear_machine.proofs.Immediates.{low_12, up}
+use Rattle.machine_laws.proofs.Immediates.{low_12, up}
 use Rattle.linear_machine.proofs.Keeping.{heap_kept}
 use Rattle.linear_machine.proofs.Likes.{like_readable}
 use Rattle.linear_machine.proofs.Moving.{hart_of, heads_of}
@@ -61,25 +62,16 @@ use Rattle.linear_machine.proofs.Sequences.{set_changes, sets_as}
 use Rattle.linear_machine.proofs.Serving.{hart_is, with_memory}
 use Rattle.linear_machine.proofs.Standing.{own_past}
 use Rattle.linear_machine.proofs.Steps.{one_step, ready, ready_stands, other_number}
-use Rattle.line_calls.proofs.Shown.{each_at, val_shown}
+use Rattle.line_calls.proofs.Shown.{each_at, val_shown, in_table}
 use Rattle.linking.specs.Assembled.{IsStub, Setup}
 use Rattle.linking.specs.Carries.{Comes, Near, Outer}
-use Rattle.line_calls.specs.Calls.{IsInTable}
 use Rattle.linking_machine.specs.Standing.{Back, Shows, fixed_of}
 use Rattle.linking_machine.proofs.Carrying.{values_shown}
-
-first_same : {A : Type 0} (x y : A) (xs ys : List A) → x ∷ xs ≡ y ∷ ys → x ≡ y
-first_same x y xs ys e = cc
-
-in_table : (image : Tables) (count : ℕ) (v : Value) → IsKnown image count v → IsInTable image v
-in_table image count (Word w) k = tt
-in_table image count (Block b o) k = tt
-in_table image count (Function f) k = k
 
 -- what the machine shows of a value is what the text shows
 shown_is : (image : Tables) (count : ℕ) (v : Value) → IsKnown image count v → shown image v ≡ observed (layout_of image) v
 shown_is image count v k =
-    first_same (shown image v) (observed (layout_of image) v) [] [] (values_shown image (v ∷ []) (in_table image count v k, tt))
+    head_same (values_shown image (v ∷ []) (in_table image count v k, tt))
 
 module _ (s : Fixed) (end : ℕ) (end_is : end ≡ data_start + length s.image.bytes) (n : ℕ) (small : n < 3) (v : View)
     (first : IsCode s v.place (OpImm Addi 7 0 n)) (second : IsCode s (v.place + 1) Ecall) (young : List Placed) (memory : Memory)

@@ -1,7 +1,8 @@
 -- A function whose copies are propagated is well-formed, and stands where it did.
 use Rattle.std.proofs.Common.{◌≡◌, ◌≢◌, ℕ, suc, ◌+◌, ◌<◌, ◌⊎◌, ⊎_elim, List, [], ◌∷◌, ◌++◌, length, map, refl, sym, ap, ◌∙◌, subst, arith, append_assoc}
-use Rattle.std.proofs.lemmas.List.Elements.{Contains-append_cases}
+use Rattle.std.proofs.lemmas.List.Elements.{Contains-append_cases, All-contains}
 use Rattle.std.specs.List.{All, AllPairs, Contains}
+use Rattle.bs_words.proofs.Lists.{none_in, first_in, later_in, in_cons}
 use Rattle.copy_rules.specs.Propagated.{move, ReadFor, source, itself, again, in_place, with_sources, IsBefore}
 use Rattle.mach_ir.specs.Forms.{HasForm, results_of}
 use Rattle.mach_ir.specs.Formed.{comps, IsFormed, MarkHasForm, formed_op, formed_mark, AreDistinct, WellFormed}
@@ -15,9 +16,8 @@ use Rattle.mach_ir.specs.declared.mach.MachOp.TheVariants as mach
 use Rattle.mach_ir.specs.declared.mach.Instr.{Instr}
 use Rattle.mach_ir.specs.declared.mach.Mach.{Mach}
 use Rattle.mach_laws.specs.Expand.{expand, KeepsMarks}
-use Rattle.mach_laws.proofs.Walking.{none_in, first_in, later_in, in_cons}
-use Rattle.split_rules.proofs.Formed.{contains_of, of_each}
-use Rattle.split_rules.proofs.Text.{args_in, results_in}
+use Rattle.mach_laws.proofs.Places.{stands_behind, args_in, results_in}
+use Rattle.split_rules.proofs.Formed.{contains_of}
 use Rattle.repeat_rules.proofs.OneForOne as one
 use Rattle.repeat_rules.proofs.OneForOne.{in_append, in_code_stands, same_op, StandsFor, both, each_in, all_in, before_of, same_length, same_labels}
 
@@ -48,10 +48,6 @@ as_many p (r ∷ rs) = ap suc (as_many p rs)
 
 pub only_in : {A : Type 0} (x y : A) → Contains (x ∷ []) y → x ≡ y
 only_in x y c = ⊎_elim (λ e. e) (λ d. absurd (none_in y d)) (in_cons x y [] c)
-
-stands_after : (before : List Instr) {i : Instr} {next : List Instr} → Stands i next (before ++ i ∷ next)
-stands_after [] = here
-stands_after (j ∷ before) = below (stands_after before)
 
 -- ---- code with its sources
 
@@ -127,7 +123,7 @@ module _ (m : Mach) (plan : ℕ → Reg → Reg)
 
     here_known : (r : Reg) → Contains i.args r → IsRegister m (plan (length next) r)
     here_known r c =
-        known_source known (is_in_code (args_in (subst (Stands i next) (sym whole) (stands_after before)) c))
+        known_source known (is_in_code (args_in (subst (Stands i next) (sym whole) (stands_behind before _ _)) c))
         (reads i next made (record { before = before; whole = whole; made_so = made_so }) r c)
 
     read_known : (r : Reg) → Contains x.args r → IsRegister m r
@@ -163,7 +159,7 @@ module _ (m : Mach) (plan : ℕ → Reg → Reg)
 
   module _ (formed : WellFormed m) where
     form_of : (i : Instr) → Contains m.code i → IsFormed i
-    form_of i c = of_each IsFormed m.code i formed.instrs c
+    form_of i c = All-contains IsFormed m.code i formed.instrs c
 
     same_comps : (i : Instr) (next : List Instr) → Stands i next m.code → comps (map (plan (length next)) i.args) ≡ comps i.args
     same_comps i next s = map_same (λ (r : Reg). r.comp) (plan (length next)) i.args (λ r c. (fits i next s r c).comp)
@@ -181,7 +177,7 @@ module _ (m : Mach) (plan : ℕ → Reg → Reg)
           instrs = all_in (again plan) m.code IsFormed
               (λ i next s. formed_again (plan (length next)) (form_of i (contains_of s)) (same_comps i next s));
           distinct = all_in (again plan) m.code (λ (i : Instr). AreDistinct i.results)
-              (λ i next s. of_each (λ (i : Instr). AreDistinct i.results) m.code i formed.distinct (contains_of s));
+              (λ i next s. All-contains (λ (i : Instr). AreDistinct i.results) m.code i formed.distinct (contains_of s));
           returns = each_in (again plan) m.code (λ (j : Instr). j.op ≡ mach.Op (op.Leaving leaving.Return) → comps j.args ≡ results_of m.result)
               (λ i next s e. same_comps i next s ∙ formed.returns i (contains_of s) e);
           labels_once = subst (λ ls. AllPairs (λ k l. k ≢ l) ls) (sym (same_labels (again plan) (alike plan) m.code)) formed.labels_once;

@@ -3,9 +3,11 @@ use Rattle.std.proofs.Common.{◌≡◌, ℕ, Bool, true, false, cond, ⊎_elim,
 use Rattle.std.proofs.lemmas.Bool.{cases_eq}
 use Rattle.std.specs.List.{Contains}
 use Rattle.std.specs.Prelude.{nat_eq}
+use Rattle.std.proofs.lemmas.Option.{none-some, same_Some}
 use Rattle.bs_words.specs.declared.types.Comp.TheVariants as comp
 use Rattle.bs_words.specs.declared.values.Value.{Value}
-use Rattle.combine_rules.proofs.Files.{PutAll, nil, cons, put_same, frame_loses}
+use Rattle.bs_words.proofs.Lists.{first_in, later_in}
+use Rattle.combine_rules.proofs.Files.{frame_loses}
 use Rattle.copy_rules.specs.Propagated.{move, ReadFor, again, IsBefore}
 use Rattle.mach_ir.specs.Acts.{Around, On, Goes}
 use Rattle.mach_ir.specs.Formed.{WellFormed}
@@ -17,11 +19,10 @@ use Rattle.mach_ir.specs.declared.reg.Reg.{Reg}
 use Rattle.mach_ir.specs.declared.mach.Instr.{Instr}
 use Rattle.mach_ir.specs.declared.mach.Mach.{Mach}
 use Rattle.mach_laws.specs.Expand.{Ending}
-use Rattle.mach_laws.proofs.Walking.{first_in, later_in}
-use Rattle.places_rules.proofs.Files.{none_some, some_same, put_other}
-use Rattle.split_rules.proofs.Text.{number_among}
+use Rattle.mach_laws.proofs.Among.{number_among}
+use Rattle.mach_laws.proofs.Files.{PutAll, nil, cons, put_other, put_same, put_of}
 use Rattle.repeat_rules.specs.Repeated.{allocates, itself}
-use Rattle.repeat_rules.proofs.Held.{Fresh, stays, past_kept, put_all_of}
+use Rattle.repeat_rules.proofs.Held.{Fresh, stays, past_kept}
 use Rattle.repeat_rules.proofs.Standing.{straight_kills, straight_frame}
 use Rattle.copy_rules.proofs.Live.{standing_register, read_here}
 use Rattle.copy_rules.proofs.Standing.{Standing, Earlier, just_now, earlier, earlier_of, ReadAt, from_source, as_it_is}
@@ -42,8 +43,8 @@ read_so a p (r ∷ rs) same vs e =
     by : (o : Option Held) (x : Option (List Value)) → a r.number ≡ o → values a rs ≡ x → with_held o x ≡ Some vs →
         ((us : List Value) → values a rs ≡ Some us → values a (map p rs) ≡ Some us) →
         with_held (a (p r).number) (values a (map p rs)) ≡ Some vs
-    by None x g h e ih = absurd (none_some e)
-    by (Some held) None g h e ih = absurd (none_some e)
+    by None x g h e ih = absurd (none-some _ e)
+    by (Some held) None g h e ih = absurd (none-some _ e)
     by (Some held) (Some us) g h e ih =
         let k = same r (first_in r rs) held g in
         ap (λ o. with_held o (values a (map p rs))) k.1 ∙ ap (with_held (Some k.0)) (ih us h)
@@ -62,15 +63,15 @@ read_one : (a : File) (r : Reg) (vs : List Value) → values a (r ∷ []) ≡ So
 read_one a r vs e = by (a r.number) refl e
   where
     by : (o : Option Held) → a r.number ≡ o → with_held o (Some []) ≡ Some vs → ReadOne a r vs
-    by None g e = absurd (none_some e)
-    by (Some h) g e = record { held = h; holds = g; one = sym (some_same e) }
+    by None g e = absurd (none-some _ e)
+    by (Some h) g e = record { held = h; holds = g; one = sym (same_Some _ _ e) }
 
 clear_loses : (ks : List Reg) (a : File) (n : ℕ) (h : Held) → clear ks a n ≡ Some h → a n ≡ Some h
 clear_loses [] a n h e = e
 clear_loses (k ∷ ks) a n h e = by (nat_eq k.number n) e (λ g. clear_loses ks a n h g)
   where
     by : (b : Bool) → cond b None (clear ks a n) ≡ Some h → (clear ks a n ≡ Some h → a n ≡ Some h) → a n ≡ Some h
-    by true e ih = absurd (none_some e)
+    by true e ih = absurd (none-some _ e)
     by false e ih = ih e
 
 module _ (m : Mach) (formed : WellFormed m) where
@@ -79,7 +80,7 @@ module _ (m : Mach) (formed : WellFormed m) where
   Typed a = (r : Reg) → IsRegister m r → (h : Held) → a r.number ≡ Some h → h.comp ≡ r.comp
 
   pub nothing_typed : Typed (λ n. None)
-  nothing_typed r i h e = absurd (none_some e)
+  nothing_typed r i h e = absurd (none-some _ e)
 
   put_typed : {end : ℕ} {a : File} {rs : List Reg} {vs : List Value} {d : File} → PutAll end a rs vs d →
       ((r : Reg) → Contains rs r → IsRegister m r) → Typed a → Typed d
@@ -90,7 +91,7 @@ module _ (m : Mach) (formed : WellFormed m) where
       let same : r ≡ k = formed.numbers r k (known r (first_in r rs)) i s in
       let here : Fresh r v ≡ Some h =
       sym (put_same r v d) ∙ ap (put r v d) s ∙ g in
-      sym (ap (λ (x : Held). x.comp) (some_same here)) ∙ ap (λ (x : Reg). x.comp) same)
+      sym (ap (λ (x : Held). x.comp) (same_Some _ _ here)) ∙ ap (λ (x : Reg). x.comp) same)
       (λ s.
       put_typed p (λ x c. known x (later_in r x rs c)) typed k i h (sym (put_other r v d k.number s) ∙ g))
       (cases_eq r.number k.number)
@@ -98,7 +99,7 @@ module _ (m : Mach) (formed : WellFormed m) where
   pub written_typed : (end : ℕ) (rs ks : List Reg) (vs : List Value) (a d : File) → ((r : Reg) → Contains rs r → IsRegister m r) →
       Typed a → put_all end rs vs (clear ks a) ≡ Some d → Typed d
   written_typed end rs ks vs a d known typed e =
-      put_typed (put_all_of end rs vs (clear ks a) d e) known
+      put_typed (put_of end rs vs (clear ks a) d e) known
       (λ r i h g. typed r i h (clear_loses ks a r.number h g))
 
   pub past_typed : (t : Bool) (a : File) → Typed a → Typed (past_frame t a)
@@ -126,7 +127,7 @@ module _ (m : Mach) (formed : WellFormed m) where
             let w = holds r s t in (
               record { comp = s.comp; value = w.value },
               w.of_source,
-              ap (λ (x : Held). x.value) (some_same (sym w.of_copy ∙ g)),
+              ap (λ (x : Held). x.value) (same_Some _ _ (sym w.of_copy ∙ g)),
             )
         by as_it_is h g = (h, g, refl)
 
@@ -152,7 +153,7 @@ module _ (m : Mach) (formed : WellFormed m) where
             let is : d ≡ put copy v a =
             put_is
             (subst (λ us. PutAll c.setting.end a (copy ∷ []) us d) known
-            (put_all_of c.setting.end (copy ∷ []) ws a d puts)) in
+            (put_of c.setting.end (copy ∷ []) ws a d puts)) in
             let of_copy : d copy.number ≡ Fresh copy v = ap (λ (file : File). file copy.number) is ∙ put_same copy v a in
             record {
               value = v;
@@ -173,7 +174,7 @@ module _ (m : Mach) (formed : WellFormed m) where
         put_all c.setting.end i.results ws (clear (killed m i) (past_frame (passes_frame i.op) a)) ≡ Some d →
         a r.number ≡ Fresh r v → d r.number ≡ Fresh r v
     still i r v st free kept a d ws puts e =
-        stays (put_all_of c.setting.end i.results ws (clear (killed m i) a') d puts) r.number free
+        stays (put_of c.setting.end i.results ws (clear (killed m i) a') d puts) r.number free
         ∙ ap (λ (file : File). file r.number) (calm i a' st)
         ∙ past_kept (passes_frame i.op) r v a (λ s. straight_frame i.op st ∙ kept s) e
       where

@@ -1,10 +1,12 @@
 -- A function whose copies are propagated does what it did, step by step, over registers that hold the same.
 use Rattle.std.proofs.Common.{◌≡◌, ℕ, true, false, inl, inr, ◌⊎◌, ⊎_elim, List, [], ◌∷◌, length, Some, None, refl, sym, ap, ◌∙◌, subst}
-use Rattle.std.proofs.lemmas.Bool.{cases_Bool}
+use Rattle.std.proofs.lemmas.Bool.{cases_Bool, both_ways}
 use Rattle.std.specs.List.{Contains}
+use Rattle.std.proofs.lemmas.Option.{none-some}
 use Rattle.bs_words.specs.Memory.{Memory}
 use Rattle.bs_words.specs.declared.types.Comp.TheVariants as comp
 use Rattle.bs_words.specs.declared.values.Value.{Value}
+use Rattle.bs_words.proofs.Lists.{head_same, tail_same}
 use Rattle.cmm_meaning.specs.State.{Doing}
 use Rattle.copy_rules.specs.Propagated.{ReadFor, again, in_place, with_sources, IsBefore}
 use Rattle.mach_ir.specs.Acts.{Around, Target, On, At, AtHandler, Act, Goes, Pushes, Jumps, Unwinds, Asks, Replaces, Ends, EndsRaising, Stuck}
@@ -23,12 +25,8 @@ use Rattle.mach_laws.proofs.General as general
 use Rattle.mach_laws.proofs.General.{at}
 use Rattle.mach_laws.proofs.Leads.{Within, asks_in, within}
 use Rattle.mach_laws.proofs.Level as levels
-use Rattle.mach_laws.proofs.Places.{tries_expand}
+use Rattle.mach_laws.proofs.Places.{tries_expand, stands_of, results_in}
 use Rattle.mach_laws.proofs.Simulate.{Agrees}
-use Rattle.places_rules.proofs.Lists.{head_same, tail_same}
-use Rattle.places_rules.proofs.Files.{differ, none_some}
-use Rattle.places_rules.proofs.Walked.{stands_of}
-use Rattle.split_rules.proofs.Text.{results_in}
 use Rattle.repeat_rules.specs.Kept.{OwnOrigins}
 use Rattle.repeat_rules.proofs.Acting.{GoesOn, is_stuck, goes_on, straight_on}
 use Rattle.repeat_rules.proofs.OneForOne as one
@@ -80,9 +78,9 @@ module _ (m : Mach) (plan : ℕ → Reg → Reg) (formed : WellFormed m) (own : 
         by : (r : Reg) → IsRegister m r → r.comp ≡ comp.Val → passes_frame i.op ≡ true → a r.number ≡ None →
             LiveAcross m r.number i next ⊎ Stood m plan formed reads r.number i next → ⊥
         by r one val frame none (inl l) = known.written i next refl frame r one val l none
-        by r one val frame none (inr (moved quiet z)) = differ (passes_frame i.op) frame quiet
+        by r one val frame none (inr (moved quiet z)) = both_ways (passes_frame i.op) quiet frame
         by r one val frame none (inr (left b straight kept)) =
-            let h = holds b.copy b.register b.standing in none_some (sym none ∙ ap a (sym b.number) ∙ h.of_source)
+            let h = holds b.copy b.register b.standing in none-some _ (sym none ∙ ap a (sym b.number) ∙ h.of_source)
 
     module _ (Suit : Around → Around → Type 0) where
       abbrev Acts : (i main : Instr) (next : List Instr) (x : Around) (a b : File) → Act → Act → Type 0

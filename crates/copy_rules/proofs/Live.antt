@@ -1,9 +1,11 @@
 -- What is live in a function whose copies are propagated was live, or is the source of a copy that stands.
 use Rattle.std.proofs.Common.{◌≡◌, ℕ, true, false, ◌⊎◌, inl, inr, ⊎_elim, List, [], ◌∷◌, length, map, refl, sym, ap, ◌∙◌, subst}
-use Rattle.std.proofs.lemmas.Bool.{cases_eq}
+use Rattle.std.proofs.lemmas.Bool.{cases_eq, both_ways}
 use Rattle.std.specs.List.{Contains}
+use Rattle.std.proofs.lemmas.List.Elements.{All-contains}
 use Rattle.bs_words.specs.declared.types.Comp.TheVariants as comp
 use Rattle.bs_words.specs.declared.types.Loc.TheVariants as loc
+use Rattle.bs_words.proofs.Lists.{first_in}
 use Rattle.copy_rules.specs.Propagated.{move, ReadFor, again, in_place, with_sources, IsBefore}
 use Rattle.mach_ir.specs.Formed.{IsFormed, WellFormed}
 use Rattle.mach_ir.specs.Meaning.{passes_frame}
@@ -14,11 +16,9 @@ use Rattle.mach_ir.specs.declared.mach.MachOp.{MachOp}
 use Rattle.mach_ir.specs.declared.mach.Instr.{Instr}
 use Rattle.mach_ir.specs.declared.mach.Mach.{Mach}
 use Rattle.mach_laws.specs.Expand.{Ending, all, expand}
-use Rattle.mach_laws.proofs.Walking.{first_in}
-use Rattle.places_rules.proofs.Walked.{ending_of, stands_of}
-use Rattle.split_rules.proofs.Formed.{contains_of, stands_in, of_each}
-use Rattle.split_rules.proofs.Text.{number_in, number_among, args_in}
-use Rattle.places_rules.proofs.Files.{differ}
+use Rattle.mach_laws.proofs.Places.{stands_of, ending_of, args_in}
+use Rattle.mach_laws.proofs.Among.{number_among, among_of}
+use Rattle.split_rules.proofs.Formed.{contains_of, stands_in}
 use Rattle.repeat_rules.specs.Repeated.{allocates}
 use Rattle.repeat_rules.proofs.OneForOne as one
 use Rattle.repeat_rules.proofs.OneForOne.{in_append, in_front, both}
@@ -36,7 +36,7 @@ module _ (m : Mach) (plan : ℕ → Reg → Reg) (formed : WellFormed m)
   f = in_place plan
 
   form_of : (i : Instr) → Contains m.code i → IsFormed i
-  form_of i c = of_each IsFormed m.code i formed.instrs c
+  form_of i c = All-contains IsFormed m.code i formed.instrs c
 
   pub read_here : {i : Instr} {next : List Instr} → Ending (i ∷ next) m.code → (r : Reg) → Contains i.args r →
       ReadAt m plan (i ∷ next) r (plan (length next) r)
@@ -82,7 +82,7 @@ module _ (m : Mach) (plan : ℕ → Reg → Reg) (formed : WellFormed m)
       by (just_now e) =
           moved (ap (λ (y : Instr). passes_frame y.op) e)
           (subst (λ (y : Instr). Among n y.args) (sym e)
-          (subst (λ k. Among k (x.register ∷ [])) x.number (number_in x.register (x.register ∷ []) (first_in x.register []))))
+          (subst (λ k. Among k (x.register ∷ [])) x.number (among_of x.register (x.register ∷ []) (first_in x.register []))))
       by (earlier w st apart ends kept) =
           left (record { copy = x.copy; register = x.register; standing = w; number = x.number }) st kept
 
@@ -95,7 +95,7 @@ module _ (m : Mach) (plan : ℕ → Reg → Reg) (formed : WellFormed m)
     where
       by : {r s : Reg} → ReadAt m plan (i ∷ next) r s → Contains i.args r → s.number ≡ n → Was n (i ∷ next)
       by {r} {s} (from_source t) c e = inr (record { copy = r; register = s; standing = t; number = e })
-      by {r} as_it_is c e = inl (read (subst (λ k. Among k i.args) e (number_in r i.args c)))
+      by {r} as_it_is c e = inl (read (subst (λ k. Among k i.args) e (among_of r i.args c)))
 
   of_stood : {n : ℕ} (i : Instr) (next : List Instr) → Ending (i ∷ next) m.code → Stood n i next → Was n (i ∷ next)
   of_stood i next ending (moved frame a) = read_back i next ending a
@@ -195,12 +195,11 @@ module _ (m : Mach) (plan : ℕ → Reg → Reg) (formed : WellFormed m)
   -- a source that an instruction leaves is lost at no frame point
   stood_frame : {i : Instr} {next : List Instr} (r : Reg) → IsRegister m r → r.comp ≡ comp.Addr → passes_frame i.op ≡ true →
       Stood r.number i next → ⊥
-  stood_frame {i} r one addr frame (moved quiet a) = differ (passes_frame i.op) frame quiet
+  stood_frame {i} r one addr frame (moved quiet a) = both_ways (passes_frame i.op) quiet frame
   stood_frame {i} r one addr frame (left b straight kept) =
       let same : r ≡ b.register =
       formed.numbers r b.register one (standing_register b.copy b.register b.standing) (sym b.number) in
-      differ (passes_frame i.op) frame
-      (straight_frame i.op straight ∙ kept (ap (λ (x : Reg). x.comp) (sym same) ∙ addr))
+      both_ways (passes_frame i.op) (straight_frame i.op straight ∙ kept (ap (λ (x : Reg). x.comp) (sym same) ∙ addr)) frame
 
   pub no_addr_back : NoAddrLive m → NoAddrLive (record m { code = with_sources plan m.code })
   no_addr_back none =

@@ -1,17 +1,15 @@
 -- The copies of a function are propagated in one way: of two moves that made a register a copy, the later one would write it.
 use Rattle.std.proofs.Common.{◌≡◌, ℕ, List, [], ◌∷◌, ◌++◌, length, map, refl, sym, ap, ◌∙◌, subst}
 use Rattle.std.specs.List.{Contains}
+use Rattle.bs_words.proofs.Lists.{first_in, later_in}
 use Rattle.copy_rules.specs.Propagated.{move, IsCopy, ReadFor, source, itself, again, with_sources, IsBefore, IsPropagated}
 use Rattle.mach_ir.specs.declared.reg.Reg.{Reg}
 use Rattle.mach_ir.specs.declared.mach.Instr.{Instr}
 use Rattle.mach_ir.specs.declared.mach.Mach.{Mach}
-use Rattle.mach_laws.proofs.Walking.{first_in, later_in}
 use Rattle.repeat_rules.proofs.OneForOne as same
 use Rattle.repeat_rules.proofs.OneForOne.{in_append}
 use Rattle.repeat_rules.proofs.Runs.{Order, together, first_one, first_other, order}
-
-only_same : {r s : Reg} → r ∷ [] ≡ s ∷ [] → r ≡ s
-only_same e = cc
+use Rattle.repeat_rules.proofs.One.{only_same}
 
 -- none writes the copy after the move that made it one
 written_later : {made : List Instr} (c s : Reg) (w : IsCopy made c s) (k : Reg) (mid after : List Instr) →

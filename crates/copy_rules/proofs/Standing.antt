@@ -1,12 +1,13 @@
 -- Which copies stand where a code is left, and what an instruction leaves of them.
 use Rattle.std.proofs.Common.{◌≡◌, ◌≢◌, ℕ, true, false, ⊎_elim, List, [], ◌∷◌, ◌++◌, length, refl, sym, ap, ◌∙◌, subst, append_assoc}
-use Rattle.std.proofs.lemmas.Bool.{cases_Bool}
+use Rattle.std.proofs.lemmas.Bool.{cases_Bool, both_ways}
 use Rattle.std.proofs.lemmas.List.{append_cancel_right}
-use Rattle.std.proofs.lemmas.List.Elements.{Contains-get_or}
+use Rattle.std.proofs.lemmas.List.Elements.{Contains-get_or, All-contains}
 use Rattle.std.specs.List.{Contains}
 use Rattle.std.specs.Prelude.{slice_index_or}
 use Rattle.bs_words.specs.declared.types.Comp.{Comp}
 use Rattle.bs_words.specs.declared.types.Comp.TheVariants as comp
+use Rattle.bs_words.proofs.Lists.{none_in}
 use Rattle.copy_rules.specs.Propagated.{move, IsCopy, ReadFor, source, itself, again, in_place, with_sources, IsBefore}
 use Rattle.mach_ir.specs.Acts.{Landing}
 use Rattle.mach_ir.specs.Formed.{MarkHasForm, exit_form, if_form, else_form, switch_form, case_form, catch_form, with_form, try_form, leave_form, handler_form, end_form, comps, IsFormed, formed_op, formed_mark}
@@ -20,9 +21,6 @@ use Rattle.mach_ir.specs.declared.mach.MachOp.TheVariants as mach
 use Rattle.mach_ir.specs.declared.mach.Instr.{Instr}
 use Rattle.mach_ir.specs.declared.mach.Mach.{Mach}
 use Rattle.mach_laws.specs.Expand.{Ending, expand}
-use Rattle.mach_laws.proofs.Walking.{none_in}
-use Rattle.split_rules.proofs.Formed.{of_each}
-use Rattle.places_rules.proofs.Files.{differ}
 use Rattle.repeat_rules.specs.Repeated.{allocates, Ends}
 use Rattle.repeat_rules.proofs.OneForOne.{in_append, in_front, Before, before_of, Made, made_to}
 use Rattle.repeat_rules.proofs.Runs as run
@@ -32,14 +30,14 @@ use Rattle.repeat_rules.proofs.Runs.{Last, it_is, in_run, last_of, none_before, 
 
 straight_no_handler : (g : MachOp) → is_straight g ≡ true → (l : ℕ) → is_handler_of l g ≡ false
 straight_no_handler (mach.Op g) e l = refl
-straight_no_handler (mach.Mark g) e l = absurd (differ false e refl)
+straight_no_handler (mach.Mark g) e l = absurd (both_ways false refl e)
 
 -- the mark of a handler reads nothing
 mark_reads : {f : Mark} {cs ds : List Comp} → MarkHasForm f cs ds → (l : ℕ) → is_handler_of l (mach.Mark f) ≡ true → cs ≡ []
 mark_reads exit_form l e = refl
-mark_reads (if_form t) l e = absurd (differ false e refl)
+mark_reads (if_form t) l e = absurd (both_ways false refl e)
 mark_reads else_form l e = refl
-mark_reads switch_form l e = absurd (differ false e refl)
+mark_reads switch_form l e = absurd (both_ways false refl e)
 mark_reads case_form l e = refl
 mark_reads catch_form l e = refl
 mark_reads with_form l e = refl
@@ -77,7 +75,7 @@ restricted c s w ys zs e =
       run = ys;
       within = refl;
       straight = λ k d lt.
-          of_each (λ (i : Instr). is_straight i.op ≡ true) w.run (slice_index_or ys k d) w.straight
+          All-contains (λ (i : Instr). is_straight i.op ≡ true) w.run (slice_index_or ys k d) w.straight
           (to_run (slice_index_or ys k d) (Contains-get_or ys k d lt));
       same_comp = w.same_comp;
       source_open = w.source_open;
@@ -98,7 +96,7 @@ since made x c s w = by (last_of made x w.others (move s c) w.run w.within)
     by (in_run ys e h) =
         stood
         (subst (λ xs. IsCopy xs c s) (sym h) (restricted c s w ys (x ∷ []) e))
-        (of_each (λ (i : Instr). is_straight i.op ≡ true) w.run x w.straight x_in)
+        (All-contains (λ (i : Instr). is_straight i.op ≡ true) w.run x w.straight x_in)
         (λ v d. w.stays x x_in v d)
         (λ v d. w.stands x x_in v d)
         (λ e. w.kept e x x_in)
@@ -164,8 +162,8 @@ module _ (m : Mach) (plan : ℕ → Reg → Reg) where
   not_past {i} {next} ending e c s w = by (earlier_of ending c s w)
     where
       by : Earlier i next c s → ⊥
-      by (just_now h) = differ (is_straight i.op) (ap (λ (x : Instr). is_straight x.op) h) e
-      by (earlier v st apart ends kept) = differ (is_straight i.op) st e
+      by (just_now h) = both_ways (is_straight i.op) e (ap (λ (x : Instr). is_straight x.op) h)
+      by (earlier v st apart ends kept) = both_ways (is_straight i.op) e st
 
   pub not_at_entry : (c s : Reg) → Standing m.code c s → ⊥
   not_at_entry c s w =
@@ -177,7 +175,7 @@ module _ (m : Mach) (plan : ℕ → Reg → Reg) where
       record {
         nothing = λ w. not_nothing w.starts;
         past = λ i next ending e w. not_past ending e c s w;
-        handler = λ l i next e w. differ (is_handler_of l i.op) e (begins_with w.starts l);
+        handler = λ l i next e w. both_ways (is_handler_of l i.op) (begins_with w.starts l) e;
       }
 
   pub not_at_label : (l : ℕ) (c s : Reg) → Standing (after_label l m.code) c s → ⊥

@@ -11,6 +11,7 @@ use Rattle.bs_words.specs.declared.operators.CmpOp.TheVariants as compare
 use Rattle.bs_words.specs.declared.operators.IntOp.{IntOp}
 use Rattle.bs_words.specs.declared.operators.IntOp.TheVariants as operator
 use Rattle.bs_words.specs.declared.types.Comp.{Comp}
+use Rattle.bs_words.proofs.Lists.{first_in, later_in}
 use Rattle.mach_ir.specs.Forms as form
 use Rattle.mach_ir.specs.Forms.{HasForm, IsRight, a_register, a_constant}
 use Rattle.mach_ir.specs.Formed.{comps, IsFormed, formed_op, formed_mark}
@@ -22,7 +23,6 @@ use Rattle.mach_ir.specs.declared.reg.Reg.{Reg}
 use Rattle.mach_ir.specs.declared.mach.Instr.{Instr}
 use Rattle.mach_ir.specs.declared.mach.MachOp.{MachOp}
 use Rattle.mach_ir.specs.declared.mach.MachOp.TheVariants as mach
-use Rattle.mach_laws.proofs.Walking.{first_in, later_in}
 use Rattle.repeat_rules.specs.Repeated.{is_operator}
 use Rattle.cse_deadcode.specs.contracts.events.EventOrd.TheImpl.Laws as law
 use Rattle.cse_deadcode.specs.declared.events.Computed.{Computed}

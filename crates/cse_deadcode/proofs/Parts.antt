@@ -5,7 +5,7 @@ use Rattle.std.specs.List.{Contains}
 use Rattle.mach_ir.specs.Walks.{InCode, in_args, in_results, further}
 use Rattle.mach_ir.specs.declared.reg.Reg.{Reg}
 use Rattle.mach_ir.specs.declared.mach.Instr.{Instr}
-use Rattle.mach_laws.proofs.Walking.{none_in, first_in, later_in, in_cons}
+use Rattle.bs_words.proofs.Lists.{none_in, first_in, later_in, in_cons}
 
 pub in_front : {A : Type 0} (xs ys : List A) (y : A) → Contains xs y → Contains (xs ++ ys) y
 in_front [] ys y c = absurd (none_in y c)

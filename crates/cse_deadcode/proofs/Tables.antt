@@ -10,10 +10,9 @@ use Rattle.mach_ir.specs.declared.mach.Instr.{Instr}
 use Rattle.mach_ir.specs.declared.mach.Mach.{Mach}
 use Rattle.mach_laws.specs.Expand.{expand, Ending, all, more}
 use Rattle.mach_laws.specs.Graph.{place_of}
-use Rattle.mach_laws.proofs.Places.{ending_next}
+use Rattle.mach_laws.proofs.Places.{ending_next, ending_of}
 use Rattle.mach_laws.proofs.Walking.{drop_ending, place_is}
 use Rattle.dead_rules.specs.Dropped.{may_go, IsUsed, without, dropped, AreDead, IsDropped}
-use Rattle.dead_rules.proofs.Live.{ending_of}
 use Rattle.cse_deadcode.specs.Uses.{AreUses, is_one_used, is_dead, is_first_dead, drops_by}
 use Rattle.cse_deadcode.proofs.Steps.{differ, or_left, or_right}
 

@@ -12,11 +12,12 @@ use Rattle.mach_ir.specs.declared.mach.Mach.{Mach}
 use Rattle.mach_laws.specs.Expand.{Ending}
 use Rattle.mach_laws.specs.Graph.{place_of, numbers, handler_places, next_places, raise_places, numbers_read, numbers_written, IsFlowOf}
 use Rattle.mach_laws.proofs.Places.{ending_next, ending_from_handler}
-use Rattle.mach_laws.proofs.Walking.{none_in, first_in, later_in, in_cons, ending_drop, ending_at, place_is}
-use Rattle.places_rules.proofs.Walked.{left_among, split_among}
+use Rattle.mach_laws.proofs.Walking.{ending_drop, ending_at, place_is}
+use Rattle.mach_laws.proofs.Among.{left_among, split_among}
 use Rattle.dead_rules.specs.Dropped as dropped
 use Rattle.dead_rules.specs.Dropped.{may_go, IsUsed}
 use Rattle.dead_rules.proofs.Text.{pure_of, pure_on, pure_only, pure_kills}
+use Rattle.bs_words.proofs.Lists.{none_in, first_in, later_in, in_cons}
 use Rattle.cse_deadcode.specs.Flows as flows
 use Rattle.cse_deadcode.specs.Flows.{UsedBefore, AreUsed}
 use Rattle.cse_deadcode.specs.Uses.{goes_at, AreUses}

@@ -1,7 +1,9 @@
 -- A function without its dead instructions does what it did: what is used holds the same.
 use Rattle.std.proofs.Common.{◌≡◌, ℕ, Bool, true, false, inl, inr, ◌⊎◌, ⊎_elim, List, [], ◌∷◌, length, Option, Some, None, refl, sym, ap, ◌∙◌, subst}
+use Rattle.std.proofs.lemmas.List.Elements.{All-contains}
 use Rattle.bs_words.specs.Memory.{Memory}
 use Rattle.bs_words.specs.declared.values.Value.{Value}
+use Rattle.bs_words.proofs.Lists.{head_same, tail_same}
 use Rattle.cmm_meaning.specs.State.{Doing}
 use Rattle.mach_ir.specs.Acts.{Around, Target, On, At, Landing, AtLabel, AtHandler, Act, Goes, Pushes, Jumps, Unwinds, Asks, Replaces, Ends, EndsRaising, Stuck}
 use Rattle.mach_ir.specs.Formed.{IsFormed, WellFormed}
@@ -18,13 +20,12 @@ use Rattle.mach_laws.proofs.General as general
 use Rattle.mach_laws.proofs.General.{at}
 use Rattle.mach_laws.proofs.Leads.{IsTry, is_try, MayLand, lands_at_label, lands_at_handler, Within, goes_in, pushes_in, jumps_in, unwinds_in, asks_in, within}
 use Rattle.mach_laws.proofs.Level as level
-use Rattle.mach_laws.proofs.Places.{tries_expand, ending_next, ending_label, ending_land}
+use Rattle.mach_laws.proofs.Places.{tries_expand, ending_next, ending_label, ending_land, stands_of}
 use Rattle.mach_laws.proofs.Simulate.{Agrees}
-use Rattle.places_rules.proofs.Lists.{head_same, tail_same}
+use Rattle.mach_laws.proofs.Among.{split_among}
 use Rattle.places_rules.proofs.Files.{values_same, past_same, cleared, not_cleared, among_or_not, PutsBoth, put_both}
-use Rattle.places_rules.proofs.Walked.{split_among, stands_of}
 use Rattle.places_rules.proofs.Raised.{IsRaised, Told, told_jump, told_unwind, told_ask, IsSilent, told, label_silent, try_silent}
-use Rattle.split_rules.proofs.Formed.{contains_of, of_each}
+use Rattle.split_rules.proofs.Formed.{contains_of}
 use Rattle.dead_rules.specs.Dropped.{may_go, IsUsed, on, aside, without, dropped, AreDead}
 use Rattle.dead_rules.proofs.Live.{used_live, label_is, handler_is, none_killed, lift, live_back, across_back, was_register, used_by}
 use Rattle.dead_rules.proofs.Text.{pure_of, pure_no_frame, goes_on, Fate, falls, remains, fate, keeps_marks}
@@ -41,7 +42,7 @@ module _ (m : Mach) (drops : ℕ → Bool) (dead : AreDead m drops) (formed : We
   Same rest a b = (n : ℕ) → IsUsed m n rest → a n ≡ b n
 
   form_of : {i : Instr} {next : List Instr} → Ending (i ∷ next) m.code → IsFormed i
-  form_of {i} e = of_each IsFormed m.code i formed.instrs (contains_of (stands_of e))
+  form_of {i} e = All-contains IsFormed m.code i formed.instrs (contains_of (stands_of e))
 
   -- ---- where registers of one origin agree
 

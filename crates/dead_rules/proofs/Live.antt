@@ -1,6 +1,6 @@
 -- In the function without its dead instructions a register is live exactly where it was used.
 use Rattle.std.proofs.Common.{◌≡◌, ℕ, Bool, true, false, ⊎_elim, List, [], ◌∷◌, length, refl, sym, ap, ◌∙◌, subst}
-use Rattle.std.proofs.lemmas.Bool.{cases_Bool}
+use Rattle.std.proofs.lemmas.Bool.{cases_Bool, both_ways}
 use Rattle.mach_ir.specs.Acts.{Target, On, At}
 use Rattle.mach_ir.specs.Meaning.{after_label, from_handler, code_at, killed, tries_at, tries_past}
 use Rattle.mach_ir.specs.Walks as walks
@@ -8,19 +8,12 @@ use Rattle.mach_ir.specs.Walks.{Among, OneOf, targets, may_raise, Leads, goes, R
 use Rattle.mach_ir.specs.declared.reg.Reg.{Reg}
 use Rattle.mach_ir.specs.declared.mach.Instr.{Instr}
 use Rattle.mach_ir.specs.declared.mach.Mach.{Mach}
-use Rattle.mach_laws.specs.Expand.{expand, Ending, all, more}
-use Rattle.mach_laws.proofs.Places.{label_expand, handler_expand, tries_expand, ending_next, ending_label, ending_from_handler}
-use Rattle.places_rules.proofs.Lists.{head_same, tail_same, none_there}
-use Rattle.places_rules.proofs.Walked.{split_among, stands_of}
+use Rattle.mach_laws.specs.Expand.{expand, Ending, all}
+use Rattle.mach_laws.proofs.Places.{label_expand, handler_expand, tries_expand, ending_next, ending_label, ending_from_handler, stands_of, ending_of}
+use Rattle.mach_laws.proofs.Among.{none_among, split_among}
+use Rattle.bs_words.proofs.Lists.{head_same, tail_same, none_there}
 use Rattle.dead_rules.specs.Dropped.{may_go, IsUsed, read, read_for, on, aside, without, dropped, AreDead}
-use Rattle.dead_rules.proofs.Text.{differ, pure_of, pure_on, pure_only, pure_quiet, pure_kills, Fate, falls, remains, fate, keeps_marks}
-
-among_none : (n : ℕ) → Among n [] → ⊥
-among_none n a = elim a [ ]
-
-pub ending_of : {i : Instr} {next code : List Instr} → Stands i next code → Ending (i ∷ next) code
-ending_of here = all
-ending_of (below s) = more (ending_of s)
+use Rattle.dead_rules.proofs.Text.{pure_of, pure_on, pure_only, pure_quiet, pure_kills, Fate, falls, remains, fate, keeps_marks}
 
 -- what is used is live
 pub used_live : {m : Mach} {n : ℕ} {rest : List Instr} → IsUsed m n rest → Live m n rest
@@ -44,7 +37,7 @@ module _ (m : Mach) (drops : ℕ → Bool) (dead : AreDead m drops) where
 
   -- what goes writes nothing but dead results
   pub none_killed : (i : Instr) (n : ℕ) → may_go i.op ≡ true → Among n (killed m i) → ⊥
-  none_killed i n e a = among_none n (subst (Among n) (pure_kills m.colours i.results (pure_of i.op e)) a)
+  none_killed i n e a = none_among (subst (Among n) (pure_kills m.colours i.results (pure_of i.op e)) a)
 
   pub lift : {n : ℕ} {i : Instr} {next : List Instr} → Stands i next m.code → may_go i.op ≡ true → drops (length next) ≡ true →
       IsUsed m n next → IsUsed m n (i ∷ next)
@@ -125,7 +118,7 @@ module _ (m : Mach) (drops : ℕ → Bool) (dead : AreDead m drops) where
   used_there {n} (read {i = i} {next = next} e a) ending = by (fate drops i next)
     where
       by : Fate drops i next → Live q n (expand f (i ∷ next))
-      by (falls g d s h) = absurd (differ (may_go i.op) g e)
+      by (falls g d s h) = absurd (both_ways (may_go i.op) e g)
       by (remains k s h) = subst (Live q n) (sym h) (walks.read a)
   used_there {n} (read_for {k = k} {i = i} {next = next} e a r u) ending = by (fate drops i next)
     where
@@ -149,7 +142,7 @@ module _ (m : Mach) (drops : ℕ → Bool) (dead : AreDead m drops) where
       by (fate drops i next) (used_there u (ending_from_handler l m.code))
     where
       by : Fate drops i next → Live q n (expand f (from_handler l m.code)) → Live q n (expand f (i ∷ next))
-      by (falls g d s e) v = absurd (differ (may_raise i.op) r (pure_quiet (pure_of i.op g)))
+      by (falls g d s e) v = absurd (both_ways (may_raise i.op) (pure_quiet (pure_of i.op g)) r)
       by (remains k s e) v =
           subst (Live q n) (sym e)
           (walks.aside (raises r (tries_here i next refl ∙ h)) (subst (Live q n) (sym (handler_is l)) v))

@@ -1,5 +1,6 @@
 -- What may go is no mark, raises nothing and goes on: labels, handlers and tries stand where they did.
 use Rattle.std.proofs.Common.{◌≡◌, ℕ, Bool, true, false, cond, ◌&&◌, ◌⊎◌, inl, inr, List, [], ◌∷◌, ◌++◌, length, Option, Some, None, Result, Ok, Err, refl, sym, ap, ◌∙◌}
+use Rattle.std.proofs.lemmas.Bool.{both_ways}
 use Rattle.bs_words.specs.Memory.{sizes}
 use Rattle.bs_words.specs.Operators.{apply}
 use Rattle.bs_words.specs.declared.values.Kind.{Kind}
@@ -22,9 +23,6 @@ use Rattle.mach_ir.specs.declared.mach.Instr.{Instr}
 use Rattle.mach_laws.specs.Expand.{expand, KeepsMarks, NoLabel, no_label, not_labelled, NoHandler, no_handler, not_handled, bounds_try, NoBound, no_bound, not_bound}
 use Rattle.dead_rules.specs.Dropped.{may_go, without}
 
-pub differ : (b : Bool) → b ≡ true → b ≡ false → ⊥
-differ b e h = cc
-
 -- ---- what may go
 
 pub data IsPure : MachOp → Type 0 where
@@ -32,10 +30,10 @@ pub data IsPure : MachOp → Type 0 where
 
 pub pure_of : (g : MachOp) → may_go g ≡ true → IsPure g
 pure_of (mach.Op (op.Pure f)) e = is_pure
-pure_of (mach.Op (op.Access f)) e = absurd (differ false e refl)
-pure_of (mach.Op (op.Calling f)) e = absurd (differ false e refl)
-pure_of (mach.Op (op.Leaving f)) e = absurd (differ false e refl)
-pure_of (mach.Mark f) e = absurd (differ false e refl)
+pure_of (mach.Op (op.Access f)) e = absurd (both_ways false refl e)
+pure_of (mach.Op (op.Calling f)) e = absurd (both_ways false refl e)
+pure_of (mach.Op (op.Leaving f)) e = absurd (both_ways false refl e)
+pure_of (mach.Mark f) e = absurd (both_ways false refl e)
 
 pub pure_on : {g : MachOp} → IsPure g → OneOf On (targets g)
 pure_on is_pure = this
@@ -92,29 +90,29 @@ goes_on c vs a (is_pure {f = f}) = pure_goes c f vs a
 
 -- what marks a place stays
 pub label_stays : (l : ℕ) (g : MachOp) → has_label l g ≡ true → may_go g ≡ false
-label_stays l (mach.Op g) e = absurd (differ false e refl)
+label_stays l (mach.Op g) e = absurd (both_ways false refl e)
 label_stays l (mach.Mark g) e = refl
 
 pub handler_stays : (l : ℕ) (g : MachOp) → is_handler_of l g ≡ true → may_go g ≡ false
-handler_stays l (mach.Op g) e = absurd (differ false e refl)
+handler_stays l (mach.Op g) e = absurd (both_ways false refl e)
 handler_stays l (mach.Mark g) e = refl
 
 bound_stays : (g : MachOp) → bounds_try g ≡ true → may_go g ≡ false
-bound_stays (mach.Op g) e = absurd (differ false e refl)
+bound_stays (mach.Op g) e = absurd (both_ways false refl e)
 bound_stays (mach.Mark g) e = refl
 
 pub mark_stays : (f : _) (g : MachOp) → g ≡ mach.Mark f → may_go g ≡ false
 mark_stays f g e = ap may_go e
 
 pub raise_stays : (g : MachOp) → may_raise g ≡ true → may_go g ≡ false
-raise_stays (mach.Op (op.Pure f)) e = absurd (differ false e refl)
+raise_stays (mach.Op (op.Pure f)) e = absurd (both_ways false refl e)
 raise_stays (mach.Op (op.Access f)) e = refl
 raise_stays (mach.Op (op.Calling f)) e = refl
 raise_stays (mach.Op (op.Leaving f)) e = refl
 raise_stays (mach.Mark f) e = refl
 
 pub leave_stays : (g : MachOp) → leaves g ≡ true → may_go g ≡ false
-leave_stays (mach.Op (op.Pure f)) e = absurd (differ false e refl)
+leave_stays (mach.Op (op.Pure f)) e = absurd (both_ways false refl e)
 leave_stays (mach.Op (op.Access f)) e = refl
 leave_stays (mach.Op (op.Calling f)) e = refl
 leave_stays (mach.Op (op.Leaving f)) e = refl
@@ -166,7 +164,7 @@ module _ (drops : ℕ → Bool) where
           let g : f (length next) i ≡ [] = by_table (length next) i true e h in
           falls e h g (ap (λ xs. xs ++ expand f next) g)
       by true false e h = stays (λ g. h) (by_table (length next) i false e h)
-      by false d e h = stays (λ g. absurd (differ (may_go i.op) g e)) (alone (length next) i e)
+      by false d e h = stays (λ g. absurd (both_ways (may_go i.op) e g)) (alone (length next) i e)
 
   kept_if : (P : List Instr → Type 0) (i : Instr) (b : Bool) → P [] → P (i ∷ []) → P (cond b [] (i ∷ []))
   kept_if P i true x y = x

@@ -1,8 +1,10 @@
 -- What a function without its dead instructions keeps, and that it is one.
-use Rattle.std.proofs.Common.{◌≡◌, ◌≢◌, ℕ, zero, suc, ◌<◌, ◌≤◌, Bool, true, false, cond, ◌&&◌, inl, ⊎_elim, List, [], ◌∷◌, ◌++◌, length, refl, sym, ap, ◌∙◌, subst, arith}
-use Rattle.std.proofs.lemmas.List.Elements.{Contains-get_or}
+use Rattle.std.proofs.Common.{◌≡◌, ◌≢◌, ℕ, ◌<◌, ◌≤◌, Bool, true, false, cond, ◌&&◌, inl, ⊎_elim, List, [], ◌∷◌, ◌++◌, length, refl, sym, ap, ◌∙◌, subst, arith}
+use Rattle.std.proofs.lemmas.List.Elements.{Contains-get_or, All-contains}
 use Rattle.std.specs.List.{All, AllPairs, Contains}
 use Rattle.std.specs.Prelude.{slice_index_or}
+use Rattle.std.proofs.lemmas.Bool.{both_ways}
+use Rattle.std.proofs.Math.Nat.{le_trans}
 use Rattle.mach_ir.specs.Acts.{On}
 use Rattle.mach_ir.specs.Formed.{IsFormed, AreDistinct, HasPlace, place_here, place_below, HasHandler, handler_here, handler_below, LabelsStand, tries_left, IsNested, CasesAgree, WellFormed}
 use Rattle.mach_ir.specs.Keeps.{Keeps, NamesSymbol, NamesExternal, IsNamedIn}
@@ -17,43 +19,13 @@ use Rattle.mach_ir.specs.declared.reg.Reg.{Reg}
 use Rattle.mach_ir.specs.declared.mach.Instr.{Instr}
 use Rattle.mach_ir.specs.declared.mach.Mach.{Mach}
 use Rattle.mach_laws.specs.Expand.{expand}
-use Rattle.mach_laws.proofs.Places.{tries_expand, ending_next}
-use Rattle.mach_laws.proofs.Walking.{none_in, first_in, later_in, in_cons}
-use Rattle.places_rules.proofs.Lists.{head_same, tail_same, none_there}
-use Rattle.split_rules.proofs.Formed.{contains_of, stands_in, of_each}
+use Rattle.mach_laws.proofs.Places.{tries_expand, ending_next, ending_of, stands_behind, stands_within, head_of, tail_of, straight_cons, straight_none}
+use Rattle.split_rules.proofs.Formed.{contains_of, stands_in}
+use Rattle.bs_words.proofs.Lists.{none_in, first_in, later_in, in_cons, head_same, tail_same, none_there}
 use Rattle.dead_rules.specs.Dropped.{may_go, without, dropped, AreDead, IsDropped, IsLive, IsKept}
 use Rattle.dead_rules.proofs.Kept.{does_dropped}
-use Rattle.dead_rules.proofs.Live.{label_is, handler_is, used_there, IsMain, was_main, ending_of, was_register, joined_back, no_addr_back}
-use Rattle.dead_rules.proofs.Text.{differ, pure_of, pure_on, pure_straight, label_stays, handler_stays, mark_stays, Fate, falls, remains, fate, keeps_marks, same_labels}
-
--- ---- lists
-
-head_of : (x : Instr) (xs : List Instr) → AreStraight (x ∷ xs) → is_straight x.op ≡ true
-head_of x xs h = let lt : 0 < length (x ∷ xs) = omega arith in h 0 x lt
-
-tail_of : (x : Instr) (xs : List Instr) → AreStraight (x ∷ xs) → AreStraight xs
-tail_of x xs h = λ k d lt. h (suc k) d (omega (arith, lt))
-
-straight_cons : (x : Instr) (xs : List Instr) → is_straight x.op ≡ true → AreStraight xs → AreStraight (x ∷ xs)
-straight_cons x xs e h = by
-  where
-    by : (k : ℕ) (d : Instr) → k < length (x ∷ xs) → is_straight (slice_index_or (x ∷ xs) k d).op ≡ true
-    by zero d lt = e
-    by (suc k) d lt = h k d (omega (arith, lt))
-
-straight_none : AreStraight []
-straight_none = λ k d lt. absurd (omega (arith, lt))
-
-stands_behind : (run : List Instr) (i : Instr) (next : List Instr) → Stands i next (run ++ i ∷ next)
-stands_behind [] i next = here
-stands_behind (x ∷ run) i next = below (stands_behind run i next)
-
-stands_within : {i j : Instr} {next rest code : List Instr} → Stands j rest code → Stands i next rest → Stands i next code
-stands_within here s = below s
-stands_within (below t) s = below (stands_within t s)
-
-less : (a b c : ℕ) → a ≤ b → b ≤ c → a ≤ c
-less a b c x y = omega (arith, x, y)
+use Rattle.dead_rules.proofs.Live.{label_is, handler_is, used_there, IsMain, was_main, was_register, joined_back, no_addr_back}
+use Rattle.dead_rules.proofs.Text.{pure_of, pure_on, pure_straight, label_stays, handler_stays, mark_stays, Fate, falls, remains, fate, keeps_marks, same_labels}
 
 module _ (m : Mach) (drops : ℕ → Bool) (dead : AreDead m drops) where
   abbrev q : Mach
@@ -79,7 +51,7 @@ module _ (m : Mach) (drops : ℕ → Bool) (dead : AreDead m drops) where
     where
       by : Fate drops j is → (Contains is i → Contains (expand f is) i) → Contains (expand f (j ∷ is)) i
       by (falls g d s h) again =
-          ⊎_elim (λ e. absurd (differ (may_go j.op) g (ap (λ (x : Instr). may_go x.op) e ∙ k)))
+          ⊎_elim (λ e. absurd (both_ways (may_go j.op) (ap (λ (x : Instr). may_go x.op) e ∙ k) g))
           (λ t. subst (λ xs. Contains xs i) (sym h) (again t)) (in_cons j i is c)
       by (remains g s h) again =
           subst (λ xs. Contains xs i) (sym h)
@@ -92,7 +64,7 @@ module _ (m : Mach) (drops : ℕ → Bool) (dead : AreDead m drops) where
   place_there {l} (place_here {i = i} {is = is} e) = by (fate drops i is)
     where
       by : Fate drops i is → HasPlace l (expand f (i ∷ is))
-      by (falls g d s h) = absurd (differ (may_go i.op) g (label_stays l i.op e))
+      by (falls g d s h) = absurd (both_ways (may_go i.op) (label_stays l i.op e) g)
       by (remains k s h) = subst (HasPlace l) (sym h) (place_here e)
   place_there {l} (place_below {i = i} {is = is} p) = by (fate drops i is) (place_there p)
     where
@@ -104,7 +76,7 @@ module _ (m : Mach) (drops : ℕ → Bool) (dead : AreDead m drops) where
   handler_there {l} (handler_here {i = i} {is = is} e) = by (fate drops i is)
     where
       by : Fate drops i is → HasHandler l (expand f (i ∷ is))
-      by (falls g d s h) = absurd (differ (may_go i.op) g (handler_stays l i.op e))
+      by (falls g d s h) = absurd (both_ways (may_go i.op) (handler_stays l i.op e) g)
       by (remains k s h) = subst (HasHandler l) (sym h) (handler_here e)
   handler_there {l} (handler_below {i = i} {is = is} p) = by (fate drops i is) (handler_there p)
     where
@@ -194,8 +166,8 @@ module _ (m : Mach) (drops : ℕ → Bool) (dead : AreDead m drops) where
   smaller s h =
       let t = fewer m.code in
       record {
-        instrs = less (length q.code) (length m.code) s.instrs t.0 h.instrs;
-        operands = less (operand_count q.code) (operand_count m.code) s.operands t.1 h.operands;
+        instrs = le_trans t.0 h.instrs;
+        operands = le_trans t.1 h.operands;
         numbers = λ r i. h.numbers r (was r i);
         origins = λ r i. h.origins r (was r i);
         labels = h.labels;
@@ -284,9 +256,9 @@ module _ (m : Mach) (drops : ℕ → Bool) (dead : AreDead m drops) where
           numbers = λ r k i j e. formed.numbers r k (was r i) (was k j) e;
           params = formed.params;
           params_distinct = formed.params_distinct;
-          instrs = each_in IsFormed (λ i c. of_each IsFormed m.code i formed.instrs c);
+          instrs = each_in IsFormed (λ i c. All-contains IsFormed m.code i formed.instrs c);
           distinct = each_in (λ (i : Instr). AreDistinct i.results)
-              (λ i c. of_each (λ (i : Instr). AreDistinct i.results) m.code i formed.distinct c);
+              (λ i c. All-contains (λ (i : Instr). AreDistinct i.results) m.code i formed.distinct c);
           returns = λ i c e. formed.returns i (contains_back i c) e;
           labels_once = subst (λ ls. AllPairs (λ k l. k ≢ l) ls) (sym (same_labels drops m.code)) formed.labels_once;
           labels_below = subst (λ ls. All (λ l. l < m.labels) ls) (sym (same_labels drops m.code)) formed.labels_below;

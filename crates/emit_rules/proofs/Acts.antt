@@ -1,5 +1,5 @@
 -- A part has an instruction, where its line is no label, no copy from a location to itself and no entry of a handler.
-use Rattle.std.proofs.Common.{◌≡◌, ℕ, zero, suc, ◌+◌, ◌≤◌, sym, ap, subst, Bool, true, false, cond, nat_eq, nat_lt, List, [], ◌∷◌, ◌++◌, length, Option, refl, arith}
+use Rattle.std.proofs.Common.{◌≡◌, ℕ, zero, suc, ◌+◌, ◌≤◌, sym, subst, Bool, true, false, cond, nat_eq, nat_lt, List, [], ◌∷◌, ◌++◌, length, Option, refl, arith}
 use Rattle.bs_words.specs.declared.operators.CmpOp.{CmpOp}
 use Rattle.bs_words.specs.declared.operators.CmpOp.TheVariants as compare
 use Rattle.bs_words.specs.declared.operators.IntOp.{IntOp}
@@ -36,6 +36,7 @@ use Rattle.rv_isa.specs.declared.register.Register.{Register}
 use Rattle.rv_isa.specs.declared.register.Register.TheVariants.{T1, T2, S10}
 use Rattle.rv_pieces.specs.declared.piece.Piece.{Piece}
 use Rattle.rv_pieces.specs.declared.piece.Piece.TheVariants as piece
+use Rattle.lin_laws.proofs.Forms.{same_loc_is}
 use Rattle.emit_rules.specs.Instructions.{low_12, register_at}
 use Rattle.emit_rules.specs.Constants.{is_word_32, constant_32, higher, constant_shifted, constant, lowered}
 use Rattle.emit_rules.specs.Slots.{stack_load, stack_store, slot_offset, first, second, register_of, fetched, target, copied}
@@ -50,7 +51,6 @@ use Rattle.emit_rules.proofs.Units.{FallsTo, falls_here, falls_past, if_branch, 
 use Rattle.mach_ir.specs.declared.op.CopyKind.{CopyKind}
 use Rattle.lin_ir.specs.Formed.{IsSelfMove, is_self_move, IsLocation, is_home, is_spare, IsHome, is_colour, is_slot}
 use Rattle.lin_ir.specs.declared.lin.Lin.{Lin}
-use Rattle.std.proofs.lemmas.Bool.Decides.{nat_tests}
 use Rattle.emit_rules.specs.Sizes.{least_words, words_at_least}
 
 pub data Acts : List Piece → Type 0 where
@@ -176,15 +176,6 @@ moved-acts : (t : ℕ) (from to : Loc) (same : Bool) → same_loc from to ≡ sa
 moved-acts t from to true e apart a b = absurd (apart refl)
 moved-acts t from to false e apart a b = copied-acts t from to a b
 
-same-is : (a b : Loc) → same_loc a b ≡ true → a ≡ b
-same-is (loc.Machine a) (loc.Machine b) e = let h : a ≡ b = grind (arith, nat_tests) in ap (λ (n : ℕ). loc.Machine n) h
-same-is (loc.Slot a) (loc.Slot b) e = let h : a ≡ b = grind (arith, nat_tests) in ap (λ (n : ℕ). loc.Slot n) h
-same-is (loc.Machine a) (loc.Slot b) e = cc
-same-is (loc.Machine a) loc.Unset e = cc
-same-is (loc.Slot a) (loc.Machine b) e = cc
-same-is (loc.Slot a) loc.Unset e = cc
-same-is loc.Unset b e = cc
-
 -- ---- parts
 
 -- what a part is for: a line that is no label and no entry of a handler, and moves nothing to where it is
@@ -275,7 +266,7 @@ part_acts t f d (lin.Flow g) args results h = acts-some (flow-acts t g args resu
 pub copies_other : (m : Lin) (kind : CopyKind) (from to : Spot) → IsLocation m from.loc → IsLocation m to.loc →
     (IsSelfMove (record { op = lin.Op (op.Pure (pure.Copy kind)); args = from ∷ []; results = to ∷ [] }) from to → ⊥) →
     ActsAt (lin.Op (op.Pure (pure.Copy kind))) (from ∷ []) (to ∷ [])
-copies_other m kind from to a b apart = (is-set a, is-set b, λ e. apart (is_self_move (same-is from.loc to.loc e)))
+copies_other m kind from to a b apart = (is-set a, is-set b, λ e. apart (is_self_move (same_loc_is from.loc to.loc e)))
 
 -- ---- code after an exit that has no words
 

@@ -35,7 +35,7 @@ pub marks-join : (xs ys : List Piece) → marks_in (xs ++ ys) ≡ marks_in xs ++
 marks-join [] ys = refl
 marks-join (x ∷ xs) ys = ap (λ (t : List Descr). mark_in x ++ t) (marks-join xs ys) ∙ sym (append_assoc (mark_in x) (marks_in xs) (marks_in ys))
 
-allows-unmarked : (f : LinOp) → Allows NoMark f None
+pub allows-unmarked : (f : LinOp) → Allows NoMark f None
 allows-unmarked f = record {
   known = λ j h. refl;
   place = λ l is. refl;

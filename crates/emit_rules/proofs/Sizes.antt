@@ -63,7 +63,7 @@ use Rattle.emit_rules.specs.Sizes.{words_at_most, indexes_of, line_bound, lines_
 pub record Short (n : ℕ) (ps : List Piece) : Type 0 where
   pub fits : words_at_most ps ≤ n
 
-words-join : (xs ys : List Piece) → words_at_most (xs ++ ys) ≡ words_at_most xs + words_at_most ys
+pub words-join : (xs ys : List Piece) → words_at_most (xs ++ ys) ≡ words_at_most xs + words_at_most ys
 words-join [] ys = omega arith
 words-join (x ∷ xs) ys = let e : words_at_most (xs ++ ys) ≡ words_at_most xs + words_at_most ys = words-join xs ys in omega arith
 

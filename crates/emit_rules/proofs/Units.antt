@@ -1,6 +1,6 @@
 -- Exits that have no words: which lines they are, and what holds of the part of a line before any code.
 use Rattle.std.proofs.Common.{◌≡◌, ℕ, Bool, true, false, cond, ◌&&◌, List, [], ◌∷◌, Option, refl, sym, ap, ◌∙◌, subst}
-use Rattle.std.proofs.lemmas.Bool.{eqb-true}
+use Rattle.std.proofs.lemmas.Bool.{eqb-true, and_parts}
 use Rattle.mach_ir.specs.declared.mach.Test.{Test}
 use Rattle.lin_ir.specs.Formed.{is_label, label_of}
 use Rattle.lin_ir.specs.Meaning.{after_label, has_label, passes_frame}
@@ -39,10 +39,6 @@ pub record FreeExit (g : LinOp) (next : List Line) : Type 0 where
   pub is : g ≡ lin.Flow (flow.Exit to)
   pub falls : FallsTo to next
 
-both : (a b : Bool) → (a && b) ≡ true → (a ≡ true) × (b ≡ true)
-both true b e = (refl, e)
-both false b e = cc
-
 pub falls_is : (l : ℕ) (next : List Line) → falls_to l next ≡ true → FallsTo l next
 falls_is l [] e = cc
 falls_is l (i ∷ next) e = by (has_label l i.op) refl e (λ h. falls_is l next h)
@@ -54,7 +50,7 @@ falls_is l (i ∷ next) e = by (has_label l i.op) refl e (λ h. falls_is l next 
     by : (b : Bool) → has_label l i.op ≡ b → cond b (tests_first next) (is_label i.op && falls_to l next) ≡ true → (falls_to l next ≡ true → FallsTo l next) →
         FallsTo l (i ∷ next)
     by true has e ih = here next has e
-    by false other e ih = let h = both (is_label i.op) (falls_to l next) e in falls_past other h.0 (ih h.1)
+    by false other e ih = let h = and_parts (is_label i.op) (falls_to l next) e in falls_past other h.0 (ih h.1)
 
 -- a label, as a line
 pub record IsLabelLine (g : LinOp) : Type 0 where

@@ -1,7 +1,6 @@
 -- What is promised of the image that a checked file is compiled to, for those who compile.
-use Rattle.std.proofs.Common.{◌≡◌, ◌<◌, ℕ, All, List, None, get_or}
+use Rattle.std.proofs.Common.{◌≡◌, ◌<◌, ℕ, All, List, None}
 use Rattle.cmm_front.specs.FileOf.{IsFileOf}
-use Rattle.cmm_lex.proofs.Languages.{AreBytes}
 use Rattle.cmm_tree.specs.Tree.{FileTree}
 use Rattle.correctness.specs.Bounds.{IsBounded, IsRoomy}
 use Rattle.correctness.specs.Correct.{IsCorrect}
@@ -17,15 +16,6 @@ use Rattle.layout_rules.specs.TooLarge.{first_too_large}
 use Rattle.file_promise.specs.Made.{IsExact}
 use Rattle.file_promise.specs.Made.{IsMadeFor}
 use Rattle.stages.specs.declared.stage.Stage.{Stage}
-
-pub all_bytes : (text : List ℕ) → ((i : ℕ) → get_or text i 0 < 256) → All (λ b. b < 256) text
-all_bytes = bytes.all_bytes
-
-pub bytes_of : (text : List ℕ) → All (λ b. b < 256) text → AreBytes text
-bytes_of = bytes.bytes_of
-
-pub made_for_once : (file : FileTree) (t u : Tables) → IsMadeFor file t → IsMadeFor file u → t ≡ u
-made_for_once = once.made_for_once
 
 pub stage_text_once : (file : FileTree) (stage : Stage) (a b : List ℕ) → IsStageText file stage a → IsStageText file stage b → a ≡ b
 stage_text_once = listed.stage_text_once

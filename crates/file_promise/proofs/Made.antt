@@ -1,7 +1,8 @@
 -- What is made of each function of an accepted file is known whole, and it can be laid out.
-use Rattle.std.proofs.Common.{◌≡◌, ℕ, zero, suc, List, [], ◌∷◌, Some, None, length, ap, refl, subst}
+use Rattle.std.proofs.Common.{◌≡◌, ℕ, zero, suc, List, [], ◌∷◌, Some, length, ap, refl, subst}
 use Rattle.std.specs.Prelude.{Contains, slice_get}
 use Rattle.std.specs.List.{AllByRecursion, AllZip}
+use Rattle.std.proofs.lemmas.Option.{none-some, same_Some}
 use Rattle.accepted_files.proofs.Files.{file_can}
 use Rattle.code_bounds.proofs.Known.{chained}
 use Rattle.cmm_front.specs.FileOf.{IsFileOf}
@@ -24,12 +25,6 @@ use Rattle.compiled_files.specs.Made.{IsFunctionMade}
 use Rattle.rv_pieces.specs.declared.piece.Pieces.{Pieces}
 use Rattle.selection_accepted.proofs.Promised.{function_accepted}
 use Rattle.selection_accepted.proofs.Selecting.{definitions}
-
-none_some : {A : Type 0} (x : A) → None ≡ Some x → ⊥
-none_some x e = cc
-
-some_same : {A : Type 0} (x y : A) → Some x ≡ Some y → x ≡ y
-some_same x y e = cc
 
 module _ (text : List ℕ) (file : FileTree) (is : IsFileOf text file) where
   function_chained : (tree : FunctionTree) → Contains (functions file) tree → (p : Pieces) → (made : IsFunctionMade tree p) →
@@ -84,10 +79,10 @@ module _ (text : List ℕ) (file : FileTree) (is : IsFileOf text file) where
 
   chains : (fs : List FunctionTree) (ps : List Pieces) → ((tree : FunctionTree) → Contains fs tree → Contains (functions file) tree) →
       AllZip IsFunctionMade fs ps → (k : ℕ) (tree : FunctionTree) → slice_get fs k ≡ Some tree → HasChain tree ps k
-  chains [] ps among made k tree at = absurd (none_some tree at)
+  chains [] ps among made k tree at = absurd (none-some tree at)
   chains (f ∷ fs) [] among made k tree at = absurd made
   chains (f ∷ fs) (p ∷ ps) among made zero tree at =
-      let same : f ≡ tree = some_same f tree at in
+      let same : f ≡ tree = same_Some f tree at in
       subst (λ (g : FunctionTree). HasChain g (p ∷ ps) 0) same (record {
         lin = made.0.lin;
         descrs = made.0.descriptors;

@@ -9,6 +9,7 @@ use Rattle.bs_words.specs.declared.values.Value.{Value}
 use Rattle.bs_words.specs.declared.values.Value.TheVariants.{Word, Block, Function}
 use Rattle.cmm_data.specs.Contents.{DataByte, Plain, OfFunction, number_of, word_of_bytes, cell_of, cells_of}
 use Rattle.layout_rules.specs.Laid.{address_of_place, address_of_value}
+use Rattle.linear_machine.proofs.Growing.{get_front}
 use Rattle.first_statics.proofs.Bytes.{WordsFit, power_rises}
 
 -- ---- bytes
@@ -22,11 +23,6 @@ IsDataByte count (OfFunction f) = f < count
 pub record AreWhole (offset : ℕ) (bs : List DataByte) : Type 0 where
   pub each : (i f : ℕ) → (offset + i) % 8 ≡ 0 → slice_get bs i ≡ Some (OfFunction f) → i + 8 ≤ length bs
 
-left_get : {A : Type 0} (xs ys : List A) (i : ℕ) → i < length xs → slice_get (xs ++ ys) i ≡ slice_get xs i
-left_get [] ys i h = absurd (omega (arith, h))
-left_get (x ∷ xs) ys zero h = refl
-left_get (x ∷ xs) ys (suc i) h = left_get xs ys i (omega (arith, h))
-
 right_get : {A : Type 0} (xs ys : List A) (i : ℕ) → slice_get (xs ++ ys) (length xs + i) ≡ slice_get ys i
 right_get [] ys i = let e : 0 + i ≡ i = omega arith in ap (slice_get ys) e
 right_get (x ∷ xs) ys i = let e : length (x ∷ xs) + i ≡ suc (length xs + i) = omega arith in ap (slice_get (x ∷ (xs ++ ys))) e ∙ right_get xs ys i
@@ -38,7 +34,7 @@ whole_both offset xs ys p q = record { each = each }
     each i f even is = ⊎_elim first second (cases_lt i (length xs))
       where
         first : i < length xs → i + 8 ≤ length (xs ++ ys)
-        first lt = let own = p.each i f even (sym (left_get xs ys i lt) ∙ is) in omega (arith, own, length-append xs ys)
+        first lt = let own = p.each i f even (sym (get_front xs ys i lt) ∙ is) in omega (arith, own, length-append xs ys)
 
         second : length xs ≤ i → i + 8 ≤ length (xs ++ ys)
         second le =
@@ -148,19 +144,6 @@ cells_are count (a ∷ b ∷ c ∷ d ∷ e ∷ f ∷ g ∷ h ∷ rest) p =
 pub record AreEnough (bytes cells : ℕ) : Type 0 where
   pub all : bytes ≤ 8 * cells
   pub no_more : 8 * cells < bytes + 8
-
-pub cells_enough : (bs : List DataByte) → AreEnough (length bs) (length (cells_of bs))
-cells_enough [] = record { all = omega arith; no_more = omega arith }
-cells_enough (a ∷ []) = record { all = omega arith; no_more = omega arith }
-cells_enough (a ∷ b ∷ []) = record { all = omega arith; no_more = omega arith }
-cells_enough (a ∷ b ∷ c ∷ []) = record { all = omega arith; no_more = omega arith }
-cells_enough (a ∷ b ∷ c ∷ d ∷ []) = record { all = omega arith; no_more = omega arith }
-cells_enough (a ∷ b ∷ c ∷ d ∷ e ∷ []) = record { all = omega arith; no_more = omega arith }
-cells_enough (a ∷ b ∷ c ∷ d ∷ e ∷ f ∷ []) = record { all = omega arith; no_more = omega arith }
-cells_enough (a ∷ b ∷ c ∷ d ∷ e ∷ f ∷ g ∷ []) = record { all = omega arith; no_more = omega arith }
-cells_enough (a ∷ b ∷ c ∷ d ∷ e ∷ f ∷ g ∷ h ∷ rest) =
-    let more = cells_enough rest in
-    record { all = omega (arith, more.all); no_more = omega (arith, more.no_more) }
 
 -- The cell after so many whole ones.
 pub cell_at : (j : ℕ) (before eight after : List DataByte) → length before ≡ 8 * j → length eight ≡ 8 →

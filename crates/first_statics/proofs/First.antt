@@ -1,7 +1,7 @@
 -- The memory in which a run of an image begins has the static data of its file.
 use Rattle.std.proofs.Common.{◌≡◌, ℕ, zero, suc, ◌+◌, ◌-◌, ◌*◌, ◌/◌, ◌%◌, ◌^◌, ◌<◌, ◌≤◌, Bool, true, false, cond, ◌==◌, nat_le, List, [], ◌∷◌, ◌++◌, length, map, flat_map, drop, Option, Some, None, refl, ap, ◌∙◌, sym, subst, ◌⊎◌, inl, inr, length-append, eq-eqb, arith}
 use Rattle.std.specs.Prelude.{slice_index}
-use Rattle.std.proofs.lemmas.Bool.{le-leb, eqb-true}
+use Rattle.std.proofs.lemmas.Bool.{le-leb, eqb-true, and_from}
 use Rattle.std.proofs.lemmas.List.{length-take-le}
 use Rattle.bs_words.specs.Fits.{data_limit, data_start}
 use Rattle.bs_words.specs.Memory.{StaticList, cell_at, is_root}
@@ -13,7 +13,7 @@ use Rattle.cmm_data.proofs.Laws.{end_of_items-above, end_of_data-first_memory}
 use Rattle.cmm_tree.specs.Tree.{FunctionTree, DataListTree, FileTree, functions}
 use Rattle.image_form.specs.Image.{stub}
 use Rattle.image_form.specs.Tables.{Tables}
-use Rattle.image_rules.proofs.Placed.{end_of_lists-above, data_length}
+use Rattle.image_rules.proofs.Placed.{end_of_lists-above, data_length, items_length, cells_enough}
 use Rattle.layout_rules.specs.declared.form.Form.{Form}
 use Rattle.layout_rules.specs.Conditions.{IsFileLaid}
 use Rattle.layout_rules.specs.Forms.{total_words}
@@ -29,9 +29,9 @@ use Rattle.rv_machine.specs.Relocation as machine
 use Rattle.rv_machine.specs.Start.{data_region, start_memory}
 use Rattle.rv_pieces.specs.declared.piece.Pieces.{Pieces}
 use Rattle.accepted_files.specs.Given.{HasGivenData}
-use Rattle.first_statics.proofs.Cells.{IsCell, cells_enough}
-use Rattle.first_statics.proofs.Found.{value_at, static_is, word, IsFound, found, IsRootValue, root_found, root_low, both_true}
-use Rattle.first_statics.proofs.Lists.{AreSound, file_sound, first_sound, items_length, words_from, data_words}
+use Rattle.first_statics.proofs.Cells.{IsCell}
+use Rattle.first_statics.proofs.Found.{value_at, static_is, word, IsFound, found, IsRootValue, root_found, root_low}
+use Rattle.first_statics.proofs.Lists.{AreSound, file_sound, first_sound, words_from, data_words}
 
 -- ---- functions
 
@@ -188,7 +188,7 @@ module _ (file : FileTree) (ps : List Pieces) (image : Tables) (laid : IsLaidOut
     unfolding data_region
     held_is bytes others x above below =
         ap (λ b. cond b (slice_index (words_of_bytes bytes) ((x - data_start) / 8)) (held_word others x))
-        (both_true (nat_le data_start x) (nat_le (x + 1) (data_start + length bytes)) (le-leb data_start x above) (le-leb (x + 1) (data_start + length bytes) (omega (arith, below))))
+        (and_from (nat_le data_start x) (nat_le (x + 1) (data_start + length bytes)) (le-leb data_start x above) (le-leb (x + 1) (data_start + length bytes) (omega (arith, below))))
 
     at_cell : (x : ℕ) (v : Value) → statics_of (first_memory file) x ≡ Some v → (x % 8 ≡ 0) × (value_at (statics file) x ≡ Some v)
     at_cell x v e = by (x % 8 == 0) refl e

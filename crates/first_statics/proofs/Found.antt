@@ -2,7 +2,7 @@
 use Rattle.std.proofs.Common.{◌≡◌, ℕ, zero, suc, ◌+◌, ◌-◌, ◌*◌, ◌/◌, ◌%◌, ◌^◌, ◌<◌, ◌≤◌, Bool, true, false, cond, ◌&&◌, ◌==◌, nat_le, List, [], ◌∷◌, ◌++◌, length, map, Option, Some, None, refl, ap, ◌∙◌, sym, subst, ◌⊎◌, inl, inr, ⊎_elim, length-append, append_assoc, arith}
 use Rattle.std.specs.Prelude.{slice_index, slice_index_or, IsSome}
 use Rattle.std.specs.List.{AllByRecursion}
-use Rattle.std.proofs.lemmas.Bool.{and_parts, leb-true, le-leb, eqb-true}
+use Rattle.std.proofs.lemmas.Bool.{and_parts, leb-true, le-leb, eqb-true, false≢true, and_from}
 use Rattle.std.proofs.lemmas.Nat.{pow-add}
 use Rattle.std.proofs.lemmas.List.{length-map, get_or_append_left, get_or-append-add, get_or-map}
 use Rattle.std.proofs.lemmas.Grind.{flat_map-append}
@@ -17,13 +17,14 @@ use Rattle.cmm_data.proofs.Laws.{end_of_items-above}
 use Rattle.cmm_data.proofs.Steps.{length-bytes_at}
 use Rattle.cmm_data.proofs.Walk.{sound-first}
 use Rattle.cmm_tree.specs.Tree.{DatumTree, Val, Address, DataItemTree, DataListTree, FileTree, functions}
-use Rattle.image_rules.proofs.Placed.{end_of_lists-above}
+use Rattle.image_rules.proofs.Placed.{end_of_lists-above, items_length, cells_enough}
 use Rattle.layout_rules.specs.Laid.{address_of_place}
 use Rattle.linear_machine.specs.Contents.{static_in}
 use Rattle.moving_laws.specs.Stands.{Among}
+use Rattle.moving_laws.proofs.Walk.{among_append}
 use Rattle.accepted_files.specs.Given.{IsGiven}
-use Rattle.first_statics.proofs.Cells.{IsCell, cells_are, cells_enough, cell_at as cell_behind}
-use Rattle.first_statics.proofs.Lists.{AreSound, IsFirstSound, first_sound, items_length, items_bytes, statics_from, word_at, words_from, own_bytes, own_fill}
+use Rattle.first_statics.proofs.Cells.{IsCell, cells_are, cell_at as cell_behind}
+use Rattle.first_statics.proofs.Lists.{AreSound, IsFirstSound, first_sound, items_bytes, statics_from, word_at, words_from, own_bytes, own_fill}
 use Rattle.first_statics.proofs.Symbols.{IsOfFile, symbol_of_file}
 
 -- ---- the cell at an address, as the first list that has it
@@ -148,11 +149,6 @@ module _ (file : FileTree) (entries : List ℕ) (low : (f : ℕ) → address_of_
 
 -- ---- root cells
 
-pub among_both : (x : ℕ) (xs ys : List ℕ) → Among x (xs ++ ys) → Among x xs ⊎ Among x ys
-among_both x [] ys h = inr h
-among_both x (a ∷ xs) ys (inl e) = inl (inl e)
-among_both x (a ∷ xs) ys (inr h) = ⊎_elim (λ own. inl (inr own)) (λ later. inr later) (among_both x xs ys h)
-
 -- what a root cell holds
 abbrev pub IsRootValue : ℕ → ℕ → Value → Type 0
 IsRootValue n end (Word w) = (w % 2 ≡ 1) ⊎ ((data_start ≤ w) × (w ≤ end))
@@ -181,9 +177,6 @@ low_bytes (suc k) w h =
 odd_word : (w rest : ℕ) → w % 2 ≡ 1 → (w % 256 + 256 * rest) % 2 ≡ 1
 odd_word w rest h = omega (arith, h)
 
-nothing : false ≡ true → ⊥
-nothing e = cc
-
 root_symbol : (file : FileTree) (o : Option Value) → data_end file < 2 ^ 64 → ((v : Value) → o ≡ Some v → IsOfFile (length (functions file)) (data_end file) v) → IsSome o →
     (length (symbol_bytes o) ≡ 8) × IsRootValue (length (functions file)) (data_end file) (cell_of (symbol_bytes o))
 root_symbol file (Some (Word a)) small h some =
@@ -192,7 +185,7 @@ root_symbol file (Some (Word a)) small h some =
     (refl, subst (λ w. IsRootValue (length (functions file)) (data_end file) (Word w)) (sym same) (inr own))
 root_symbol file (Some (Function f)) small h some = (refl, h (Function f) refl)
 root_symbol file (Some (Block serial offset)) small h some = absurd (h (Block serial offset) refl)
-root_symbol file None small h some = absurd (nothing some)
+root_symbol file None small h some = absurd (false≢true some)
 
 -- a root item that stands here
 root_datum : (file : FileTree) (address : ℕ) (datum : DatumTree) (r : ℕ) → data_end file < 2 ^ 64 → keeps_rule address datum ≡ true → IsGiven file datum →
@@ -205,7 +198,7 @@ root_datum file address (Val (Some w)) r small keeps given (inl e) =
       long = refl;
       value = inl (odd_word w (word_of_bytes (little_endian 7 (w / 256))) (eqb-true (w % 2) 1 both.1));
     }
-root_datum file address (Val None) r small keeps given (inl e) = absurd (nothing given)
+root_datum file address (Val None) r small keeps given (inl e) = absurd (false≢true given)
 root_datum file address (Val w) r small keeps given (inr z) = absurd z
 root_datum file address (Address true name_at name) r small keeps given (inl e) =
     let own = root_symbol file (value_of_symbol file name) small (symbol_of_file file name) given in
@@ -232,7 +225,7 @@ root_item file address (i ∷ items) r small within none given among =
     let next = address + size_at address i.datum in
     let sound = sound-first address i items within none in
     ⊎_elim (first sound.rule) (λ later. second (root_item file next items r small sound.within sound.behind given.1 later))
-    (among_both r (root_at address i.datum) (roots_among (items_from next items)) among)
+    (among_append r (root_at address i.datum) (roots_among (items_from next items)) among)
   where
     next : ℕ
     next = address + size_at address i.datum
@@ -272,7 +265,7 @@ item_low : (address : ℕ) (items : List DataItemTree) (r : ℕ) → Among r (ro
 item_low address [] r among = absurd among
 item_low address (i ∷ items) r among =
     let next = address + size_at address i.datum in
-    ⊎_elim (own address i.datum r) (λ later. let l = item_low next items r later in omega (arith, l)) (among_both r (root_at address i.datum) (roots_among (items_from next items)) among)
+    ⊎_elim (own address i.datum r) (λ later. let l = item_low next items r later in omega (arith, l)) (among_append r (root_at address i.datum) (roots_among (items_from next items)) among)
   where
     by : (b : Bool) (address r : ℕ) → Among r (cond b (address ∷ []) []) → address ≤ r
     by true address r (inl e) = omega (arith, e)
@@ -287,7 +280,7 @@ split_roots : (end : ℕ) (d : DataListTree) (lists : List DataListTree) (r : �
 split_roots end d lists r among =
     let own = items_from (start_behind end) d.items in
     let later = items_of_lists (lists_behind (end_behind end d) lists) in
-    among_both r (roots_among own) (roots_among later)
+    among_append r (roots_among own) (roots_among later)
     (subst (Among r) (flat_map-append (λ (i : PlacedItem). root_at i.address i.datum) own later) among)
 
 pub root_low : (end : ℕ) (lists : List DataListTree) (r : ℕ) → Among r (roots_among (items_of_lists (lists_behind end lists))) → end ≤ r
@@ -304,13 +297,8 @@ pub record IsRootFound (file : FileTree) (statics : List StaticList) (r : ℕ) :
   pub there : value_at statics r ≡ Some held
   pub value : IsRootValue (length (functions file)) (data_end file) held
 
-pub both_true : (a b : Bool) → a ≡ true → b ≡ true → (a && b) ≡ true
-both_true true true e f = refl
-both_true false b e f = absurd (cc)
-both_true true false e f = absurd (cc)
-
 in_list : (l : StaticList) (r : ℕ) → l.start ≤ r → r + 1 ≤ l.start + l.size → has_byte l r ≡ true
-in_list l r low high = both_true (nat_le l.start r) (nat_le (r + 1) (l.start + l.size)) (le-leb l.start r low) (le-leb (r + 1) (l.start + l.size) high)
+in_list l r low high = and_from (nat_le l.start r) (nat_le (r + 1) (l.start + l.size)) (le-leb l.start r low) (le-leb (r + 1) (l.start + l.size) high)
 
 past_list : (l : StaticList) (r : ℕ) → l.start + l.size ≤ r → has_byte l r ≡ false
 past_list l r high = by (has_byte l r) refl

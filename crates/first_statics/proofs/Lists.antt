@@ -12,17 +12,17 @@ use Rattle.bs_words.specs.declared.values.Value.{Value}
 use Rattle.bs_words.specs.declared.values.Value.TheVariants.{Word, Block, Function}
 use Rattle.cmm_data.specs.Contents.{DataByte, Plain, OfFunction, little_endian, zeros, integer, symbol_bytes, bytes_at, bytes_of_items, cells_of, static_list, statics}
 use Rattle.cmm_data.specs.Faults.{keeps_rule, first_fault, data_fault_of}
-use Rattle.cmm_data.specs.Placement.{size_at, items_from, end_of_items, start_behind, end_behind, end_of_lists, lists_behind, lists_of, items_of_lists, value_of_symbol, data_bytes}
+use Rattle.cmm_data.specs.Placement.{size_at, items_from, start_behind, end_behind, end_of_lists, lists_behind, lists_of, items_of_lists, value_of_symbol, data_bytes}
 use Rattle.cmm_data.proofs.Steps.{length-bytes_at, end-within}
 use Rattle.cmm_data.proofs.Walk.{sound-first, sound-list, start-within}
 use Rattle.cmm_tree.specs.Tree.{DatumTree, Define, Byte, Half, Int, Val, Address, Skip, Align, Text, Global, AFloat, DataItemTree, DataListTree, FileTree, functions}
-use Rattle.image_rules.proofs.Placed.{end_of_lists-above}
+use Rattle.image_rules.proofs.Placed.{end_of_lists-above, items_length, cells_enough}
 use Rattle.layout_rules.proofs.Rules.{all_append}
 use Rattle.layout_rules.specs.Laid.{address_of_place, cell_bytes, data_of}
 use Rattle.rv_machine.specs.Memory.{words_of_bytes}
 use Rattle.accepted_files.specs.Given.{IsGiven, AreGiven, HasGivenData}
 use Rattle.first_statics.proofs.Bytes.{word_bytes, WordsFit, fit_more, fit_both, words_cut}
-use Rattle.first_statics.proofs.Cells.{IsDataByte, AreWhole, whole_both, word_in, cells_fit, cells_enough}
+use Rattle.first_statics.proofs.Cells.{IsDataByte, AreWhole, whole_both, word_in, cells_fit}
 use Rattle.first_statics.proofs.Symbols.{IsOfFile, symbol_of_file}
 
 -- ---- bytes of items
@@ -140,14 +140,6 @@ items_whole symbols address (i ∷ items) within none =
 -- from the start of a list
 whole_from : (start : ℕ) (bs : List DataByte) → start % 8 ≡ 0 → AreWhole start bs → AreWhole 0 bs
 whole_from start bs even p = record { each = λ i f here is. p.each i f (omega (arith, even, here)) is }
-
-pub items_length : (symbols : List ℕ → Option Value) (address : ℕ) (items : List DataItemTree) →
-    address + length (bytes_of_items symbols (items_from address items)) ≡ end_of_items address items
-items_length symbols address [] = omega arith
-items_length symbols address (i ∷ items) =
-    let own = bytes_at symbols address i.datum in
-    let next = address + size_at address i.datum in
-    omega (arith, length-append own (bytes_of_items symbols (items_from next items)), length-bytes_at symbols address i.datum, items_length symbols next items)
 
 -- ---- lists
 

@@ -1,6 +1,6 @@
 -- Exact descriptors name what is live.
 use Rattle.std.proofs.Common.{◌≡◌, ◌≢◌, ◌↔◌, ℕ, suc, ◌+◌, ◌-◌, ◌*◌, ◌/◌, ◌%◌, ◌<◌, Bool, true, false, cond, nat_eq, List, [], ◌∷◌, map, length, refl, sym, ap, ◌∙◌, subst, arith}
-use Rattle.std.proofs.lemmas.Bool.{true≢false, eq-eqb, eqb-true}
+use Rattle.std.proofs.lemmas.Bool.{true≢false, eq-eqb, eqb-true, ne_eqb}
 use Rattle.std.proofs.lemmas.List.{get_or-map, length-map}
 use Rattle.std.proofs.lemmas.List.Elements.{Contains-get_or}
 use Rattle.std.specs.List.{AllPairs, Contains}
@@ -8,30 +8,24 @@ use Rattle.std.specs.Prelude.{slice_index_or}
 use Rattle.bs_words.specs.declared.types.Comp.TheVariants as comp
 use Rattle.bs_words.specs.declared.types.Loc.{Loc}
 use Rattle.bs_words.specs.declared.types.Loc.TheVariants as loc
-use Rattle.lin_ir.specs.Descriptors.{frame_bytes, IsEntry, of_register, of_slot, ComesBefore, register_first, rising, IsDescr, Describes, AreExact, NamesLives}
+use Rattle.bs_words.proofs.Lists.{head_same, tail_same}
+use Rattle.lin_ir.specs.Descriptors.{frame_bytes, IsEntry, of_register, of_slot, ComesBefore, IsDescr, Describes, AreExact, NamesLives}
 use Rattle.lin_ir.specs.Formed.{IsHome}
 use Rattle.lin_ir.specs.Meaning.{passes_frame}
 use Rattle.lin_ir.specs.Walks.{Stands, LiveAt}
 use Rattle.lin_ir.specs.declared.descr.Descr.{Descr}
 use Rattle.lin_ir.specs.declared.lin.Line.{Line}
 use Rattle.lin_ir.specs.declared.lin.Lin.{Lin}
-use Rattle.linear_rules.proofs.Homes.{IsIn, is_first, is_later, in_of, contains_of}
+use Rattle.linear_rules.proofs.Homes.{IsIn, is_first, is_later, in_of, contains_of, in_map}
 use Rattle.linear_rules.proofs.Marks.{all_in}
 use Rattle.linear_rules.proofs.Walked.{stands_tail}
 use Rattle.tidy_rules.specs.Regular.{IsRegular}
-use Rattle.tidy_rules.proofs.Leaving.{first_same, rest_same}
 use Rattle.tidy_rules.proofs.Living.{live_home}
 use Rattle.tidy_rules.proofs.Ends.{same_tail}
+use Rattle.lin_laws.proofs.Forms.{not_before}
 use Rattle.frame_names.specs.Names.{location, traps_of, locations, names_at, names_by}
 
 -- ---- entries
-
-not_equal : (n k : ℕ) → (n ≡ k → ⊥) → nat_eq n k ≡ false
-not_equal n k ne = by (nat_eq n k) refl
-  where
-    by : (b : Bool) → nat_eq n k ≡ b → nat_eq n k ≡ false
-    by false e = e
-    by true e = absurd (ne (eqb-true n k e))
 
 location_is : (traps : ℕ) (l : Loc) (entry : ℕ) → IsEntry traps l entry → location traps entry ≡ l
 location_is traps (loc.Machine r) entry (of_register) =
@@ -42,7 +36,7 @@ location_is traps (loc.Slot k) entry (of_slot) =
     let even : (8 * k + 16 * traps) % 2 ≡ 0 = omega arith in
     let slot : (8 * k + 16 * traps - 16 * traps) / 8 ≡ k = omega arith in
     ap (λ b. cond b (loc.Machine ((8 * k + 16 * traps) / 2)) (loc.Slot ((8 * k + 16 * traps - 16 * traps) / 8)))
-    (not_equal ((8 * k + 16 * traps) % 2) 1 (λ e. one_none ((8 * k + 16 * traps) % 2) even e)) ∙ ap loc.Slot slot
+    (ne_eqb ((8 * k + 16 * traps) % 2) 1 (λ e. one_none ((8 * k + 16 * traps) % 2) even e)) ∙ ap loc.Slot slot
   where
     one_none : (n : ℕ) → n ≡ 0 → n ≡ 1 → ⊥
     one_none n e f = omega (arith, e, f)
@@ -57,13 +51,6 @@ entry_of : (m : Lin) (traps : ℕ) (l : Loc) → IsHome m l → (entry : ℕ) ×
 entry_of m traps (loc.Machine r) h = (2 * r + 1, of_register)
 entry_of m traps (loc.Slot k) h = (8 * k + 16 * traps, of_slot)
 entry_of m traps loc.Unset h = elim h [ ]
-
-not_before : (a : ℕ) → ComesBefore a a → ⊥
-not_before a (register_first one two) = apart (a % 2) one two
-  where
-    apart : (k : ℕ) → k ≡ 1 → k ≡ 0 → ⊥
-    apart k e f = omega (arith, e, f)
-not_before a (rising same lt) = omega (arith, lt)
 
 traps_are : (size frame traps : ℕ) → size ≡ frame + 16 * traps → (size - frame) / 16 ≡ traps
 traps_are size frame traps e = omega (arith, e)
@@ -82,10 +69,6 @@ mapped {A} {B} f y (x ∷ xs) z = by (f x) refl (map f xs) z (mapped f y xs)
     by : (k : B) → f x ≡ k → (ks : List B) → IsIn y (k ∷ ks) → (IsIn y ks → Mapped f y xs) → Mapped f y (x ∷ xs)
     by k e ks is_first ih = record { of = x; among = is_first; is = e }
     by k e ks (is_later z) ih = let h = ih z in record { of = h.of; among = is_later h.among; is = h.is }
-
-in_map : {A B : Type 0} (f : A → B) {x : A} {xs : List A} → IsIn x xs → IsIn (f x) (map f xs)
-in_map f is_first = is_first
-in_map f (is_later z) = is_later (in_map f z)
 
 -- the descriptor that is found, if there is one
 data Finds (m : Lin) (left : ℕ) (ds : List Descr) : List Loc → Type 0 where
@@ -125,8 +108,8 @@ module _ (m : Lin) (regular : IsRegular m) (ds : List Descr) (exact : AreExact m
       let same : x.line ∷ x.next ≡ i ∷ next = same_tail (stands_tail x.stands) (stands_tail s) len in
       record {
         tries = x.tries;
-        is = subst (λ j. IsDescr m j next x.tries d) (first_same x.line i x.next next same)
-            (subst (λ js. IsDescr m x.line js x.tries d) (rest_same x.line i x.next next same) x.is);
+        is = subst (λ j. IsDescr m j next x.tries d) (head_same same)
+            (subst (λ js. IsDescr m x.line js x.tries d) (tail_same same) x.is);
       }
 
   module _ {i : Line} {next : List Line} (s : Stands i next m.code) (d : Descr) (h : IsOf i next d) where

@@ -12,9 +12,9 @@ use Rattle.lin_ir.specs.Descriptors.{frame_bytes, has_frame_point, IsWithin}
 use Rattle.lin_ir.specs.Walks.{at_entry, by_walk}
 use Rattle.lin_ir.specs.declared.descr.Descr.{Descr}
 use Rattle.lin_ir.specs.declared.lin.Lin.{Lin}
-use Rattle.lin_laws.proofs.Places.{got}
 use Rattle.lin_laws.specs.declared.position.Position.{Position}
 use Rattle.lin_flow.proofs.Searching.{pushed_kept, pushed_here}
+use Rattle.bs_words.proofs.Lists.{got}
 use Rattle.frame_tables.specs.Described.{described, AreDescribed}
 use Rattle.frame_tables.specs.Points.{ArePoints}
 use Rattle.frame_tables.specs.declared.after.Point.{Point}

@@ -6,6 +6,7 @@ use Rattle.std.proofs.lemmas.Bool.{cases_lt}
 use Rattle.std.proofs.lemmas.List.Elements.{All-nil}
 use Rattle.std.proofs.lemmas.Option.{slice_get_within, slice_get-get_or, get_or_from_slice_get}
 use Rattle.bs_words.specs.Contents.{contents}
+use Rattle.bs_words.proofs.Lists.{got}
 use Rattle.dataflow.specs.Flow.{IsPlace, WellFormed}
 use Rattle.dataflow.specs.Live.{IsLiveness}
 use Rattle.dataflow.specs.Rows.{row}
@@ -17,7 +18,7 @@ use Rattle.lin_ir.specs.declared.descr.Descr.{Descr}
 use Rattle.lin_ir.specs.declared.lin.Line.{Line}
 use Rattle.lin_ir.specs.declared.lin.Lin.{Lin}
 use Rattle.lin_laws.proofs.Entries.{is_descr}
-use Rattle.lin_laws.proofs.Places.{got, drop_is}
+use Rattle.lin_laws.proofs.Places.{drop_is}
 use Rattle.lin_laws.proofs.Walking.{live_at_by_graph}
 use Rattle.lin_laws.specs.Graph.{place_of, position, AreNumbered, IsAfter, IsGraphOf}
 use Rattle.lin_laws.specs.declared.position.Position.{Position}

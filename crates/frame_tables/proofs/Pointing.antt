@@ -8,6 +8,7 @@ use Rattle.std.proofs.lemmas.List.Elements.{All-nil, All-push, All-weaker, Conta
 use Rattle.std.proofs.lemmas.List.Quantifiers.{all_pairs_push}
 use Rattle.std.proofs.lemmas.Option.{slice_get_within}
 use Rattle.bs_words.specs.Contents.{contents}
+use Rattle.bs_words.proofs.Lists.{none_in, got, drop_none}
 use Rattle.dataflow.specs.declared.flow.Place as place
 use Rattle.lin_ir.specs.Descriptors.{frame_points}
 use Rattle.lin_ir.specs.Meaning.{passes_frame}
@@ -16,7 +17,7 @@ use Rattle.lin_ir.specs.declared.lin.Line.{Line}
 use Rattle.lin_ir.specs.declared.lin.LinOp.{LinOp}
 use Rattle.lin_ir.specs.declared.lin.Lin.{Lin}
 use Rattle.lin_laws.proofs.Numbers.{are_writes}
-use Rattle.lin_laws.proofs.Places.{none_in, got, drop_none, drop_is, place_drop, number_is, number_all}
+use Rattle.lin_laws.proofs.Places.{drop_is, place_drop, number_is, number_all}
 use Rattle.lin_laws.specs.Graph.{place_of, position, steps, raise_steps, AreWrites, AreNodes, IsAfter}
 use Rattle.lin_laws.specs.declared.position.Position.{Position}
 use Rattle.lin_flow.proofs.Searching.{pushed_cases, pushed_kept, pushed_here}

@@ -1,7 +1,7 @@
 -- What an exact descriptor says of a frame point in the machine.
 use Rattle.std.proofs.Common.{◌≡◌, ℕ, ◌+◌, ◌*◌, ◌/◌, ◌%◌, ◌<◌, ◌==◌, ◌||◌, Bool, true, false, cond, ◌⊎◌, inl, inr, ⊎_elim, List, [], ◌∷◌, length, refl, sym, ap, ◌∙◌, subst, arith}
 use Rattle.std.specs.List.{Contains}
-use Rattle.std.proofs.lemmas.Bool.{true≢false, eqb-true}
+use Rattle.std.proofs.lemmas.Bool.{true≢false, eqb-true, eq-eqb}
 use Rattle.bs_words.specs.declared.types.Comp.{Comp}
 use Rattle.bs_words.specs.declared.types.Comp.TheVariants as comp
 use Rattle.bs_words.specs.declared.types.Loc.{Loc}
@@ -26,7 +26,6 @@ use Rattle.mach_ir.specs.declared.op.Callee.{Callee}
 use Rattle.mach_ir.specs.declared.op.Calling.TheVariants as calling
 use Rattle.mach_ir.specs.declared.op.Op.TheVariants as op
 use Rattle.rv_machine.specs.Frames.{is_register, names_register, registers_named}
-use Rattle.function_stands.proofs.Parts.{same_yes}
 use Rattle.function_stands.proofs.Lost.{call_loses}
 
 -- ---- members
@@ -64,7 +63,7 @@ register_named r (e ∷ es) z =
     by true odd (inl same) = let half : r ≡ e / 2 = omega (arith, same) in inl half
     by true odd (inr y) = inr y
     by false even (inl same) =
-        let one : e % 2 ≡ 1 = omega (arith, same) in absurd (true≢false (sym (ap (λ x. x == 1) one ∙ same_yes 1) ∙ even))
+        let one : e % 2 ≡ 1 = omega (arith, same) in absurd (true≢false (sym (ap (λ x. x == 1) one ∙ eq-eqb 1 1 refl) ∙ even))
     by false even (inr y) = y
 
 -- the odd entry that names a register
@@ -140,7 +139,7 @@ module _ (m : Lin) (formed : WellFormed m) where
             by l live (by_slot {k} same is) =
                 let at : LiveAt m (loc.Slot k) comp.Val i next = subst (λ l. LiveAt m l comp.Val i next) same live in
                 let below = slot_below k (across_located (loc.Slot k) comp.Val at.across (stands_tail stands)) in
-                (k, is, subst (λ n. k < n) (sym slots) below, live_named (loc.Slot k) at (same_yes k))
+                (k, is, subst (λ n. k < n) (sym slots) below, live_named (loc.Slot k) at (eq-eqb k k refl))
 
         register_of : (r e : ℕ) → e % 2 ≡ 1 → r ≡ e / 2 → IsIn e d.entries → is_named (loc.Machine r) (named (length next)) ≡ true
         register_of r e odd half z =
@@ -151,7 +150,7 @@ module _ (m : Lin) (formed : WellFormed m) where
             by l live (by_register {r = q} same is) =
                 let e' : q ≡ r = omega (arith, is, half) in
                 let at : LiveAt m (loc.Machine r) comp.Val i next = subst (λ l. LiveAt m l comp.Val i next) (same ∙ ap loc.Machine e') live in
-                live_named (loc.Machine r) at (same_yes r)
+                live_named (loc.Machine r) at (eq-eqb r r refl)
             by l live (by_slot {k} same is) = absurd (omega (arith, odd, is))
 
 -- No register is named over a call.

@@ -1,7 +1,7 @@
 -- Exact descriptors, one for each frame point: each line has its own.
 use Rattle.std.proofs.Common.{◌≡◌, ℕ, suc, ◌+◌, ◌<◌, ◌≤◌, Bool, true, false, cond, ◌⊎◌, inl, inr, ⊎_elim, List, [], ◌∷◌, length, AllPairs, Some, refl, sym, ap, ◌∙◌, subst, arith}
 use Rattle.std.specs.List.{AllByRecursion}
-use Rattle.std.proofs.lemmas.Bool.{true≢false}
+use Rattle.std.proofs.lemmas.Bool.{true≢false, eq-eqb}
 use Rattle.std.proofs.lemmas.List.Elements.{recursion_from_All}
 use Rattle.emit_rules.specs.Emitted.{descriptor, left_after}
 use Rattle.lin_ir.specs.Descriptors.{AreExact, Describes, IsDescr, frame_points}
@@ -11,8 +11,9 @@ use Rattle.lin_ir.specs.declared.descr.Descr.{Descr}
 use Rattle.lin_ir.specs.declared.lin.Line.{Line}
 use Rattle.lin_ir.specs.declared.lin.Lin.{Lin}
 use Rattle.linear_rules.proofs.Homes.{IsIn, in_of, is_first, is_later}
-use Rattle.linear_rules.proofs.Marks.{pairs_here, pairs_later}
-use Rattle.function_stands.proofs.Parts.{descriptor_of, left_in, same_no, same_yes, shorter}
+use Rattle.bs_words.proofs.Lists.{pairs_here, pairs_later}
+use Rattle.tidy_rules.proofs.TurningShape.{not_same}
+use Rattle.function_stands.proofs.Parts.{descriptor_of, left_in, shorter}
 
 -- a descriptor of a line of this code, where the whole code has so many lines
 record Points (total : ℕ) (code : List Line) (d : Descr) : Type 0 where
@@ -104,7 +105,7 @@ module _ (total : ℕ) where
       let e : 0 ≡ suc (frame_points next) = count ∙ ap (λ b. cond b (suc (frame_points next)) (frame_points next)) point in absurd (omega (arith, e))
   own whole (i ∷ next) (d ∷ ds) here point all rises count within = record {
     of = d;
-    is = ap (λ b. cond b (descriptor (passes_frame i.op) (d ∷ ds)) (descriptor_of (left_in (d ∷ ds) i) next (length next))) (same_yes (length next))
+    is = ap (λ b. cond b (descriptor (passes_frame i.op) (d ∷ ds)) (descriptor_of (left_in (d ∷ ds) i) next (length next))) (eq-eqb (length next) (length next) refl)
         ∙ ap (λ b. descriptor b (d ∷ ds)) point;
     among = within d is_first;
     after = own_first i next d ds all rises (count ∙ ap (λ b. cond b (suc (frame_points next)) (frame_points next)) point);
@@ -114,7 +115,7 @@ module _ (total : ℕ) where
     where
       skipped : (ds : List Descr) → descriptor_of ds (j ∷ js) (length next) ≡ descriptor_of (left_in ds j) js (length next)
       skipped ds = ap (λ b. cond b (descriptor (passes_frame j.op) ds) (descriptor_of (left_in ds j) js (length next)))
-          (same_no (length js) (length next) (shorter stands))
+          (not_same (length js) (length next) (shorter stands))
 
       moved : (ds left : List Descr) → left_in ds j ≡ left → Own whole left js next → Own whole ds (j ∷ js) next
       moved ds left e o = record {

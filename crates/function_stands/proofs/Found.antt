@@ -1,7 +1,7 @@
 -- The descriptors of a function's pieces are found in the image at their return addresses.
 use Rattle.std.proofs.Common.{◌≡◌, ℕ, zero, suc, ◌+◌, ◌<◌, false, cond, ◌==◌, List, [], ◌∷◌, ◌++◌, Some, refl, ap, ◌∙◌, subst, arith}
 use Rattle.std.specs.Prelude.{find, slice_get}
-use Rattle.std.proofs.lemmas.Bool.{ne_eqb}
+use Rattle.std.proofs.lemmas.Bool.{ne_eqb, eq-eqb}
 use Rattle.image_form.specs.Image.{EachNext}
 use Rattle.image_form.specs.Tables.{Desc, Tables}
 use Rattle.layout_rules.specs.declared.form.Form.{Form}
@@ -13,7 +13,7 @@ use Rattle.rv_machine.specs.Memory.{code_start}
 use Rattle.rv_pieces.specs.declared.piece.Piece.{Piece}
 use Rattle.rv_pieces.specs.declared.piece.Piece.TheVariants.{Known, Label, Branch, Jump, Row, LabelAddress, Call, TailCall, SymbolAddress, ExternalNumber, Descriptor}
 use Rattle.rv_pieces.specs.declared.piece.Pieces.{Pieces}
-use Rattle.function_stands.proofs.Parts.{AreFound, same_yes}
+use Rattle.function_stands.proofs.Parts.{AreFound}
 
 -- ---- one among those whose return addresses rise
 
@@ -28,7 +28,7 @@ above x (y ∷ ys) rises d (is_later z) = let h = above y ys rises.1 d z in let 
 pub found_at : (ds : List Desc) (d : Desc) → Rising ds → IsIn d ds → descriptor_at ds (code_start + d.after) ≡ Some d
 found_at [] d rises z = elim z [ ]
 found_at (x ∷ xs) x' rises is_first =
-    ap (λ b. cond b (Some x) (find (λ (e : Desc). code_start + e.after == code_start + x.after) xs)) (same_yes (code_start + x.after))
+    ap (λ b. cond b (Some x) (find (λ (e : Desc). code_start + e.after == code_start + x.after) xs)) (eq-eqb (code_start + x.after) (code_start + x.after) refl)
 found_at (x ∷ xs) d rises (is_later z) =
     let less = above x xs rises d z in
     let apart : code_start + x.after == code_start + d.after ≡ false =

@@ -1,7 +1,7 @@
 -- Where the handlers of pushed traps are entered.
 use Rattle.std.proofs.Common.{◌≡◌, ◌≢◌, ℕ, Bool, true, false, cond, List, [], ◌∷◌, ◌++◌, AllPairs, refl, sym, ap, ◌∙◌, subst}
 use Rattle.std.specs.List.{Contains}
-use Rattle.std.proofs.lemmas.Bool.{true≢false, eqb-true}
+use Rattle.std.proofs.lemmas.Bool.{eq-eqb}
 use Rattle.lin_ir.specs.Formed.{EntersAt, enters_here, enters_below, pushes, WellFormed, label_of, labels_in}
 use Rattle.lin_ir.specs.Meaning.{after_label, has_label}
 use Rattle.lin_ir.specs.Walks.{goes, raises, Reached, at_entry, by_step, by_raise, tries_after}
@@ -11,9 +11,10 @@ use Rattle.lin_ir.specs.declared.lin.Lin.{Lin}
 use Rattle.lin_ir.specs.declared.lin.LinOp.{LinOp}
 use Rattle.lin_ir.specs.declared.lin.LinOp.TheVariants as lin
 use Rattle.linear_rules.proofs.Homes.{IsIn, contains_of, is_first, is_later}
-use Rattle.linear_rules.proofs.Marks.{all_in, pairs_here, pairs_later}
+use Rattle.linear_rules.proofs.Marks.{all_in}
 use Rattle.linear_rules.proofs.Walked.{reached_tail, tail_in}
-use Rattle.function_stands.proofs.Parts.{same_yes}
+use Rattle.bs_words.proofs.Lists.{pairs_here, pairs_later}
+use Rattle.tidy_rules.proofs.Ends.{label_is}
 
 -- ---- traps are pushed by lines
 
@@ -60,17 +61,6 @@ label_in {l} (i ∷ is) (enters_below z) = behind (label_of i.op) (label_in is z
     behind [] z = z
     behind (k ∷ ks) z = is_later (behind ks z)
 
-labels_of : (l : ℕ) (f : LinOp) → has_label l f ≡ true → label_of f ≡ l ∷ []
-labels_of l (lin.Flow (flow.Label k)) e = ap (λ k. k ∷ []) (eqb-true k l e)
-labels_of l (lin.Flow (flow.Jump k)) e = absurd (true≢false (sym e))
-labels_of l (lin.Flow (flow.Exit k)) e = absurd (true≢false (sym e))
-labels_of l (lin.Flow (flow.Branch t k)) e = absurd (true≢false (sym e))
-labels_of l (lin.Flow (flow.Switch ks)) e = absurd (true≢false (sym e))
-labels_of l (lin.Flow (flow.PushTrap k)) e = absurd (true≢false (sym e))
-labels_of l (lin.Flow flow.PopTrap) e = absurd (true≢false (sym e))
-labels_of l (lin.Flow flow.EnterTrap) e = absurd (true≢false (sym e))
-labels_of l (lin.Op f) e = absurd (true≢false (sym e))
-
 abbrev Differ : ℕ → ℕ → Type 0
 Differ k l = k ≢ l
 
@@ -81,12 +71,12 @@ differ_later (k ∷ ks) ls h = differ_later ks ls (pairs_later Differ k (ks ++ l
 pub enters : (l : ℕ) (code : List Line) → AllPairs Differ (labels_in code) → EntersAt l code → Enters code l
 enters l [] differ z = elim z [ ]
 enters l (i ∷ j ∷ is) differ (enters_here e u) =
-    record { line = j; next = is; is = ap (λ b. cond b (j ∷ is) (after_label l (j ∷ is))) (ap (has_label l) e ∙ same_yes l); enters = u }
+    record { line = j; next = is; is = ap (λ b. cond b (j ∷ is) (after_label l (j ∷ is))) (ap (has_label l) e ∙ eq-eqb l l refl); enters = u }
 enters l (i ∷ is) differ (enters_below z) = by (has_label l i.op) refl (enters l is (differ_later (label_of i.op) (labels_in is) differ) z)
   where
     by : (b : Bool) → has_label l i.op ≡ b → Enters is l → Enters (i ∷ is) l
     by true e rest =
-        let differ' : AllPairs Differ (l ∷ labels_in is) = subst (λ ks. AllPairs Differ (ks ++ labels_in is)) (labels_of l i.op e) differ in
+        let differ' : AllPairs Differ (l ∷ labels_in is) = subst (λ ks. AllPairs Differ (ks ++ labels_in is)) (label_is l i.op e) differ in
         absurd (all_in (Differ l) (pairs_here Differ l (labels_in is) differ') (label_in is z) refl)
     by false e rest =
         record { line = rest.line; next = rest.next; is = ap (λ b. cond b is (after_label l is)) e ∙ rest.is; enters = rest.enters }

@@ -1,5 +1,5 @@
 -- Labels lie where the parts after their marks begin.
-use Rattle.std.proofs.Common.{◌≡◌, ℕ, ◌+◌, ◌≤◌, Bool, true, false, cond, nat_eq, ⊎_elim, List, [], ◌∷◌, ◌++◌, length, drop, Some, refl, sym, ap, ◌∙◌, arith}
+use Rattle.std.proofs.Common.{◌≡◌, ℕ, ◌+◌, ◌≤◌, Bool, true, false, cond, ⊎_elim, List, [], ◌∷◌, ◌++◌, length, drop, Some, refl, sym, ap, ◌∙◌, arith}
 use Rattle.std.specs.List.{Contains}
 use Rattle.std.proofs.lemmas.Bool.{true≢false}
 use Rattle.std.proofs.lemmas.List.Elements.{Contains-append_cases}
@@ -19,9 +19,10 @@ use Rattle.lin_ir.specs.declared.lin.Line.{Line}
 use Rattle.lin_ir.specs.declared.lin.LinOp.{LinOp}
 use Rattle.lin_ir.specs.declared.lin.LinOp.TheVariants as lin
 use Rattle.lin_ir.specs.declared.lin.Spot.{Spot}
-use Rattle.linear_rules.proofs.Homes.{IsIn, in_of, is_first, is_later}
+use Rattle.linear_rules.proofs.Homes.{in_of}
 use Rattle.rv_pieces.specs.declared.piece.Piece.{Piece}
-use Rattle.function_stands.proofs.Parts.{Place, left_in, part_in, place_first, place_later, same_yes}
+use Rattle.tidy_rules.proofs.Ends.{has_own_label}
+use Rattle.function_stands.proofs.Parts.{Place, left_in, part_in, place_first, place_later}
 use Rattle.function_stands.proofs.Splitting.{has_second}
 
 -- the label does not stand at this piece
@@ -66,22 +67,6 @@ label_within l (i ∷ next) = by (has_label l i.op) (label_within l next)
     by true h = omega arith
     by false h = omega (arith, h)
 
--- a line has the label or not
-only : (l k : ℕ) → IsIn l (k ∷ []) → nat_eq k l ≡ true
-only l k is_first = same_yes l
-only l k (is_later i) = elim i [ ]
-
-labelled : (l : ℕ) (f : LinOp) → IsIn l (label_of f) → has_label l f ≡ true
-labelled l (lin.Flow (flow.Label k)) c = only l k c
-labelled l (lin.Flow (flow.Jump k)) c = elim c [ ]
-labelled l (lin.Flow (flow.Exit k)) c = elim c [ ]
-labelled l (lin.Flow (flow.Branch t k)) c = elim c [ ]
-labelled l (lin.Flow (flow.Switch ks)) c = elim c [ ]
-labelled l (lin.Flow (flow.PushTrap k)) c = elim c [ ]
-labelled l (lin.Flow flow.PopTrap) c = elim c [ ]
-labelled l (lin.Flow flow.EnterTrap) c = elim c [ ]
-labelled l (lin.Op f) c = elim c [ ]
-
 module _ (words : List ℕ) (n : Named) (traps : ℕ → ℕ) (f : Frame) where
   -- a part with the label is its mark alone
   label_here : (l at at' : ℕ) (ds : List Descr) (g : LinOp) (args results : List Spot) (next : List Line) (fs : List Form) → has_label l g ≡ true →
@@ -120,7 +105,7 @@ module _ (words : List ℕ) (n : Named) (traps : ℕ → ℕ) (f : Frame) where
 
       later : has_label l i.op ≡ false → Contains (labels_in next) l
       later e =
-          let apart = λ (own : Contains (label_of i.op) l). absurd (true≢false (sym (labelled l i.op (in_of l (label_of i.op) own)) ∙ e)) in
+          let apart = λ (own : Contains (label_of i.op) l). absurd (true≢false (sym (has_own_label l i.op (in_of l (label_of i.op) own)) ∙ e)) in
           ⊎_elim apart (λ z. z) (Contains-append_cases (label_of i.op) (labels_in next) l c)
 
       by : (b : Bool) → has_label l i.op ≡ b →

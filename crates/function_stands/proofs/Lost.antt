@@ -14,7 +14,6 @@ use Rattle.lin_ir.specs.declared.lin.Flow.TheVariants as flow
 use Rattle.lin_ir.specs.declared.lin.Line.{Line}
 use Rattle.lin_ir.specs.declared.lin.Lin.{Lin}
 use Rattle.lin_ir.specs.declared.lin.LinOp.TheVariants as lin
-use Rattle.lin_ir.specs.declared.lin.Spot.{Spot}
 use Rattle.linear_rules.proofs.Homes.{IsIn, in_of, is_first}
 use Rattle.linear_rules.proofs.Marks.{all_in}
 use Rattle.linear_rules.proofs.Walked.{Tail, tail_in, tail_label}
@@ -22,6 +21,8 @@ use Rattle.mach_ir.specs.Meaning.{Everything, is_destroyed}
 use Rattle.mach_ir.specs.declared.op.Callee.{Callee}
 use Rattle.mach_ir.specs.declared.op.Calling.TheVariants as calling
 use Rattle.mach_ir.specs.declared.op.Op.TheVariants as op
+use Rattle.lin_laws.proofs.Forms.{no_spots}
+use Rattle.tidy_rules.proofs.TurningShape.{same_flow}
 use Rattle.function_stands.proofs.Handlers.{pushed, pushed_enters}
 
 -- the entry of a handler reads nothing
@@ -35,16 +36,9 @@ enters_comps f args results push_form e = refl
 enters_comps f args results pop_form e = refl
 enters_comps f args results enter_form e = refl
 
-no_comps : (spots : List Spot) → comps spots ≡ [] → spots ≡ []
-no_comps [] e = refl
-no_comps (s ∷ spots) e = cc
-
-same_flow : (f g : Flow) → lin.Flow f ≡ lin.Flow g → f ≡ g
-same_flow f g e = cc
-
 enters_alone : (i : Line) → IsFormed i → i.op ≡ lin.Flow flow.EnterTrap → i.args ≡ []
 enters_alone i (formed_op h) e = cc
-enters_alone i (formed_flow {f} {args} {results} h) e = no_comps args (enters_comps f (comps args) (comps results) h (same_flow f flow.EnterTrap e))
+enters_alone i (formed_flow {f} {args} {results} h) e = no_spots args (enters_comps f (comps args) (comps results) h (same_flow f flow.EnterTrap e))
 
 module _ (m : Lin) (formed : WellFormed m) where
   -- no register is live where a handler is entered

@@ -1,6 +1,6 @@
 -- Where the parts of a function's lines lie, one after the other.
-use Rattle.std.proofs.Common.{◌≡◌, ℕ, suc, ◌+◌, ◌<◌, ◌≤◌, Bool, true, false, cond, nat_lt, nat_eq, List, [], ◌∷◌, ◌++◌, length, take, drop, Option, Some, None, refl, sym, ap, ◌∙◌, subst, arith}
-use Rattle.std.proofs.lemmas.Bool.{le-ltb, lt-ltb, ltb-false}
+use Rattle.std.proofs.Common.{◌≡◌, ℕ, suc, ◌+◌, ◌≤◌, Bool, true, false, cond, nat_lt, nat_eq, List, [], ◌∷◌, ◌++◌, length, take, drop, Option, Some, None, refl, sym, ap, ◌∙◌, subst, arith}
+use Rattle.std.proofs.lemmas.Bool.{le-ltb, lt-ltb, ltb-false, eq-eqb}
 use Rattle.emit_rules.specs.Emitted.{descriptor, left_after, part_before, parts}
 use Rattle.emit_rules.specs.Entry.{Frame}
 use Rattle.layout_rules.specs.declared.form.Form.{Form}
@@ -18,6 +18,7 @@ use Rattle.rv_pieces.specs.declared.piece.Piece.TheVariants.{Descriptor}
 use Rattle.image_form.specs.Tables.{Tables}
 use Rattle.linear_machine.specs.View.{Fixed}
 use Rattle.line_stands.specs.Parts.{PartStands, label_place}
+use Rattle.tidy_rules.proofs.TurningShape.{not_same}
 use Rattle.function_stands.proofs.Splitting.{has_first, has_second, reach_first, reach_second, words_both, words_first}
 
 -- ---- places
@@ -43,12 +44,6 @@ descriptor_of ds [] k = None
 descriptor_of ds (i ∷ next) k = cond (nat_eq (length next) k) (descriptor (passes_frame i.op) ds) (descriptor_of (left_in ds i) next k)
 
 -- ---- numbers
-
-pub same_yes : (k : ℕ) → nat_eq k k ≡ true
-same_yes k = grind arith
-
-pub same_no : (a b : ℕ) → b < a → nat_eq a b ≡ false
-same_no a b h = grind arith
 
 pub shorter : {i : Line} {next code : List Line} → Stands i next code → suc (length next) ≤ length code
 shorter here = omega arith
@@ -210,7 +205,7 @@ module _ (s : Fixed) (n : Named) (traps : ℕ → ℕ) (f : Frame) where
       let begin = place_first traps f ds (i ∷ next) fs at in
       let end = place_later traps f ds i next fs at (length next) (omega arith) ∙ place_first traps f (left_in ds i) next (drop (length part) fs) (at + total_words part fs) in
       let own : descriptor_of ds (i ∷ next) (length next) ≡ descriptor (passes_frame i.op) ds =
-      ap (λ b. cond b (descriptor (passes_frame i.op) ds) (descriptor_of (left_in ds i) next (length next))) (same_yes (length next)) in
+      ap (λ b. cond b (descriptor (passes_frame i.op) ds) (descriptor_of (left_in ds i) next (length next))) (eq-eqb (length next) (length next) refl) in
       let placed = subst (λ a. PartFound s n a (at + total_words part fs) part) (sym begin) it in
       let ended = subst (λ b. PartFound s n (Place traps f ds (i ∷ next) fs at (suc (length next))) b part) (sym end) placed in
       subst (λ d. PartFound s n (Place traps f ds (i ∷ next) fs at (suc (length next))) (Place traps f ds (i ∷ next) fs at (length next))
@@ -225,7 +220,7 @@ module _ (s : Fixed) (n : Named) (traps : ℕ → ℕ) (f : Frame) where
       let begin = place_later traps f ds j is fs at (suc (length next)) h in
       let end = place_later traps f ds j is fs at (length next) (omega (arith, h)) in
       let own : descriptor_of ds (j ∷ is) (length next) ≡ descriptor_of (left_in ds j) is (length next) =
-      ap (λ b. cond b (descriptor (passes_frame j.op) ds) (descriptor_of (left_in ds j) is (length next))) (same_no (length is) (length next) h) in
+      ap (λ b. cond b (descriptor (passes_frame j.op) ds) (descriptor_of (left_in ds j) is (length next))) (not_same (length is) (length next) h) in
       let line = part_before (traps (length next)) f (descriptor_of (left_in ds j) is (length next)) i next in
       let placed = subst (λ a. PartFound s n a (Place traps f (left_in ds j) is left (at + total_words part fs) (length next)) line) (sym begin) it in
       let ended = subst (λ b. PartFound s n (Place traps f ds (j ∷ is) fs at (suc (length next))) b line) (sym end) placed in

@@ -1,6 +1,7 @@
 -- What is known of the lines of a function besides their words.
-use Rattle.std.proofs.Common.{◌≡◌, ℕ, ◌+◌, ◌<◌, Bool, true, false, cond, ◌||◌, List, [], ◌∷◌, ◌++◌, length, Option, None, refl, sym, ap, ◌∙◌, subst, arith}
+use Rattle.std.proofs.Common.{◌≡◌, ℕ, ◌+◌, ◌<◌, Bool, false, cond, List, [], ◌∷◌, ◌++◌, length, Option, None, refl, sym, ap, ◌∙◌, subst, arith}
 use Rattle.std.specs.List.{AllByRecursion}
+use Rattle.std.proofs.lemmas.Bool.{eq-eqb}
 use Rattle.emit_rules.specs.Emitted.{descriptor, part_before, part_of, parts}
 use Rattle.emit_rules.specs.Entry.{Frame}
 use Rattle.emit_rules.specs.Traversal.{Allows, Each, each_more}
@@ -9,7 +10,6 @@ use Rattle.emit_rules.proofs.Traverse.{part-in}
 use Rattle.emit_rules.proofs.Units.{part_unless_free}
 use Rattle.layout_rules.specs.declared.form.Form.{Form}
 use Rattle.layout_rules.specs.Forms.{total_words, words_of}
-use Rattle.lin_ir.specs.Descriptors.{has_frame_point}
 use Rattle.lin_ir.specs.Meaning.{passes_frame}
 use Rattle.lin_ir.specs.Walks.{Stands, here, below}
 use Rattle.lin_ir.specs.declared.descr.Descr.{Descr}
@@ -25,7 +25,8 @@ use Rattle.mach_ir.specs.declared.op.Op.TheVariants as op
 use Rattle.rv_isa.specs.declared.register.Register.TheVariants.{T0}
 use Rattle.rv_pieces.specs.declared.piece.Piece.{Piece}
 use Rattle.rv_pieces.specs.declared.piece.Piece.TheVariants.{Known, Label, Branch, Jump, Row, LabelAddress, Call, TailCall, SymbolAddress, ExternalNumber, Descriptor}
-use Rattle.function_stands.proofs.Parts.{AreFound, IsFound, descriptor_of, left_in, part_in, same_no, same_yes, shorter}
+use Rattle.tidy_rules.proofs.TurningShape.{not_same}
+use Rattle.function_stands.proofs.Parts.{AreFound, IsFound, descriptor_of, left_in, part_in, shorter}
 
 -- ---- marks
 
@@ -82,21 +83,11 @@ pub no_descriptor : {i : Line} {next : List Line} (ds : List Descr) (code : List
     descriptor_of ds code (length next) ≡ None
 no_descriptor ds [] stands none = elim stands [ ]
 no_descriptor ds (i ∷ next) here none =
-    ap (λ b. cond b (descriptor (passes_frame i.op) ds) (descriptor_of (left_in ds i) next (length next))) (same_yes (length next))
+    ap (λ b. cond b (descriptor (passes_frame i.op) ds) (descriptor_of (left_in ds i) next (length next))) (eq-eqb (length next) (length next) refl)
     ∙ ap (λ b. descriptor b ds) none
 no_descriptor {next = next} ds (j ∷ js) (below stands) none =
-    ap (λ b. cond b (descriptor (passes_frame j.op) ds) (descriptor_of (left_in ds j) js (length next))) (same_no (length js) (length next) (shorter stands))
+    ap (λ b. cond b (descriptor (passes_frame j.op) ds) (descriptor_of (left_in ds j) js (length next))) (not_same (length js) (length next) (shorter stands))
     ∙ no_descriptor (left_in ds j) js stands none
-
--- a function with a frame point saves its return address
-pub point_saves : {i : Line} {next : List Line} (code : List Line) → Stands i next code → passes_frame i.op ≡ true → has_frame_point code ≡ true
-point_saves [] stands point = elim stands [ ]
-point_saves (i ∷ next) here point = ap (λ b. b || has_frame_point next) point
-point_saves (j ∷ js) (below stands) point = by (passes_frame j.op) (point_saves js stands point)
-  where
-    by : (b : Bool) → has_frame_point js ≡ true → b || has_frame_point js ≡ true
-    by true e = refl
-    by false e = e
 
 -- ---- pieces by their lines
 

@@ -1,60 +1,19 @@
 -- External calls by their rows in the image.
-use Rattle.std.proofs.Common.{◌≡◌, Bool, true, false, cond, ◌&&◌, ◌==◌, ◌⊎◌, inl, inr, List, [], ◌∷◌, map, bytes_eq, Some, refl, sym, ap, ◌∙◌, arith}
+use Rattle.std.proofs.Common.{◌≡◌, Bool, true, false, cond, ◌&&◌, ◌==◌, ◌⊎◌, inl, inr, List, [], ◌∷◌, map, bytes_eq, Some, refl, sym, ap, ◌∙◌}
 use Rattle.std.specs.Prelude.{find, slice_get}
 use Rattle.std.specs.Option.{option_map}
-use Rattle.std.proofs.lemmas.Bool.{true≢false, eqb-true}
+use Rattle.std.proofs.lemmas.Bool.{true≢false, eqb-true, and_parts, eq-eqb}
 use Rattle.std.proofs.lemmas.List.Folds.{find_at}
 use Rattle.std.proofs.lemmas.Option.{slice_get-map}
 use Rattle.std.proofs.lemmas.Slice.Eq.{bytes_eq-Decides}
 use Rattle.bs_words.specs.External.{External}
-use Rattle.bs_words.specs.declared.types.Comp.{Comp}
 use Rattle.bs_words.specs.declared.types.Comp.TheVariants as comp
-use Rattle.bs_words.specs.declared.types.Ret.{Ret}
 use Rattle.bs_words.specs.declared.types.Ret.TheVariants as ret
 use Rattle.image_form.specs.Image.{comp_byte, ret_byte}
 use Rattle.image_form.specs.Tables.{Ext}
 use Rattle.layout_rules.specs.Externals.{ext_of, number_of, same_row}
 use Rattle.linear_rules.proofs.Homes.{IsIn, is_first, is_later}
-use Rattle.function_stands.proofs.Parts.{same_yes}
-
-comp_once : (a b : Comp) → comp_byte a ≡ comp_byte b → a ≡ b
-comp_once comp.Int comp.Int e = refl
-comp_once comp.Val comp.Val e = refl
-comp_once comp.Addr comp.Addr e = refl
-comp_once comp.Float comp.Float e = refl
-comp_once comp.Int comp.Val e = absurd (omega (arith, e))
-comp_once comp.Int comp.Addr e = absurd (omega (arith, e))
-comp_once comp.Int comp.Float e = absurd (omega (arith, e))
-comp_once comp.Val comp.Int e = absurd (omega (arith, e))
-comp_once comp.Val comp.Addr e = absurd (omega (arith, e))
-comp_once comp.Val comp.Float e = absurd (omega (arith, e))
-comp_once comp.Addr comp.Int e = absurd (omega (arith, e))
-comp_once comp.Addr comp.Val e = absurd (omega (arith, e))
-comp_once comp.Addr comp.Float e = absurd (omega (arith, e))
-comp_once comp.Float comp.Int e = absurd (omega (arith, e))
-comp_once comp.Float comp.Val e = absurd (omega (arith, e))
-comp_once comp.Float comp.Addr e = absurd (omega (arith, e))
-
-no_unit : (a : Comp) → comp_byte a ≡ 3 → ⊥
-no_unit comp.Int e = omega (arith, e)
-no_unit comp.Val e = omega (arith, e)
-no_unit comp.Addr e = omega (arith, e)
-no_unit comp.Float e = omega (arith, e)
-
-ret_once : (a b : Ret) → ret_byte a ≡ ret_byte b → a ≡ b
-ret_once ret.Unit ret.Unit e = refl
-ret_once ret.Unit (ret.Comp b) e = absurd (no_unit b (sym e))
-ret_once (ret.Comp a) ret.Unit e = absurd (no_unit a e)
-ret_once (ret.Comp a) (ret.Comp b) e = ap ret.Comp (comp_once a b e)
-
-comps_once : (xs ys : List Comp) → map comp_byte xs ≡ map comp_byte ys → xs ≡ ys
-comps_once [] [] e = refl
-comps_once [] (y ∷ ys) e = cc
-comps_once (x ∷ xs) [] e = cc
-comps_once (x ∷ xs) (y ∷ ys) e =
-    let first : comp_byte x ≡ comp_byte y = cc in
-    let rest : map comp_byte xs ≡ map comp_byte ys = cc in
-    ap (λ z. z ∷ xs) (comp_once x y first) ∙ ap (λ zs. y ∷ zs) (comps_once xs ys rest)
+use Rattle.laid_files.proofs.Laid.{ret_same, comps_same}
 
 -- what two calls of one row have alike
 pub record IsSame (a b : External) : Type 0 where
@@ -62,24 +21,16 @@ pub record IsSame (a b : External) : Type 0 where
   pub params : a.params ≡ b.params
   pub result : a.result ≡ b.result
 
-and_left : (a b : Bool) → a && b ≡ true → a ≡ true
-and_left true b e = refl
-and_left false b e = cc
-
-and_right : (a b : Bool) → a && b ≡ true → b ≡ true
-and_right true b e = e
-and_right false b e = cc
-
 pub same_row_is : (a b : External) → same_row a b ≡ true → IsSame a b
 same_row_is a b e =
     let names = bytes_eq a.name b.name in
     let params = bytes_eq (map comp_byte a.params) (map comp_byte b.params) in
     let result = ret_byte a.result == ret_byte b.result in
-    let first = and_left (names && params) result e in
+    let first = (and_parts (names && params) result e).0 in
     record {
-      name = (bytes_eq-Decides a.name b.name).0 (and_left names params first);
-      params = comps_once a.params b.params ((bytes_eq-Decides (map comp_byte a.params) (map comp_byte b.params)).0 (and_right names params first));
-      result = ret_once a.result b.result (eqb-true (ret_byte a.result) (ret_byte b.result) (and_right (names && params) result e));
+      name = (bytes_eq-Decides a.name b.name).0 (and_parts names params first).0;
+      params = comps_same a.params b.params ((bytes_eq-Decides (map comp_byte a.params) (map comp_byte b.params)).0 (and_parts names params first).1);
+      result = ret_same a.result b.result (eqb-true (ret_byte a.result) (ret_byte b.result) (and_parts (names && params) result e).1);
     }
 
 row_itself : (e : External) → same_row e e ≡ true
@@ -87,7 +38,7 @@ row_itself e =
     rw (
       (bytes_eq-Decides e.name e.name).1 refl,
       (bytes_eq-Decides (map comp_byte e.params) (map comp_byte e.params)).1 refl,
-      same_yes (ret_byte e.result),
+      eq-eqb (ret_byte e.result) (ret_byte e.result) refl,
     ) refl
 
 -- the first row that is the call's

@@ -2,10 +2,10 @@
 use Rattle.std.proofs.Common.{◌≡◌, ℕ, ◌+◌, ◌≤◌, List, [], ◌∷◌, ◌++◌, length, take, drop, refl, ap, subst, arith}
 use Rattle.emit_rules.specs.Sizes.{least_words, words_at_least}
 use Rattle.layout_rules.specs.declared.form.Form.{Form}
-use Rattle.layout_rules.specs.declared.form.Form.TheVariants.{Near, Middle, Far}
-use Rattle.layout_rules.specs.Forms.{ReachFrom, branch_words, jump_words, total_words, words_of}
+use Rattle.layout_rules.specs.Forms.{ReachFrom, total_words, words_of}
 use Rattle.layout_rules.specs.Stands.{HasPieces}
 use Rattle.layout_rules.specs.Words.{Named}
+use Rattle.layout_rules.proofs.Rules.{branch_some, jump_some}
 use Rattle.rv_pieces.specs.declared.piece.Piece.{Piece}
 use Rattle.rv_pieces.specs.declared.piece.Piece.TheVariants.{Known, Label, Branch, Jump, Row, LabelAddress, Call, TailCall, SymbolAddress, ExternalNumber, Descriptor}
 
@@ -21,16 +21,6 @@ pub words_first : (xs : List Piece) (fs : List Form) → total_words xs (take (l
 words_first [] fs = refl
 words_first (x ∷ xs) [] = refl
 words_first (x ∷ xs) (f ∷ fs) = ap (λ k. words_of x f + k) (words_first xs fs)
-
-branch_some : (f : Form) → 1 ≤ branch_words f
-branch_some Near = omega arith
-branch_some Middle = omega arith
-branch_some Far = omega arith
-
-jump_some : (f : Form) → 1 ≤ jump_words f
-jump_some Near = omega arith
-jump_some Middle = omega arith
-jump_some Far = omega arith
 
 least_of : (p : Piece) (f : Form) → least_words p ≤ words_of p f
 least_of (Known i) f = omega arith

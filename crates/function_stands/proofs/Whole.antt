@@ -1,7 +1,8 @@
 -- A chained function stands in the image of its file.
-use Rattle.std.proofs.Common.{◌≡◌, ℕ, zero, suc, ◌+◌, ◌*◌, ◌^◌, ◌<◌, ◌≤◌, Bool, true, false, List, [], ◌∷◌, ◌++◌, length, drop, take, Option, Some, None, refl, sym, ap, ◌∙◌, subst, arith}
+use Rattle.std.proofs.Common.{◌≡◌, ℕ, zero, suc, ◌+◌, ◌*◌, ◌^◌, ◌<◌, ◌≤◌, Bool, true, false, List, [], ◌∷◌, ◌++◌, length, drop, take, Option, Some, refl, sym, ap, ◌∙◌, subst, arith}
 use Rattle.std.specs.Prelude.{slice_get, slice_index}
-use Rattle.std.specs.List.{AllByRecursion, Contains}
+use Rattle.std.specs.List.{Contains}
+use Rattle.std.proofs.lemmas.Option.{none-some, same_Some}
 use Rattle.bs_words.specs.Fits.{data_start}
 use Rattle.bs_words.specs.declared.values.Value.{Value}
 use Rattle.bs_words.specs.declared.values.Value.TheVariants.{Word, Block, Function}
@@ -31,6 +32,7 @@ use Rattle.lin_ir.specs.declared.descr.Descr.{Descr}
 use Rattle.lin_ir.specs.declared.lin.Lin.{Lin}
 use Rattle.lin_ir.specs.declared.lin.Line.{Line}
 use Rattle.line_calls.specs.Points.{AreMarked, EntriesStand, IsTurn, PointStands}
+use Rattle.line_calls.proofs.Shown.{each_at}
 use Rattle.line_stands.specs.Lines.{FreeStands, LineStands, Nowhere, OffsetFits}
 use Rattle.line_stands.specs.Names.{IsRowAt, NamesStand}
 use Rattle.line_stands.specs.Parts.{PartStands, label_place}
@@ -44,6 +46,7 @@ use Rattle.linear_rules.proofs.Walked.{Tail, stands_tail, tail_next}
 use Rattle.mach_ir.specs.Acts.{On, row_of}
 use Rattle.mach_ir.specs.declared.op.External.{External}
 use Rattle.laid_files.specs.Made.{IsChained}
+use Rattle.laid_files.proofs.Functions.{point_among}
 use Rattle.moving_laws.specs.Values.{HasFunctions, IsKnown, function_at, value_word}
 use Rattle.rv_pieces.specs.declared.piece.Piece.{Piece}
 use Rattle.rv_pieces.specs.declared.piece.Pieces.{Pieces}
@@ -58,27 +61,16 @@ use Rattle.function_stands.proofs.Free.{falls_in, free_place}
 use Rattle.function_stands.proofs.Handlers.{pushed, pushed_stands}
 use Rattle.function_stands.proofs.Labels.{entry_past, label_past, label_place_is}
 use Rattle.function_stands.proofs.Parts.{AreFound, PartFound, found_second, Place, descriptor_of, line_part, place_first, place_moved, place_rises, place_within}
-use Rattle.function_stands.proofs.Points.{external_in, found_marked, no_descriptor, none_marked, point_saves}
+use Rattle.function_stands.proofs.Points.{external_in, found_marked, no_descriptor, none_marked}
 use Rattle.function_stands.proofs.Reaching.{reach_moved}
 use Rattle.function_stands.proofs.Rows.{row_found}
 use Rattle.function_stands.proofs.Splitting.{has_first, has_second, reach_first, reach_second, words_both, words_first}
 use Rattle.function_stands.proofs.Symbols.{IsInFile, of_data, of_function, symbol_placed}
 use Rattle.function_stands.proofs.Unnamed.{spare_passes, spare_unnamed, unwritten}
 
-some_same : {A : Type 0} (x y : A) → Some x ≡ Some y → x ≡ y
-some_same x y e = cc
-
-none_not_some : {A : Type 0} (x : A) → None ≡ Some x → ⊥
-none_not_some x e = cc
-
-all_at : {A : Type 0} (P : A → Type 0) (xs : List A) (k : ℕ) (x : A) → AllByRecursion P xs → slice_get xs k ≡ Some x → P x
-all_at P [] k x all e = cc
-all_at P (y ∷ xs) zero x all e = subst P (some_same y x e) all.0
-all_at P (y ∷ xs) (suc k) x all e = all_at P xs k x all.1 e
-
 index_is : (xs : List ℕ) (k x : ℕ) → slice_get xs k ≡ Some x → slice_index xs k ≡ x
 index_is [] k x e = cc
-index_is (y ∷ xs) zero x e = some_same y x e
+index_is (y ∷ xs) zero x e = same_Some y x e
 index_is (y ∷ xs) (suc k) x e = index_is xs k x e
 
 module _ (image : Tables) (file : FileTree) (ps : List Pieces) (c : Setting) (k : ℕ) (tree : FunctionTree) (m : Lin) (ds : List Descr)
@@ -135,7 +127,7 @@ module _ (image : Tables) (file : FileTree) (ps : List Pieces) (c : Setting) (k 
   among d z =
       let share = shares stub_words ps forms k pieces of.laid.are there in
       let same_forms = forms_once pieces.code share.of placed.forms share.are placed.are in
-      let same_place : share.place ≡ placed.place = some_same share.place placed.place (sym share.entry ∙ placed.entry) in
+      let same_place : share.place ≡ placed.place = same_Some share.place placed.place (sym share.entry ∙ placed.entry) in
       let z' = subst (λ at. IsIn d (descs_in at pieces.code placed.forms)) (sym same_place) z in
       let z'' = subst (λ gs. IsIn d (descs_in share.place pieces.code gs)) (sym same_forms) z' in
       subst (λ (t : Tables). IsIn d t.descs) (sym of.laid.is) (share.among d z'')
@@ -249,7 +241,7 @@ module _ (image : Tables) (file : FileTree) (ps : List Pieces) (c : Setting) (k 
 
     external_stands : (row : External) → IsExternalOf m row → IsRowAt s row (n.external (row_of row))
     external_stands row is =
-        let laid_one = all_at (IsFunctionLaid file) ps k pieces of.can.each there in
+        let laid_one = each_at (IsFunctionLaid file) ps k pieces of.can.each there in
         let line = in_of is.line m.code is.among in
         let named_one = external_in (IsNamed file pieces.code) traps f (entry f) ds m.code is.line row is.frame laid_one.named line is.is in
         let at = row_found (externals file) (row_of row) (in_of (row_of row) (externals file) (named_one.external row refl)) in
@@ -347,8 +339,8 @@ module _ (image : Tables) (file : FileTree) (ps : List Pieces) (c : Setting) (k 
           by : (b : Bool) → passes_frame i.op ≡ b → (passes_frame i.op ≡ true) × IsDescr m i next tries e
           by true point =
               let d = point_described point in
-              (point, subst (IsDescr m i next tries) (some_same d.of e (sym d.is ∙ is)) d.describes)
-          by false none = absurd (none_not_some e (sym (no_descriptor ds m.code stands none) ∙ is))
+              (point, subst (IsDescr m i next tries) (same_Some d.of e (sym d.is ∙ is)) d.describes)
+          by false none = absurd (none-some e (sym (no_descriptor ds m.code stands none) ∙ is))
 
       line_point : IsTurn i.op → PointStands s laid m c named (entry_place s.image) (length tries) f (descr_of next) i next line_found.part.forms
       unfolding laid
@@ -357,7 +349,7 @@ module _ (image : Tables) (file : FileTree) (ps : List Pieces) (c : Setting) (k 
         end = subst (λ (t : Tables). c.end ≡ data_start + length t.bytes) (sym same) of.end;
         marks = line_marked (passes_frame i.op) refl;
         mark = λ point. let d = point_described point in (d.of, d.is);
-        saves = λ point. point_saves m.code stands point;
+        saves = λ point. point_among _ _ m.code stands point;
         described = λ e is at.
             let own = own_descr e is in
             is_described m well named lives laid refl refl i next tries e at stands own.0 own.1;

@@ -6,6 +6,7 @@ use Rattle.bs_words.specs.declared.types.Comp.{Comp}
 use Rattle.bs_words.specs.declared.types.Comp.TheVariants as comp
 use Rattle.bs_words.specs.declared.types.Loc.{Loc}
 use Rattle.bs_words.specs.declared.types.Loc.TheVariants as loc
+use Rattle.bs_words.proofs.Lists.{first_in}
 use Rattle.mach_ir.specs.Acts.{Target, At}
 use Rattle.mach_ir.specs.Formed.{WellFormed, LeadsTo, is_exit}
 use Rattle.mach_ir.specs.Meaning.{Everything, destroyed_by, killed, has_label}
@@ -18,12 +19,10 @@ use Rattle.mach_ir.specs.declared.mach.MachOp.{MachOp}
 use Rattle.mach_ir.specs.declared.mach.MachOp.TheVariants as mach
 use Rattle.mach_ir.specs.declared.mach.Instr.{Instr}
 use Rattle.mach_ir.specs.declared.mach.Mach.{Mach}
-use Rattle.mach_laws.proofs.Walking.{first_in}
-use Rattle.places_rules.proofs.Walked.{split_among}
-use Rattle.split_rules.proofs.Text.{results_in}
 use Rattle.hoist_rules.specs.Hoisted.{makes, FitsAlways, an_int, an_odd_val, MayMove}
 use Rattle.hoist_rules.specs.Chosen.{IsLoopRound, IsWide, IsMoved}
-use Rattle.hoist_rules.proofs.Moved.{left_among, shorter}
+use Rattle.mach_laws.proofs.Places.{shorter, results_in}
+use Rattle.mach_laws.proofs.Among.{split_among, left_among}
 use Rattle.hoist.specs.Constants.{is_wide, fits_always, is_open, constant_of, can_hold, are_none, holds_wide, makes_wide}
 use Rattle.hoist.specs.Loops.{label_of, exit_of, EndsFrom, IsFirstCall, IsCalmWide}
 use Rattle.hoist.specs.Written.{noted, times, is_once}

@@ -3,14 +3,14 @@ use Rattle.std.proofs.Common.{◌≡◌, ◌∙◌, ℕ, ◌≤◌, Bool, true, 
 use Rattle.std.specs.Prelude.{Contains}
 use Rattle.std.proofs.lemmas.Bool.{true≢false}
 use Rattle.bs_words.specs.declared.types.Loc.TheVariants as loc
+use Rattle.bs_words.proofs.Lists.{first_in, later_in}
 use Rattle.mach_ir.specs.Formed.{WellFormed}
 use Rattle.mach_ir.specs.Meaning.{Destroyed, Nothing, Temporaries, Everything, destroyed_by, is_destroyed, is_at_one_of, killed_among, killed_by, killed}
 use Rattle.mach_ir.specs.Walks.{Among, first, later, Stands, here, below, IsRegister, is_colour}
 use Rattle.mach_ir.specs.declared.reg.Reg.{Reg}
 use Rattle.mach_ir.specs.declared.mach.Instr.{Instr}
 use Rattle.mach_ir.specs.declared.mach.Mach.{Mach}
-use Rattle.mach_laws.proofs.Walking.{first_in, later_in}
-use Rattle.hoist_rules.proofs.Moved.{shorter}
+use Rattle.mach_laws.proofs.Places.{shorter}
 use Rattle.hoist.specs.Written.{noted, noted_in, times}
 use Rattle.hoist.proofs.Counting.{noted_some, not_noted, is_noted, none_in_code, again_in_code, one_place}
 

@@ -1,8 +1,9 @@
 -- Constants that are made at the entry are as many words as before, and no frame point or exit is new; and what a function
 -- keeps then, whole.
-use Rattle.std.proofs.Common.{◌≡◌, ℕ, suc, ◌+◌, ◌≤◌, Bool, true, false, cond, inl, inr, ◌⊎◌, ⊎_elim, List, [], ◌∷◌, ◌++◌, length, refl, sym, ap, ◌∙◌, subst, arith}
+use Rattle.std.proofs.Common.{◌≡◌, ℕ, ◌+◌, ◌≤◌, Bool, cond, inl, inr, ◌⊎◌, ⊎_elim, List, ◌∷◌, ◌++◌, length, refl, sym, ap, ◌∙◌, subst, arith}
 use Rattle.std.specs.Prelude.{slice_index_or}
-use Rattle.std.proofs.lemmas.List.Elements.{Contains-get_or}
+use Rattle.std.proofs.lemmas.List.Elements.{Contains-get_or, All-contains}
+use Rattle.std.proofs.Math.Nat.{le_of_eq}
 use Rattle.mach_ir.specs.Formed.{is_exit, WellFormed}
 use Rattle.mach_ir.specs.Meaning.{passes_frame, tries_at, tries_past}
 use Rattle.mach_ir.specs.Walks.{Stands, here, below}
@@ -10,27 +11,16 @@ use Rattle.mach_ir.specs.declared.mach.Instr.{Instr}
 use Rattle.mach_ir.specs.declared.mach.Mach.{Mach}
 use Rattle.mach_laws.specs.Expand.{expand}
 use Rattle.mach_laws.proofs.Places.{tries_expand}
-use Rattle.places_rules.proofs.Lists.{tail_same}
-use Rattle.split_rules.proofs.Formed.{of_each}
 use Rattle.pass_rules.specs.Carried.{OffsetFits, EndsInReturn, at_return, further, IsCarried}
 use Rattle.pass_rules.specs.Measures.{instr_words, code_words, one_if, code_points, exits, operands_with, other_operands}
+use Rattle.pass_rules.proofs.Carried.{exit_one, ends_second}
 use Rattle.dead_rules.specs.Dropped.{without}
 use Rattle.dead_rules.proofs.Text.{Fate, falls, remains, fate, keeps_marks}
+use Rattle.bs_words.proofs.Lists.{tail_same}
 use Rattle.hoist_rules.specs.Hoisted.{moved, hoisted, MayAllMove, IsHoisted, IsKept}
 use Rattle.hoist_rules.proofs.Moved as at_entry_of
 use Rattle.hoist_rules.proofs.Live as live
 use Rattle.hoist_rules.proofs.Whole as whole
-
-exit_one : (b : Bool) (n : ℕ) → cond b (suc n) n ≡ cond b 1 0 + n
-exit_one true n = omega arith
-exit_one false n = omega arith
-
-ends_second : (xs ys : List Instr) → EndsInReturn ys → EndsInReturn (xs ++ ys)
-ends_second [] ys e = e
-ends_second (x ∷ xs) ys e = further (ends_second xs ys e)
-
-at_most_same : (a b : ℕ) → a ≡ b → a ≤ b
-at_most_same a b e = omega (arith, e)
 
 module _ (m : Mach) (moves : ℕ → Bool) (may : MayAllMove m moves) (formed : WellFormed m) where
   abbrev q : Mach
@@ -84,16 +74,13 @@ module _ (m : Mach) (moves : ℕ → Bool) (may : MayAllMove m moves) (formed : 
   carried =
       record {
         words = let e = whole.sum_same m moves may code_words instr_words refl (λ i is. refl) in omega (arith, e);
-        points = at_most_same (code_points q.code) (code_points m.code)
-            (whole.sum_same m moves may code_points (λ (i : Instr). one_if (passes_frame i.op)) refl (λ i is. refl));
-        operands = at_most_same (other_operands q.code) (other_operands m.code)
-            (whole.sum_same m moves may other_operands (λ (i : Instr). operands_with i.op i.args i.results) refl (λ i is. refl));
-        exits = at_most_same (exits q.code) (exits m.code)
-            (whole.sum_same m moves may exits (λ (i : Instr). cond (is_exit i.op) 1 0) refl
+        points = le_of_eq (whole.sum_same m moves may code_points (λ (i : Instr). one_if (passes_frame i.op)) refl (λ i is. refl));
+        operands = le_of_eq (whole.sum_same m moves may other_operands (λ (i : Instr). operands_with i.op i.args i.results) refl (λ i is. refl));
+        exits = le_of_eq (whole.sum_same m moves may exits (λ (i : Instr). cond (is_exit i.op) 1 0) refl
             (λ (i : Instr) is. exit_one (is_exit i.op) (exits is)));
         tries = λ most known i zs s. few_tries most known i zs s;
         offsets = λ fit k d lt.
-            of_each (λ (i : Instr). OffsetFits i.op) m.code (slice_index_or q.code k d) fit
+            All-contains (λ (i : Instr). OffsetFits i.op) m.code (slice_index_or q.code k d) fit
             (whole.contains_back m moves may (slice_index_or q.code k d) (Contains-get_or q.code k d lt));
         ends = λ e. ends_second front rest_of.code (still_ends e);
         colours_low = λ low r k c i e. low r k c (whole.was m moves may k i) e;

@@ -1,11 +1,12 @@
 -- A function with the constants of its loops first is hoisted, and is one.
-use Rattle.std.proofs.Common.{◌≡◌, ◌∙◌, ℕ, Bool, true, false, cond, ◌&&◌, List, [], ◌∷◌, ◌++◌, length, refl, sym, ap}
+use Rattle.std.proofs.Common.{◌≡◌, ◌∙◌, ℕ, Bool, cond, ◌&&◌, List, [], ◌∷◌, ◌++◌, length, refl, sym, ap}
 use Rattle.mach_ir.specs.Formed.{WellFormed}
 use Rattle.mach_ir.specs.Walks.{Stands, here, below}
 use Rattle.mach_ir.specs.declared.mach.Instr.{Instr}
 use Rattle.mach_ir.specs.declared.mach.Mach.{Mach}
 use Rattle.mach_laws.specs.Expand.{expand}
 use Rattle.dead_rules.specs.Dropped.{may_go, without}
+use Rattle.bs_words.proofs.Truths.{bool_same}
 use Rattle.hoist_rules.specs.Hoisted.{moved, IsHoisted, IsKept}
 use Rattle.hoist_rules.specs.Chosen.{HasConstantsFirst}
 use Rattle.hoist_rules.proofs.Carried.{hoisted_kept}
@@ -18,11 +19,6 @@ pub constants_first_kept : (m q : Mach) → WellFormed m → HasConstantsFirst m
 constants_first_kept m q formed h = hoisted_kept m q formed (constants_first_hoisted m q h)
 
 -- ---- one result
-
-same_truth : (a b : Bool) → (a ≡ true → b ≡ true) → (b ≡ true → a ≡ true) → a ≡ b
-same_truth true b f g = sym (f refl)
-same_truth false true f g = g refl
-same_truth false false f g = refl
 
 -- two ways to move, which say the same of each instruction
 abbrev MoveTheSame : Mach → (ℕ → Bool) → (ℕ → Bool) → Type 0
@@ -45,7 +41,7 @@ pub one_constants_first : (m q k : Mach) → HasConstantsFirst m q → HasConsta
 one_constants_first m q k a b =
     let same : MoveTheSame m a.moves b.moves =
     λ i next s.
-    same_truth (a.moves (length next)) (b.moves (length next))
+    bool_same (a.moves (length next)) (b.moves (length next))
     (λ e. (b.chosen i next s).1 ((a.chosen i next s).0 e)) (λ e. (a.chosen i next s).1 ((b.chosen i next s).0 e)) in
     let e = same_code m a.moves b.moves same m.code (λ i next s. s) in
     a.is

@@ -1,13 +1,16 @@
 -- The code at the entry: each of its steps makes a constant, and after the last each register of those holds its own.
 use Rattle.std.proofs.Common.{◌≡◌, ℕ, zero, suc, ◌<◌, Bool, true, false, inl, inr, ◌⊎◌, ⊎_elim, List, [], ◌∷◌, ◌++◌, length, Option, Some, None, refl, sym, ap, ◌∙◌, subst, arith}
 use Rattle.std.proofs.Math.Path.{fun_ext}
-use Rattle.std.proofs.lemmas.Bool.{cases_Bool, eqb-true, eq-eqb}
+use Rattle.std.proofs.lemmas.Bool.{cases_Bool, eqb-true, eq-eqb, both_ways}
 use Rattle.std.specs.List.{Contains}
 use Rattle.std.specs.Prelude.{nat_eq, nat_le, ◌==◌, ◌||◌, ◌&&◌}
+use Rattle.std.proofs.lemmas.Option.{none-some, same_Some}
+use Rattle.std.proofs.lemmas.List.Elements.{All-contains}
 use Rattle.bs_words.specs.Fits.{fits, type_of_comp, data_start}
 use Rattle.bs_words.specs.declared.types.Comp.{Comp}
 use Rattle.bs_words.specs.declared.values.Value.{Value}
 use Rattle.bs_words.specs.declared.values.Value.TheVariants as value
+use Rattle.bs_words.proofs.Lists.{first_in, head_same}
 use Rattle.mach_ir.specs.Acts.{Around, AtHandler, Act, Goes, Pushes, Jumps, Unwinds, Asks, Replaces, Ends, EndsRaising, Stuck}
 use Rattle.mach_ir.specs.Formed.{WellFormed}
 use Rattle.mach_ir.specs.Runs.{Place, asked, Continues, Pays, Waits, Tally, Run, Running, runs, onward}
@@ -23,10 +26,9 @@ use Rattle.mach_ir.specs.declared.mach.Instr.{Instr}
 use Rattle.mach_ir.specs.declared.mach.Mach.{Mach}
 use Rattle.mach_laws.proofs.General.{at}
 use Rattle.mach_laws.proofs.Simulate.{Agrees}
-use Rattle.mach_laws.proofs.Walking.{first_in}
-use Rattle.places_rules.proofs.Files.{differ, none_some, some_same, put_here, put_other}
-use Rattle.places_rules.proofs.Lists.{head_same}
-use Rattle.split_rules.proofs.Formed.{of_each}
+use Rattle.mach_laws.proofs.Runs.{running_same}
+use Rattle.mach_laws.proofs.Files.{put_other}
+use Rattle.places_rules.proofs.Files.{put_here}
 use Rattle.hoist_rules.specs.Hoisted.{FitsAlways, an_int, an_odd_val, MayMove, hoisted, MayAllMove}
 use Rattle.hoist_rules.proofs.Moved as at_entry_of
 use Rattle.hoist_rules.proofs.Moved.{member}
@@ -35,9 +37,6 @@ use Rattle.hoist_rules.proofs.Live as live
 abbrev word_in : MachOp → ℕ
 word_in (mach.Op (op.Pure (pure.Constant w))) = w
 word_in _ = 0
-
-running_same : (u v : State) (y z : Tally) → Running u y ≡ Running v z → u ≡ v
-running_same u v y z e = cc
 
 always_fits : {t : Comp} {w : ℕ} (end : ℕ) → FitsAlways t w → fits end (type_of_comp t) (value.Word w) ≡ true
 always_fits end an_int = refl
@@ -118,7 +117,7 @@ module _ (m : Mach) (moves : ℕ → Bool) (may : MayAllMove m moves) where
       put_here v.register (value.Word v.word) b n k
       ∙ ap Some
       (same_held v (at_entry_of.move_of m moves may a) (at_entry_of.one_maker m moves may (made_by_it s h v k) a)))
-      (λ t. put_other v.register (value.Word v.word) b n (λ k. differ (nat_eq (v.register).number n) (eq-eqb (v.register).number n k) t) ∙ e)
+      (λ t. put_other v.register (value.Word v.word) b n (λ k. both_ways (nat_eq (v.register).number n) t (eq-eqb (v.register).number n k)) ∙ e)
       (cases_Bool (nat_eq (v.register).number n))
 
   filled_stays : {n : ℕ} {xs : List Instr} (k : Front xs) (b : File) (a : IsMade n) → b n ≡ Some (held a) →
@@ -167,7 +166,7 @@ module _ (m : Mach) (moves : ℕ → Bool) (may : MayAllMove m moves) where
         t ∙ sym (v.own k j (sym e ∙ ap (λ (r : Reg). r.origin) t))
 
     pub same_value : {r k : Reg} {x y : Held} (b : File) → r ≡ k → b r.number ≡ Some x → b k.number ≡ Some y → x.value ≡ y.value
-    same_value b e s t = ap (λ (h : Held). h.value) (some_same (sym s ∙ ap (λ (r : Reg). b r.number) e ∙ t))
+    same_value b e s t = ap (λ (h : Held). h.value) (same_Some _ _ (sym s ∙ ap (λ (r : Reg). b r.number) e ∙ t))
 
     -- ---- with the entry, what is left does the same
 
@@ -281,7 +280,7 @@ module _ (m : Mach) (moves : ℕ → Bool) (may : MayAllMove m moves) where
     param_origin r i a =
         let k = member m.params a in
         subst (λ (r : Reg). r.origin ≡ r.number) (formed.numbers k.reg r (is_param k.among) i k.number)
-        (of_each (λ (r : Reg). r.origin ≡ r.number) m.params k.reg formed.params k.among)
+        (All-contains (λ (r : Reg). r.origin ≡ r.number) m.params k.reg formed.params k.among)
 
     agree_so : (ws : List Reg) (rest : List Instr) (b : File) (y : Around) → Holds b → OriginsAgree q ws (at rest b y)
     agree_so ws rest b y known =
@@ -294,8 +293,8 @@ module _ (m : Mach) (moves : ℕ → Bool) (may : MayAllMove m moves) where
         by : (r k : Reg) → IsRegister m r → IsRegister m k → r.origin ≡ k.origin → (u v : Held) → b r.number ≡ Some u →
             b k.number ≡ Some v → (b r.number ≡ None) ⊎ (Among r.number m.params ⊎ IsMade r.number) →
             (b k.number ≡ None) ⊎ (Among k.number m.params ⊎ IsMade k.number) → u.value ≡ v.value
-        by r k i j origin u v s t (inl e) z = absurd (none_some (sym e ∙ s))
-        by r k i j origin u v s t (inr z) (inl e) = absurd (none_some (sym e ∙ t))
+        by r k i j origin u v s t (inl e) z = absurd (none-some _ (sym e ∙ s))
+        by r k i j origin u v s t (inr z) (inl e) = absurd (none-some _ (sym e ∙ t))
         by r k i j origin u v s t (inr (inr a)) (inr z) = same_value b (same_origin r k i j origin a) s t
         by r k i j origin u v s t (inr (inl p)) (inr (inr a)) = sym (same_value b (same_origin k r j i (sym origin) a) t s)
         by r k i j origin u v s t (inr (inl p)) (inr (inl o)) =
@@ -310,7 +309,7 @@ module _ (m : Mach) (moves : ℕ → Bool) (may : MayAllMove m moves) where
         subst (λ o. (o ≡ None) ⊎ (Among n m.params ⊎ IsMade n))
         (sym
         (put_other v.register (value.Word v.word) b n
-        (λ k. differ (nat_eq (v.register).number n) (eq-eqb (v.register).number n k) t)))
+        (λ k. both_ways (nat_eq (v.register).number n) t (eq-eqb (v.register).number n k))))
         (known n))
         (cases_Bool (nat_eq (v.register).number n))
 
@@ -327,8 +326,7 @@ module _ (m : Mach) (moves : ℕ → Bool) (may : MayAllMove m moves) where
           record {
             written = λ j others e frame r one val live.
                 absurd
-                (differ (passes_frame j.op) frame
-                (ap (λ (i : Instr). passes_frame i.op) (sym (head_same e) ∙ v.is)));
+                (both_ways (passes_frame j.op) (ap (λ (i : Instr). passes_frame i.op) (sym (head_same e) ∙ v.is)) frame);
           }
 
       pub comes_through : {Suit : Around → Around → Type 0} {r : Run State} {t : Tally} {xs : List Instr} (k : Front xs) (b : File)

@@ -1,11 +1,13 @@
 -- A function whose constants are made at the entry does what it did: the registers of those hold them from there on, and
 -- every other one holds the same.
 use Rattle.std.proofs.Common.{◌≡◌, ℕ, Bool, true, false, cond, inl, inr, ◌⊎◌, ⊎_elim, List, [], ◌∷◌, length, Option, Some, None, refl, sym, ap, ◌∙◌, subst}
-use Rattle.std.proofs.lemmas.Bool.{cases_Bool, eqb-true, eq-eqb}
+use Rattle.std.proofs.lemmas.Bool.{cases_Bool, eqb-true, eq-eqb, both_ways}
 use Rattle.std.specs.Prelude.{nat_eq}
+use Rattle.std.proofs.lemmas.Option.{none-some, same_Some}
 use Rattle.bs_words.specs.Memory.{Memory}
 use Rattle.bs_words.specs.declared.values.Value.{Value}
 use Rattle.bs_words.specs.declared.values.Value.TheVariants as value
+use Rattle.bs_words.proofs.Lists.{head_same, tail_same}
 use Rattle.cmm_meaning.specs.State.{Doing}
 use Rattle.mach_ir.specs.Acts.{Around, Target, On, At, Landing, AtLabel, AtHandler, Act, Goes, Pushes, Jumps, Unwinds, Asks, Replaces, Ends, EndsRaising, Stuck}
 use Rattle.mach_ir.specs.Formed.{WellFormed}
@@ -21,16 +23,15 @@ use Rattle.mach_laws.proofs.General as general
 use Rattle.mach_laws.proofs.General.{at}
 use Rattle.mach_laws.proofs.Leads.{MayLand, Within, goes_in, pushes_in, jumps_in, unwinds_in, asks_in, lands_at_handler, within}
 use Rattle.mach_laws.proofs.Level as level
-use Rattle.mach_laws.proofs.Places.{tries_expand, ending_next, ending_label, ending_land}
+use Rattle.mach_laws.proofs.Places.{tries_expand, ending_next, ending_label, ending_land, stands_of}
 use Rattle.mach_laws.proofs.Simulate.{Agrees}
-use Rattle.places_rules.proofs.Lists.{head_same, tail_same}
-use Rattle.places_rules.proofs.Files.{differ, none_some, some_same, past_same, cleared, not_cleared, among_or_not, put_here, put_other, PutsBoth, put_both}
-use Rattle.places_rules.proofs.Walked.{stands_of}
+use Rattle.mach_laws.proofs.Among.{left_among, right_among}
+use Rattle.mach_laws.proofs.Files.{put_other}
+use Rattle.places_rules.proofs.Files.{past_same, cleared, not_cleared, among_or_not, put_here, PutsBoth, put_both}
 use Rattle.dead_rules.specs.Dropped.{may_go, without}
 use Rattle.dead_rules.proofs.Text.{pure_of, pure_no_frame, Fate, falls, remains, fate, keeps_marks}
 use Rattle.hoist_rules.specs.Hoisted.{MayMove, hoisted, MayAllMove}
 use Rattle.hoist_rules.proofs.Moved as at_entry_of
-use Rattle.hoist_rules.proofs.Moved.{left_among, right_among}
 use Rattle.hoist_rules.proofs.Live as live
 use Rattle.hoist_rules.proofs.Entry as entry
 use Rattle.hoist_rules.proofs.Entry.{puts_one, never_addr}
@@ -136,7 +137,7 @@ module _ (m : Mach) (moves : ℕ → Bool) (may : MayAllMove m moves) (formed : 
       record {
         written = λ j ys e frame r one val v none.
             let head = head_same e in
-            ⊎_elim (λ h. none_some (sym none ∙ same.made r.number h))
+            ⊎_elim (λ h. none-some _ (sym none ∙ same.made r.number h))
             (λ free.
             known.written i next refl (subst (λ (j : Instr). passes_frame j.op ≡ true) (sym head) frame) r
             (live.rest_register m moves may r one) val
@@ -302,8 +303,7 @@ module _ (m : Mach) (moves : ℕ → Bool) (may : MayAllMove m moves) (formed : 
 
         put_there : (d : File) → put_all c.setting.end i.results (w ∷ []) g ≡ Some d → put r w g ≡ d
         put_there d e =
-            some_same
-            (sym (puts_one c.setting.end r v.word g v.fits)
+            same_Some _ _ (sym (puts_one c.setting.end r v.word g v.fits)
             ∙ ap (λ (j : Instr). put_all c.setting.end j.results (w ∷ []) g) (sym v.is) ∙ e)
 
         still : (d : File) → put r w g ≡ d → Same d b
@@ -317,7 +317,7 @@ module _ (m : Mach) (moves : ℕ → Bool) (may : MayAllMove m moves) (formed : 
                   (λ t.
                   let k : d n ≡ a n =
                   ap (λ (x : File). x n) (sym e)
-                  ∙ put_other r w g n (λ k. differ (nat_eq r.number n) (eq-eqb r.number n k) t) ∙ unmoved n in
+                  ∙ put_other r w g n (λ k. both_ways (nat_eq r.number n) t (eq-eqb r.number n k)) ∙ unmoved n in
                   ⊎_elim (λ z. inl (k ∙ z)) (λ z. inr (k ∙ z.0, z.1)) (same.each n))
                   (cases_Bool (nat_eq r.number n));
               made = same.made;

@@ -2,20 +2,20 @@
 -- those constants excepted.
 use Rattle.std.proofs.Common.{◌≡◌, ℕ, Bool, true, false, inl, inr, ◌⊎◌, ⊎_elim, List, [], ◌∷◌, ◌++◌, length, refl, sym, ap, ◌∙◌, subst}
 use Rattle.std.specs.List.{Contains}
+use Rattle.std.proofs.lemmas.Bool.{both_ways}
 use Rattle.mach_ir.specs.Acts.{Target, On, At}
 use Rattle.bs_words.specs.declared.types.Comp.TheVariants as comp
+use Rattle.bs_words.proofs.Lists.{none_in, head_same, tail_same, none_there}
 use Rattle.mach_ir.specs.Meaning.{after_label, from_handler, code_at, killed, passes_frame, tries_at, tries_past}
 use Rattle.mach_ir.specs.Walks.{Among, OneOf, targets, may_raise, goes, raises, Reached, at_entry, by_step, by_raise, Live, read, on, aside, LiveAfter, after_step, LiveAcross, across_step, across_raise, InCode, in_args, in_results, further, IsRegister, is_param, is_colour, is_in_code, Stands, here, below, NoAddrLive, Meets, at_write, at_params, Joined, one_way, other_way}
 use Rattle.mach_ir.specs.declared.reg.Reg.{Reg}
 use Rattle.mach_ir.specs.declared.mach.Instr.{Instr}
 use Rattle.mach_ir.specs.declared.mach.Mach.{Mach}
 use Rattle.mach_laws.specs.Expand.{expand, Ending, all}
-use Rattle.mach_laws.proofs.Places.{tries_expand, ending_next, ending_label, ending_from_handler}
-use Rattle.places_rules.proofs.Lists.{head_same, tail_same, none_there}
-use Rattle.mach_laws.proofs.Walking.{none_in}
-use Rattle.places_rules.proofs.Walked.{split_among, stands_of, ending_of}
+use Rattle.mach_laws.proofs.Places.{tries_expand, ending_next, ending_label, ending_from_handler, stands_of, ending_of}
+use Rattle.mach_laws.proofs.Among.{split_among}
 use Rattle.dead_rules.specs.Dropped.{may_go, without}
-use Rattle.dead_rules.proofs.Text.{differ, pure_of, pure_on, pure_only, pure_quiet, pure_no_frame, Fate, falls, remains, fate, keeps_marks}
+use Rattle.dead_rules.proofs.Text.{pure_of, pure_on, pure_only, pure_quiet, pure_no_frame, Fate, falls, remains, fate, keeps_marks}
 use Rattle.hoist_rules.specs.Hoisted.{MayMove, hoisted, MayAllMove}
 use Rattle.hoist_rules.proofs.Moved as at_entry_of
 use Rattle.hoist_rules.proofs.Moved.{first_part, second_part, in_part}
@@ -278,7 +278,7 @@ module _ (m : Mach) (moves : ℕ → Bool) (may : MayAllMove m moves) where
   only_on v o = pure_only (pure_of _ (at_entry_of.may_go_so m moves may v)) o
 
   pub no_raise : {i : Instr} {next : List Instr} → MayMove m i next → may_raise i.op ≡ true → ⊥
-  no_raise v r = differ _ r (pure_quiet (pure_of _ (at_entry_of.may_go_so m moves may v)))
+  no_raise v r = both_ways _ (pure_quiet (pure_of _ (at_entry_of.may_go_so m moves may v))) r
 
   pub no_read : {n : ℕ} {i : Instr} {next : List Instr} → MayMove m i next → Among n i.args → ⊥
   no_read {n} v a = none_among (subst (λ (i : Instr). Among n i.args) v.is a)
@@ -401,5 +401,4 @@ module _ (m : Mach) (moves : ℕ → Bool) (may : MayAllMove m moves) where
       by j zs (behind_it b) frame x one addr v (inr free) = main j zs b frame x one addr v free
       by j zs (in_front at_entry_of.front_end e) frame x one addr v (inr free) = main j zs (at_first e) frame x one addr v free
       by j zs (in_front (at_entry_of.front_one {i = i} {next = next} s h k) e) frame x one addr v (inr free) =
-          differ _ (subst (λ (i : Instr). passes_frame i.op ≡ true) (head_same e) frame)
-          (pure_no_frame (pure_of _ (at_entry_of.may_go_so m moves may (may i next s h))))
+          both_ways _ (pure_no_frame (pure_of _ (at_entry_of.may_go_so m moves may (may i next s h)))) (subst (λ (i : Instr). passes_frame i.op ≡ true) (head_same e) frame)

@@ -1,6 +1,7 @@
 -- What moves to the entry: straight code that makes constants, each in a register of its own.
-use Rattle.std.proofs.Common.{◌≡◌, ℕ, ◌<◌, Bool, true, false, cond, inl, inr, ◌⊎◌, ⊎_elim, List, [], ◌∷◌, ◌++◌, length, refl, sym, ap, ◌∙◌, subst, arith}
+use Rattle.std.proofs.Common.{◌≡◌, ℕ, Bool, true, false, cond, inl, inr, ◌⊎◌, ⊎_elim, List, [], ◌∷◌, ◌++◌, length, refl, sym, ap, ◌∙◌, subst, arith}
 use Rattle.std.specs.List.{Contains}
+use Rattle.std.proofs.lemmas.Bool.{both_ways}
 use Rattle.mach_ir.specs.Acts.{Target, On, At, Landing, AtLabel, AtHandler}
 use Rattle.mach_ir.specs.Meaning.{after_label, from_handler, at_handler, code_at, landing_code, has_label, is_handler_of, killed, tries_at, tries_past}
 use Rattle.mach_ir.specs.Walks.{Among, first, later, Writes, Stands, here, below}
@@ -8,30 +9,13 @@ use Rattle.mach_ir.specs.declared.reg.Reg.{Reg}
 use Rattle.mach_ir.specs.declared.mach.Instr.{Instr}
 use Rattle.mach_ir.specs.declared.mach.Mach.{Mach}
 use Rattle.mach_laws.specs.Expand.{expand, Ending, all}
-use Rattle.mach_laws.proofs.Places.{label_expand, handler_expand, ending_next}
-use Rattle.mach_laws.proofs.Walking.{none_in, first_in, later_in, in_cons}
+use Rattle.mach_laws.proofs.Places.{label_expand, handler_expand, ending_next, stands_of, shorter}
+use Rattle.mach_laws.proofs.Among.{none_among, left_among}
 use Rattle.places_rules.proofs.Files.{among_or_not}
-use Rattle.places_rules.proofs.Walked.{stands_of}
 use Rattle.dead_rules.specs.Dropped.{may_go, without}
-use Rattle.dead_rules.proofs.Text.{differ, keeps_marks, pure_of, pure_kills}
+use Rattle.dead_rules.proofs.Text.{keeps_marks, pure_of, pure_kills}
+use Rattle.bs_words.proofs.Lists.{none_in, first_in, later_in, in_cons}
 use Rattle.hoist_rules.specs.Hoisted.{MayMove, moved, hoisted, MayAllMove}
-
-among_none : (n : ℕ) → Among n [] → ⊥
-among_none n a = elim a [ ]
-
-pub left_among : {n : ℕ} (rs qs : List Reg) → Among n rs → Among n (rs ++ qs)
-left_among (r ∷ rs) qs (first e) = first e
-left_among (r ∷ rs) qs (later a) = later (left_among rs qs a)
-left_among [] qs a = elim a [ ]
-
-pub right_among : {n : ℕ} (rs qs : List Reg) → Among n qs → Among n (rs ++ qs)
-right_among [] qs a = a
-right_among (r ∷ rs) qs a = later (right_among rs qs a)
-
-pub among_of : (r : Reg) (rs : List Reg) → Contains rs r → Among r.number rs
-among_of r [] c = absurd (none_in r c)
-among_of r (k ∷ rs) c =
-    ⊎_elim (λ e. first (ap (λ (x : Reg). x.number) e)) (λ d. later (among_of r rs d)) (in_cons k r rs c)
 
 -- the register by which a number is among these
 pub record Member (n : ℕ) (rs : List Reg) : Type 0 where
@@ -68,10 +52,6 @@ in_part {r} (x ∷ xs) ys c =
     (λ d. ⊎_elim (λ h. inl (later_in x r xs h)) inr (in_part xs ys d)) (in_cons x r (xs ++ ys) c)
 
 -- ---- places
-
-pub shorter : {i : Instr} {next code : List Instr} → Stands i next code → length next < length code
-shorter here = omega arith
-shorter (below s) = let lt = shorter s in omega (arith, lt)
 
 -- what stands before one code is one instruction
 pub same_place : {i j : Instr} {next others code : List Instr} → Stands i next code → Stands j others code →
@@ -141,12 +121,12 @@ module _ (m : Mach) (moves : ℕ → Bool) (may : MayAllMove m moves) where
       (may_go j.op ≡ true → moves (length others) ≡ false) → IsMade n → Writes m j n → ⊥
   left_writes_none j others s kept a w =
       let t = ap (λ xs. moves (length xs)) (made_once a j others s w) ∙ a.moves_so in
-      differ (moves (length others)) t (kept (may_go_so (may j others s t)))
+      both_ways (moves (length others)) (kept (may_go_so (may j others s t))) t
 
   -- what moves destroys nothing
   pub none_killed : (n : ℕ) {i : Instr} {next : List Instr} → MayMove m i next → Among n (killed m i) → ⊥
   none_killed n {i} v a =
-      among_none n (subst (Among n) (pure_kills m.colours i.results (pure_of i.op (may_go_so v))) a)
+      none_among (subst (Among n) (pure_kills m.colours i.results (pure_of i.op (may_go_so v))) a)
 
   scan : (n : ℕ) (code : List Instr) → Ending code m.code →
       IsMade n ⊎ ((i : Instr) (next : List Instr) → Stands i next code → moves (length next) ≡ true → Among n i.results → ⊥)
@@ -164,7 +144,7 @@ module _ (m : Mach) (moves : ℕ → Bool) (may : MayAllMove m moves) where
       by b e o (inl made) = inl made
       by true e (inl a) (inr k) =
           inl (record { instr = i; next = is; stands = stands_of ending; moves_so = e; among = a })
-      by false e (inl a) (inr k) = inr (none (λ t z. differ (moves (length is)) t e) k)
+      by false e (inl a) (inr k) = inr (none (λ t z. both_ways (moves (length is)) e t) k)
       by b e (inr h) (inr k) = inr (none (λ t z. h z) k)
 
   pub made_or_not : (n : ℕ) → IsMade n ⊎ (IsMade n → ⊥)

@@ -1,11 +1,13 @@
 -- What a function keeps whose constants are made at the entry.
-use Rattle.std.proofs.Common.{◌≡◌, ◌≢◌, ℕ, zero, suc, ◌+◌, ◌<◌, ◌≤◌, Bool, true, false, cond, inl, ⊎_elim, List, [], ◌∷◌, ◌++◌, length, refl, sym, ap, ◌∙◌, subst, arith}
-use Rattle.std.proofs.lemmas.List.Elements.{Contains-get_or}
+use Rattle.std.proofs.Common.{◌≡◌, ◌≢◌, ℕ, ◌+◌, ◌<◌, ◌≤◌, Bool, true, false, cond, inl, ⊎_elim, List, [], ◌∷◌, ◌++◌, length, refl, sym, ap, ◌∙◌, subst, arith}
+use Rattle.std.proofs.lemmas.List.Elements.{Contains-get_or, All-contains}
 use Rattle.std.specs.List.{All, AllPairs, Contains}
 use Rattle.std.specs.Prelude.{slice_index_or}
+use Rattle.std.proofs.lemmas.Bool.{both_ways}
 use Rattle.bs_words.specs.declared.types.Comp.{Comp}
 use Rattle.bs_words.specs.declared.types.Comp.TheVariants as comp
 use Rattle.bs_words.specs.declared.types.Loc.TheVariants as loc
+use Rattle.bs_words.proofs.Lists.{none_in, first_in, later_in, in_cons, head_same, tail_same, none_there}
 use Rattle.mach_ir.specs.Acts.{On, At}
 use Rattle.mach_ir.specs.Formed.{IsFormed, AreDistinct, labels_in, HasPlace, place_here, place_below, HasHandler, handler_here, handler_below, LeadsTo, is_exit, LabelsStand, tries_left, leaves, IsNested, CasesAgree, WellFormed}
 use Rattle.mach_ir.specs.Keeps.{Keeps, NamesSymbol, NamesExternal, IsNamedIn}
@@ -13,10 +15,9 @@ use Rattle.mach_ir.specs.Meaning.{is_addr, after_label, from_handler, code_at, t
 use Rattle.mach_ir.specs.Placed.{WellPlaced, AllocatesFresh, IsFresh, is_straight, AreStraight}
 use Rattle.mach_ir.specs.Seats.{Seated}
 use Rattle.mach_ir.specs.Sizes.{operand_count, Size, HasSize}
-use Rattle.mach_ir.specs.Walks.{Among, may_raise, Writes, IsRegister, Stands, here, below}
+use Rattle.mach_ir.specs.Walks.{Among, may_raise, Writes, IsRegister, Stands}
 use Rattle.mach_ir.specs.declared.blocks.NewBlock.{NewBlock}
 use Rattle.mach_ir.specs.declared.op.Access.TheVariants as access
-use Rattle.mach_ir.specs.declared.op.Op.{Op}
 use Rattle.mach_ir.specs.declared.op.Op.TheVariants as op
 use Rattle.mach_ir.specs.declared.op.Pure.TheVariants as pure
 use Rattle.mach_ir.specs.declared.mach.Mark.{Mark}
@@ -27,13 +28,11 @@ use Rattle.mach_ir.specs.declared.reg.Reg.{Reg}
 use Rattle.mach_ir.specs.declared.mach.Instr.{Instr}
 use Rattle.mach_ir.specs.declared.mach.Mach.{Mach}
 use Rattle.mach_laws.specs.Expand.{expand, Ending, all}
-use Rattle.mach_laws.proofs.Places.{tries_expand, ending_next}
-use Rattle.mach_laws.proofs.Walking.{none_in, first_in, later_in, in_cons}
-use Rattle.places_rules.proofs.Lists.{head_same, tail_same, none_there}
-use Rattle.places_rules.proofs.Walked.{stands_of}
-use Rattle.split_rules.proofs.Formed.{contains_of, stands_in, of_each}
+use Rattle.mach_laws.proofs.Places.{tries_expand, ending_next, stands_of, stands_behind, stands_within, head_of, tail_of, straight_cons, straight_none}
+use Rattle.mach_laws.proofs.Instructions.{no_op}
+use Rattle.split_rules.proofs.Formed.{contains_of, stands_in}
 use Rattle.dead_rules.specs.Dropped.{may_go, without}
-use Rattle.dead_rules.proofs.Text.{differ, pure_of, pure_straight, label_stays, handler_stays, mark_stays, Fate, falls, remains, fate, keeps_marks, same_labels}
+use Rattle.dead_rules.proofs.Text.{pure_of, pure_straight, label_stays, handler_stays, mark_stays, Fate, falls, remains, fate, keeps_marks, same_labels}
 use Rattle.hoist_rules.specs.Hoisted.{MayMove, moved, hoisted, MayAllMove}
 use Rattle.hoist_rules.proofs.Moved as at_entry_of
 use Rattle.hoist_rules.proofs.Live as live
@@ -41,30 +40,6 @@ use Rattle.hoist_rules.proofs.Entry as entry
 use Rattle.hoist_rules.proofs.Kept.{does_hoisted}
 
 -- ---- lists
-
-head_of : (x : Instr) (xs : List Instr) → AreStraight (x ∷ xs) → is_straight x.op ≡ true
-head_of x xs h = let lt : 0 < length (x ∷ xs) = omega arith in h 0 x lt
-
-tail_of : (x : Instr) (xs : List Instr) → AreStraight (x ∷ xs) → AreStraight xs
-tail_of x xs h = λ k d lt. h (suc k) d (omega (arith, lt))
-
-straight_cons : (x : Instr) (xs : List Instr) → is_straight x.op ≡ true → AreStraight xs → AreStraight (x ∷ xs)
-straight_cons x xs e h = by
-  where
-    by : (k : ℕ) (d : Instr) → k < length (x ∷ xs) → is_straight (slice_index_or (x ∷ xs) k d).op ≡ true
-    by zero d lt = e
-    by (suc k) d lt = h k d (omega (arith, lt))
-
-straight_none : AreStraight []
-straight_none = λ k d lt. absurd (omega (arith, lt))
-
-stands_behind : (run : List Instr) (i : Instr) (next : List Instr) → Stands i next (run ++ i ∷ next)
-stands_behind [] i next = here
-stands_behind (x ∷ run) i next = below (stands_behind run i next)
-
-stands_within : {i j : Instr} {next rest code : List Instr} → Stands j rest code → Stands i next rest → Stands i next code
-stands_within here s = below s
-stands_within (below t) s = below (stands_within t s)
 
 in_second : (i : Instr) (xs ys : List Instr) → Contains ys i → Contains (xs ++ ys) i
 in_second i [] ys c = c
@@ -76,12 +51,6 @@ place_second (x ∷ xs) ys p = place_below (place_second xs ys p)
 
 is_one : (c : Comp) → c ≡ comp.Addr → is_addr c ≡ true
 is_one c e = ap is_addr e
-
-no_mark : (f : Op) (g : Mark) → mach.Op f ≡ mach.Mark g → ⊥
-no_mark f g e = cc
-
-less : (a b c : ℕ) → a ≤ b → b ≤ c → a ≤ c
-less a b c x y = omega (arith, x, y)
 
 module _ (m : Mach) (moves : ℕ → Bool) (may : MayAllMove m moves) where
   abbrev q : Mach
@@ -114,7 +83,7 @@ module _ (m : Mach) (moves : ℕ → Bool) (may : MayAllMove m moves) where
   -- ---- what moves is no mark, and leaves nothing
 
   never_mark : {i : Instr} {next : List Instr} → MayMove m i next → (g : Mark) → i.op ≡ mach.Mark g → ⊥
-  never_mark v g e = no_mark _ g (sym (ap (λ (i : Instr). i.op) v.is) ∙ e)
+  never_mark v g e = no_op _ g (sym (ap (λ (i : Instr). i.op) v.is) ∙ e)
 
   never_leads : {i : Instr} {next : List Instr} → MayMove m i next → (l : ℕ) → LeadsTo i.op l → ⊥
   never_leads v l o = no_label (live.only_on m moves may v o)
@@ -126,7 +95,7 @@ module _ (m : Mach) (moves : ℕ → Bool) (may : MayAllMove m moves) where
   never_raises v r = live.no_raise m moves may v r
 
   never_leaves : {i : Instr} {next : List Instr} → MayMove m i next → leaves i.op ≡ true → ⊥
-  never_leaves v e = differ true refl (sym e ∙ ap (λ (i : Instr). leaves i.op) v.is)
+  never_leaves v e = both_ways true (sym e ∙ ap (λ (i : Instr). leaves i.op) v.is) refl
 
   -- ---- what is in the code
 
@@ -143,7 +112,7 @@ module _ (m : Mach) (moves : ℕ → Bool) (may : MayAllMove m moves) where
     where
       by : Fate moves j is → (Contains is i → Contains (expand f is) i) → Contains (expand f (j ∷ is)) i
       by (falls g d s h) again =
-          ⊎_elim (λ e. absurd (differ (may_go j.op) g (ap (λ (x : Instr). may_go x.op) e ∙ k)))
+          ⊎_elim (λ e. absurd (both_ways (may_go j.op) (ap (λ (x : Instr). may_go x.op) e ∙ k) g))
           (λ t. subst (λ xs. Contains xs i) (sym h) (again t)) (in_cons j i is c)
       by (remains g s h) again =
           subst (λ xs. Contains xs i) (sym h)
@@ -159,7 +128,7 @@ module _ (m : Mach) (moves : ℕ → Bool) (may : MayAllMove m moves) where
   place_left {l} (place_here {i = i} {is = is} e) = by (fate moves i is)
     where
       by : Fate moves i is → HasPlace l (expand f (i ∷ is))
-      by (falls g d s h) = absurd (differ (may_go i.op) g (label_stays l i.op e))
+      by (falls g d s h) = absurd (both_ways (may_go i.op) (label_stays l i.op e) g)
       by (remains k s h) = subst (HasPlace l) (sym h) (place_here e)
   place_left {l} (place_below {i = i} {is = is} p) = by (fate moves i is) (place_left p)
     where
@@ -171,7 +140,7 @@ module _ (m : Mach) (moves : ℕ → Bool) (may : MayAllMove m moves) where
   handler_left {l} (handler_here {i = i} {is = is} e) = by (fate moves i is)
     where
       by : Fate moves i is → HasHandler l (expand f (i ∷ is))
-      by (falls g d s h) = absurd (differ (may_go i.op) g (handler_stays l i.op e))
+      by (falls g d s h) = absurd (both_ways (may_go i.op) (handler_stays l i.op e) g)
       by (remains k s h) = subst (HasHandler l) (sym h) (handler_here e)
   handler_left {l} (handler_below {i = i} {is = is} p) = by (fate moves i is) (handler_left p)
     where
@@ -298,9 +267,9 @@ module _ (m : Mach) (moves : ℕ → Bool) (may : MayAllMove m moves) where
     where
       by : (b : Bool) → moves (length is) ≡ b → Fate moves i is → Divides i is
       by true e (falls g d s h) = goes_first (ap (λ b. cond b (i ∷ []) [] ++ expand (moved moves) is) e) h
-      by false e (falls g d s h) = absurd (differ (moves (length is)) d e)
+      by false e (falls g d s h) = absurd (both_ways (moves (length is)) e d)
       by true e (remains k s h) =
-          absurd (differ (moves (length is)) e (k (at_entry_of.may_go_so m moves may (may i is (stands_of ending) e))))
+          absurd (both_ways (moves (length is)) (k (at_entry_of.may_go_so m moves may (may i is (stands_of ending) e))) e)
       by false e (remains k s h) = goes_after (ap (λ b. cond b (i ∷ []) [] ++ expand (moved moves) is) e) h
 
   -- what is a sum over instructions stays
@@ -453,9 +422,9 @@ module _ (m : Mach) (moves : ℕ → Bool) (may : MayAllMove m moves) where
           numbers = λ r k i j e. formed.numbers r k (was r i) (was k j) e;
           params = formed.params;
           params_distinct = formed.params_distinct;
-          instrs = each_in IsFormed (λ i c. of_each IsFormed m.code i formed.instrs c);
+          instrs = each_in IsFormed (λ i c. All-contains IsFormed m.code i formed.instrs c);
           distinct = each_in (λ (i : Instr). AreDistinct i.results)
-              (λ i c. of_each (λ (i : Instr). AreDistinct i.results) m.code i formed.distinct c);
+              (λ i c. All-contains (λ (i : Instr). AreDistinct i.results) m.code i formed.distinct c);
           returns = λ i c e. formed.returns i (contains_back i c) e;
           labels_once = subst (λ ls. AllPairs (λ k l. k ≢ l) ls) (sym labels_same) formed.labels_once;
           labels_below = subst (λ ls. All (λ l. l < m.labels) ls) (sym labels_same) formed.labels_below;
@@ -496,6 +465,5 @@ module _ (m : Mach) (moves : ℕ → Bool) (may : MayAllMove m moves) where
           externals = λ row n. named_before (NamesExternal row) n;
           addrs = live.no_addr_back m moves may
               (λ r i a addr.
-              differ (is_addr r.comp) (is_one r.comp addr)
-              (ap (λ (r : Reg). is_addr r.comp) (made_is r i a) ∙ entry.never_addr (at_entry_of.move_of m moves may a).fits));
+              both_ways (is_addr r.comp) (ap (λ (r : Reg). is_addr r.comp) (made_is r i a) ∙ entry.never_addr (at_entry_of.move_of m moves may a).fits) (is_one r.comp addr));
         }

@@ -1,9 +1,10 @@
 -- The external calls of a file: no row stands twice, and each keeps the rules of images.
-use Rattle.std.proofs.Common.{◌≡◌, ◌≢◌, ℕ, Bool, true, false, cond, ◌&&◌, ◌||◌, ◌==◌, List, [], ◌∷◌, ◌++◌, map, refl, sym, ap, ◌∙◌, subst, bytes_eq, true≢false}
+use Rattle.std.proofs.Common.{◌≡◌, ◌≢◌, ℕ, Bool, true, false, cond, ◌&&◌, ◌==◌, List, [], ◌∷◌, ◌++◌, map, refl, sym, ap, ◌∙◌, subst, bytes_eq, true≢false}
 use Rattle.std.specs.List.{AllByRecursion}
 use Rattle.std.proofs.lemmas.List.{map-append}
 use Rattle.std.proofs.Math.Dec.{T, eqb_refl}
 use Rattle.std.proofs.lemmas.Slice.Eq.{bytes_eq-Decides}
+use Rattle.std.proofs.lemmas.Bool.{or_parts}
 use Rattle.bs_words.specs.External.{External}
 use Rattle.bs_words.specs.declared.types.Comp.{Comp}
 use Rattle.bs_words.specs.declared.types.Ret.{Ret}
@@ -47,14 +48,10 @@ row_same a b e =
     (subst (λ (ps : List Comp). bytes_eq (map comp_byte a.params) (map comp_byte ps) ≡ true) params (bytes_same (map comp_byte a.params)))
     (subst (λ (r : Ret). (ret_byte a.result == ret_byte r) ≡ true) results (number_same (ret_byte a.result)))
 
-neither : (a b : Bool) → (a || b) ≡ false → (a ≡ false) × (b ≡ false)
-neither false b e = (refl, e)
-neither true b e = cc
-
 others : (rows : List External) (e : External) → is_among rows e ≡ false → AllByRecursion (λ x. x ≢ ext_of e) (map ext_of rows)
 others [] e none = tt
 others (x ∷ rows) e none =
-    let both = neither (same_row x e) (is_among rows e) none in
+    let both = or_parts (same_row x e) (is_among rows e) none in
     (λ same. true≢false (sym (row_same x e same) ∙ both.0), others rows e both.1)
 
 all_then : {A : Type 0} (P : A → Type 0) (xs : List A) (y : A) → AllByRecursion P xs → P y → AllByRecursion P (xs ++ y ∷ [])

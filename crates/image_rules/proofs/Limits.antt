@@ -1,6 +1,6 @@
 -- Where no section of an image passes its limit.
-use Rattle.std.proofs.Common.{◌≡◌, ℕ, ◌*◌, ◌≤◌, Bool, true, false, cond, List, [], ◌∷◌, length, refl}
-use Rattle.std.specs.Prelude.{Option, Some, None, find, nat_lt, option_map}
+use Rattle.std.proofs.Common.{◌≡◌, ◌*◌, ◌≤◌, Bool, true, false, cond, List, [], ◌∷◌, length, refl}
+use Rattle.std.specs.Prelude.{Option, Some, None, find, option_map}
 use Rattle.std.specs.List.{AllByRecursion}
 use Rattle.std.proofs.lemmas.Bool.{ltb-false}
 use Rattle.bs_words.specs.Fits.{data_limit}
@@ -20,9 +20,6 @@ pub record AreShort (t : Tables) : Type 0 where
   pub extcs : length (table_bytes ext_bytes t.extcs) ≤ table_limit
   pub descs : length (table_bytes (desc_bytes t.version) t.descs) ≤ table_limit
 
-not_below : (a b : ℕ) → nat_lt a b ≡ false → b ≤ a
-not_below a b e = ltb-false a b e
-
 none_found : {A : Type 0} (test : A → Bool) (xs : List A) → find test xs ≡ None → AllByRecursion (λ x. test x ≡ false) xs
 none_found test [] none = tt
 none_found test (x ∷ xs) none = by (test x) refl none (none_found test xs)
@@ -40,11 +37,11 @@ pub are_short : (t : Tables) → first_too_large t ≡ None → AreShort t
 are_short t none =
     let all = none_found (passes_limit t) sections (of_none (λ (section : Section). record { section = section; bytes = section_bytes_of t section }) (find (passes_limit t) sections) none) in
     record {
-      funcs = not_below (limit_of Func) (section_bytes_of t Func) all.0;
-      code = not_below (limit_of Code) (section_bytes_of t Code) all.1.0;
-      bytes = not_below (limit_of Data) (section_bytes_of t Data) all.1.1.0;
-      syms = not_below (limit_of Syms) (section_bytes_of t Syms) all.1.1.1.0;
-      roots = not_below (limit_of Root) (section_bytes_of t Root) all.1.1.1.1.0;
-      extcs = not_below (limit_of Extc) (section_bytes_of t Extc) all.1.1.1.1.1.0;
-      descs = not_below (limit_of Desc) (section_bytes_of t Desc) all.1.1.1.1.1.1.0;
+      funcs = ltb-false (limit_of Func) (section_bytes_of t Func) all.0;
+      code = ltb-false (limit_of Code) (section_bytes_of t Code) all.1.0;
+      bytes = ltb-false (limit_of Data) (section_bytes_of t Data) all.1.1.0;
+      syms = ltb-false (limit_of Syms) (section_bytes_of t Syms) all.1.1.1.0;
+      roots = ltb-false (limit_of Root) (section_bytes_of t Root) all.1.1.1.1.0;
+      extcs = ltb-false (limit_of Extc) (section_bytes_of t Extc) all.1.1.1.1.1.0;
+      descs = ltb-false (limit_of Desc) (section_bytes_of t Desc) all.1.1.1.1.1.1.0;
     }

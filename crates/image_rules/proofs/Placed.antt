@@ -26,7 +26,7 @@ record AreEnough (bytes cells : ℕ) : Type 0 where
   all : bytes ≤ 8 * cells
   no_more : 8 * cells < bytes + 8
 
-cells_enough : (bs : List DataByte) → AreEnough (length bs) (length (cells_of bs))
+pub cells_enough : (bs : List DataByte) → AreEnough (length bs) (length (cells_of bs))
 cells_enough [] = record { all = omega arith; no_more = omega arith }
 cells_enough (a ∷ []) = record { all = omega arith; no_more = omega arith }
 cells_enough (a ∷ b ∷ []) = record { all = omega arith; no_more = omega arith }
@@ -39,7 +39,7 @@ cells_enough (a ∷ b ∷ c ∷ d ∷ e ∷ f ∷ g ∷ h ∷ rest) =
     let more = cells_enough rest in
     record { all = omega (arith, more.all); no_more = omega (arith, more.no_more) }
 
-items_length : (symbols : List ℕ → Option Value) (address : ℕ) (items : List DataItemTree) →
+pub items_length : (symbols : List ℕ → Option Value) (address : ℕ) (items : List DataItemTree) →
     address + length (bytes_of_items symbols (items_from address items)) ≡ end_of_items address items
 items_length symbols address [] = omega arith
 items_length symbols address (i ∷ items) =
@@ -179,3 +179,10 @@ list_roots_lie end (d ∷ lists) =
 -- The root cells of a file lie in its data, one after the other.
 pub roots_in_data : (file : FileTree) → CellsLie data_start (data_end file) (root_cells file)
 roots_in_data file = list_roots_lie data_start (lists_of file)
+
+pub cells_few : (low high : ℕ) (rs : List ℕ) → CellsLie low high rs → low + 8 * length rs ≤ high
+cells_few low high [] lie = omega (arith, lie)
+cells_few low high (r ∷ rs) lie =
+    let here : low ≤ r = lie.0 in
+    let others = cells_few (r + 8) high rs lie.1 in
+    omega (arith, here, others)

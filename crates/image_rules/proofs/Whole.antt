@@ -73,7 +73,7 @@ code_below file entries at (p ∷ ps) (f ∷ forms) laid low =
 
 -- ---- functions
 
-some_words : (p : Piece) (f : Form) → has_words p ≡ true → 1 ≤ words_of p f
+pub some_words : (p : Piece) (f : Form) → has_words p ≡ true → 1 ≤ words_of p f
 some_words (Known i) f some = omega arith
 some_words (Label l) f some = cc
 some_words (Branch c a b l) Near some = omega arith

@@ -10,8 +10,8 @@ use Rattle.mach_ir.specs.Walks.{InCode, in_args, in_results, further, IsRegister
 use Rattle.mach_ir.specs.declared.reg.Reg.{Reg}
 use Rattle.mach_ir.specs.declared.mach.Instr.{Instr}
 use Rattle.mach_ir.specs.declared.mach.Mach.{Mach}
-use Rattle.mach_laws.proofs.Walking.{none_in, first_in, in_cons}
 use Rattle.liveness.proofs.Bounds.{split_in}
+use Rattle.bs_words.proofs.Lists.{none_in, first_in, in_cons}
 use Rattle.interfere.specs.Registers.{IsAt, HasOne, Enters, AreRegisters}
 use Rattle.interfere.proofs.Pairs.{left_in, right_in}
 

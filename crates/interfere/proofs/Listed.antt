@@ -15,8 +15,8 @@ use Rattle.mach_ir.specs.declared.graph.Graph.{Graph}
 use Rattle.mach_ir.specs.declared.graph.Node.{Node}
 use Rattle.mach_ir.specs.declared.reg.Reg.{Reg}
 use Rattle.mach_ir.specs.declared.mach.Mach.{Mach}
-use Rattle.mach_laws.proofs.Walking.{none_in, first_in, later_in, in_cons}
 use Rattle.liveness.proofs.Bounds.{split_in}
+use Rattle.bs_words.proofs.Lists.{none_in, first_in, later_in, in_cons}
 use Rattle.interfere.specs.Registers.{IsAt}
 use Rattle.interfere.specs.Tables.{AreTables, AreByNumber, IsNode, IsNodeAt, HasNode, AreNodesBelow}
 use Rattle.interfere.specs.declared.tables.Tables.{Tables}

@@ -7,8 +7,8 @@ use Rattle.std.proofs.lemmas.List.{get_or_past}
 use Rattle.std.proofs.lemmas.List.Elements.{Contains-get_or}
 use Rattle.std.proofs.lemmas.List.Quantifiers.{all_pairs_push}
 use Rattle.bs_bits.specs.Set.{has, IsNext, HasNoneFrom}
-use Rattle.mach_laws.proofs.Walking.{none_in, first_in, in_cons}
 use Rattle.liveness.proofs.Bounds.{split_in}
+use Rattle.bs_words.proofs.Lists.{none_in, first_in, in_cons}
 use Rattle.interfere.specs.Members.{AreMembers}
 use Rattle.interfere.proofs.Pairs.{left_in, right_in}
 

@@ -27,8 +27,9 @@ use Rattle.mach_ir.specs.declared.mach.Mach.{Mach}
 use Rattle.mach_laws.specs.Expand.{Ending, all, more}
 use Rattle.mach_laws.specs.Graph.{place_of, numbers, next_places}
 use Rattle.mach_laws.proofs.Places.{ending_from_handler}
-use Rattle.mach_laws.proofs.Walking.{none_in, first_in, later_in, in_cons, place_is, ending_at, ending_drop}
+use Rattle.mach_laws.proofs.Walking.{place_is, ending_at, ending_drop}
 use Rattle.liveness.proofs.Bounds.{split_in, killed_is_colour}
+use Rattle.bs_words.proofs.Lists.{none_in, first_in, later_in, in_cons}
 use Rattle.interfere.specs.Moves.{is_move_op, is_move_pure, is_move_kind, move_between, move_of, is_from_to}
 use Rattle.interfere.specs.Moves as moves
 use Rattle.interfere.specs.Pairs.{Table, Has, EitherWay, one_way, other_way, Adds, ForOne, MeetsSet, MeetsPlaces}

@@ -7,7 +7,7 @@ use Rattle.std.proofs.lemmas.List.{append-nil, length-map, map-set, get_or-map, 
 use Rattle.mach_ir.specs.Graph.{partner}
 use Rattle.mach_ir.specs.declared.reg.Reg.{Reg}
 use Rattle.mach_ir.specs.declared.mach.Instr.{Instr}
-use Rattle.mach_laws.proofs.Walking.{first_in}
+use Rattle.bs_words.proofs.Lists.{first_in}
 use Rattle.interfere.specs.Moves.{is_move, move_between, move_of}
 use Rattle.interfere.specs.Partners.{partners_in, AreSmall, no_move, both}
 use Rattle.interfere.specs.declared.partners.Partners.{Partners}

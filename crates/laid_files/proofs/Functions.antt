@@ -3,7 +3,7 @@ use Rattle.std.proofs.Common.{◌≡◌, ℕ, zero, suc, ◌+◌, ◌*◌, ◌/�
 use Rattle.std.specs.Prelude.{All, AllPairs, Contains, count_by, slice_index_or}
 use Rattle.std.specs.List.{AllByRecursion}
 use Rattle.std.proofs.lemmas.List.Sums.{sum_by-cons}
-use Rattle.std.proofs.lemmas.List.Elements.{Contains-append_right}
+use Rattle.std.proofs.lemmas.List.Elements.{Contains-append_right, recursion_from_All}
 use Rattle.bs_words.specs.declared.types.Loc.{Loc}
 use Rattle.emit_rules.specs.Emitted.{part_before, parts, descriptor, left_after, emitted}
 use Rattle.emit_rules.specs.Entry.{Frame, frame_of, entry}
@@ -105,10 +105,6 @@ all_of : {A : Type 0} (P : A → Type 0) (xs : List A) → ((x : A) → Contains
 all_of P [] each = tt
 all_of P (x ∷ xs) each = (each x (0, omega arith, refl), all_of P xs (λ y c. each y (Contains-append_right (x ∷ []) xs y c)))
 
-pub all_at : {A : Type 0} (P : A → Type 0) (xs : List A) → All P xs → AllByRecursion P xs
-all_at P [] all = tt
-all_at P (x ∷ xs) all = (all 0 x (omega arith), all_at P xs (λ k d lt. all (suc k) d (omega (arith, lt))))
-
 next_entry : (a b : ℕ) → ComesBefore a b → IsNextEntry a b
 next_entry a b (register_first p q) = inr (p, q)
 next_entry a b (rising p q) = inl (p, q)
@@ -121,7 +117,7 @@ in_order (x ∷ xs) pairs = (first xs pairs, in_order xs (λ i j d lt within. pa
     first [] pairs = tt
     first (y ∷ ys) pairs = next_entry x y (pairs 0 1 0 (omega arith) (omega arith))
 
-point_among : (i : Line) (next code : List Line) → Stands i next code → passes_frame i.op ≡ true → has_frame_point code ≡ true
+pub point_among : (i : Line) (next code : List Line) → Stands i next code → passes_frame i.op ≡ true → has_frame_point code ≡ true
 point_among i next _ here e = ap (λ b. b || has_frame_point next) e
 point_among i next _ (below {j} {is} s) e = ap (λ b. passes_frame j.op || b) (point_among i next is s e) ∙ or_true (passes_frame j.op)
   where
@@ -166,7 +162,7 @@ module _ (m : Lin) (regular : IsRegular m) (within : IsWithin m) where
       }
 
   pub descriptors_are : (ds : List Descr) → AreExact m ds → All (NamesHomes m) ds → AllByRecursion IsDescriptor ds
-  descriptors_are ds exact homes = both ds (all_at (Describes m) ds exact.others) (all_at (NamesHomes m) ds homes)
+  descriptors_are ds exact homes = both ds (recursion_from_All (Describes m) ds exact.others) (recursion_from_All (NamesHomes m) ds homes)
     where
       both : (ds : List Descr) → AllByRecursion (Describes m) ds → AllByRecursion (NamesHomes m) ds → AllByRecursion IsDescriptor ds
       both [] p q = tt

@@ -4,7 +4,7 @@ use Rattle.std.specs.Prelude.{AllPairs, Contains, IsSome, count_by, flat_map}
 use Rattle.std.specs.List.{AllByRecursion}
 use Rattle.std.proofs.lemmas.Bool.{eqb-true}
 use Rattle.std.proofs.lemmas.List.Sums.{sum_by-cons}
-use Rattle.std.proofs.lemmas.List.Elements.{Contains-append_left, Contains-append_right}
+use Rattle.std.proofs.lemmas.List.Elements.{Contains-append_left, Contains-append_right, recursion_from_All}
 use Rattle.std.proofs.lemmas.Slice.Eq.{bytes_eq-Decides}
 use Rattle.bs_words.specs.External.{External}
 use Rattle.bs_words.specs.declared.types.Comp.{Comp}
@@ -46,7 +46,7 @@ use Rattle.selection_accepted.proofs.Promised.{front_selects}
 use Rattle.selection_accepted.proofs.Selecting.{definitions, front_accepts}
 use Rattle.selection_rules.specs.Select.{selected}
 use Rattle.selection_laws.proofs.Accepting.{left, right}
-use Rattle.laid_files.proofs.Functions.{all_at, descriptors_are, some_words}
+use Rattle.laid_files.proofs.Functions.{descriptors_are, some_words}
 use Rattle.laid_files.proofs.Marks.{descriptors_stand}
 
 -- ---- labels stand once
@@ -94,7 +94,7 @@ once l [] pairs c = absurd (contains_none l c)
 once l (x ∷ xs) pairs c = by (contains_cases x xs l c) (λ c. once l xs (λ i j d lt within. pairs (suc i) (suc j) d (omega (arith, lt)) (omega (arith, within))) c)
   where
     others : AllByRecursion (λ y. x ≢ y) xs
-    others = all_at (λ y. x ≢ y) xs (λ k d lt. pairs 0 (suc k) d (omega arith) (omega (arith, lt)))
+    others = recursion_from_All (λ y. x ≢ y) xs (λ k d lt. pairs 0 (suc k) d (omega arith) (omega (arith, lt)))
 
     by : (x ≡ l) ⊎ Contains xs l → (Contains xs l → occurs l xs ≡ 1) → cond (x == l) 1 0 + occurs l xs ≡ 1
     by (inl e) later = ap (λ b. cond b 1 0 + occurs l xs) (eq-eqb x l e) ∙ (let none = none_occurs l x xs e others in omega (arith, none))
@@ -108,7 +108,7 @@ three false b c e = absurd (let z : false ≡ true = e in cc)
 three true false c e = absurd (let z : false ≡ true = e in cc)
 three true true false e = absurd (let z : false ≡ true = e in cc)
 
-comp_same : (a b : Comp) → comp_byte a ≡ comp_byte b → a ≡ b
+pub comp_same : (a b : Comp) → comp_byte a ≡ comp_byte b → a ≡ b
 comp_same comp.Int comp.Int e = refl
 comp_same comp.Int comp.Val e = absurd (omega (arith, e))
 comp_same comp.Int comp.Addr e = absurd (omega (arith, e))
@@ -126,19 +126,19 @@ comp_same comp.Float comp.Val e = absurd (omega (arith, e))
 comp_same comp.Float comp.Addr e = absurd (omega (arith, e))
 comp_same comp.Float comp.Float e = refl
 
-no_unit : (c : Comp) → comp_byte c ≡ 3 → ⊥
+pub no_unit : (c : Comp) → comp_byte c ≡ 3 → ⊥
 no_unit comp.Int e = omega (arith, e)
 no_unit comp.Val e = omega (arith, e)
 no_unit comp.Addr e = omega (arith, e)
 no_unit comp.Float e = omega (arith, e)
 
-ret_same : (a b : Ret) → ret_byte a ≡ ret_byte b → a ≡ b
+pub ret_same : (a b : Ret) → ret_byte a ≡ ret_byte b → a ≡ b
 ret_same ret.Unit ret.Unit e = refl
 ret_same ret.Unit (ret.Comp c) e = absurd (no_unit c (sym e))
 ret_same (ret.Comp c) ret.Unit e = absurd (no_unit c e)
 ret_same (ret.Comp c) (ret.Comp d) e = ap ret.Comp (comp_same c d e)
 
-comps_same : (xs ys : List Comp) → map comp_byte xs ≡ map comp_byte ys → xs ≡ ys
+pub comps_same : (xs ys : List Comp) → map comp_byte xs ≡ map comp_byte ys → xs ≡ ys
 comps_same [] [] e = refl
 comps_same [] (y ∷ ys) e = absurd (cc)
 comps_same (x ∷ xs) [] e = absurd (cc)

@@ -10,9 +10,10 @@ use Rattle.emit_rules.specs.Constants.{lowered}
 use Rattle.emit_rules.specs.Instructions.{load, calls_at}
 use Rattle.emit_rules.specs.Slots.{first, register_of, fetched}
 use Rattle.emit_rules.specs.Sizes.{least_words, words_at_least}
-use Rattle.emit_rules.specs.Traversal.{Each, each_none, each_more, Allows}
+use Rattle.emit_rules.specs.Traversal.{Each, each_none, each_more}
 use Rattle.emit_rules.proofs.Traverse.{entry-in, part-in, before-in}
 use Rattle.emit_rules.proofs.Units.{free_passes_no_frame, part_by}
+use Rattle.emit_rules.proofs.Descriptors.{allows-unmarked, NoMark}
 use Rattle.layout_rules.specs.Conditions.{AreDescriptors, IsDescriptor}
 use Rattle.lin_ir.specs.Meaning.{passes_frame}
 use Rattle.lin_ir.specs.declared.descr.Descr.{Descr}
@@ -29,29 +30,10 @@ use Rattle.mach_ir.specs.declared.op.Calling.TheVariants as calling
 use Rattle.mach_ir.specs.declared.op.Op.TheVariants as op
 use Rattle.rv_isa.specs.declared.instr.LoadWidth.TheVariants as loads
 use Rattle.rv_isa.specs.declared.register.Register.TheVariants.{T1, S10, S11}
-use Rattle.rv_pieces.specs.Named.{mark_in}
 use Rattle.rv_pieces.specs.declared.piece.Piece.{Piece}
 use Rattle.rv_pieces.specs.declared.piece.Piece.TheVariants as piece
 
--- ---- no marks
-
-abbrev NoMark : Piece → Type 0
-NoMark p = mark_in p ≡ []
-
-unmarked : (f : LinOp) → Allows NoMark f None
-unmarked f = record {
-  known = λ j h. refl;
-  place = λ l is. refl;
-  branch = λ l n c a b. refl;
-  jump = λ l n. refl;
-  row = λ l n. refl;
-  address = λ l n r. refl;
-  call = λ name n. refl;
-  tail_call = λ name n. refl;
-  symbol = λ name n r. refl;
-  external = λ row frame e r. refl;
-  mark = λ e is. cc;
-}
+-- ---- descriptors
 
 -- whether a word stands after the last descriptor, or after the begin
 abbrev behind : Bool → List Piece → Bool
@@ -162,7 +144,7 @@ part_are t f d (lin.Op (op.Access (access.Load k offset))) args results h is = a
 part_are t f d (lin.Op (op.Access (access.Store k offset))) args results h is = absurd (let z : false ≡ true = h in cc)
 part_are t f d (lin.Op (op.Access (access.Alloc blocks))) args results h is =
     let all : Each NoMark ((reserved (bytes_of blocks) ++ []) ++ addresses t blocks results) =
-    part-in NoMark None t f (record { op = lin.Op (op.Access (access.Alloc blocks)); args = args; results = results }) (unmarked (lin.Op (op.Access (access.Alloc blocks)))) in
+    part-in NoMark None t f (record { op = lin.Op (op.Access (access.Alloc blocks)); args = args; results = results }) (allows-unmarked (lin.Op (op.Access (access.Alloc blocks)))) in
     let pre = each_front (reserved (bytes_of blocks)) [] (each_front (reserved (bytes_of blocks) ++ []) (addresses t blocks results) all) in
     marked d (reserved (bytes_of blocks)) (addresses t blocks results) pre
     (reserved_some (bytes_of blocks))
@@ -172,16 +154,16 @@ part_are t f d (lin.Op (op.Access (access.Alloc blocks))) args results h is =
     reserved_some n = word_inside (lowered T1 S10 n) _ (load loads.Ld T1 S11 0) refl
 part_are t f d (lin.Op (op.Calling (calling.Call whom result))) args results h is =
     let all : Each NoMark (call_words t whom args ++ []) =
-    part-in NoMark None t f (record { op = lin.Op (op.Calling (calling.Call whom result)); args = args; results = results }) (unmarked (lin.Op (op.Calling (calling.Call whom result)))) in
+    part-in NoMark None t f (record { op = lin.Op (op.Calling (calling.Call whom result)); args = args; results = results }) (allows-unmarked (lin.Op (op.Calling (calling.Call whom result)))) in
     marked_last d (call_words t whom args) (each_front (call_words t whom args) [] all) (call_some t whom args) is
 part_are t f d (lin.Op (op.Calling (calling.TailCall whom result))) args results h is = absurd (let z : false ≡ true = h in cc)
 part_are t f d (lin.Op (op.Calling (calling.External row frame))) args results h is =
     let all : Each NoMark (external_words row frame ++ []) =
-    part-in NoMark None t f (record { op = lin.Op (op.Calling (calling.External row frame)); args = args; results = results }) (unmarked (lin.Op (op.Calling (calling.External row frame)))) in
+    part-in NoMark None t f (record { op = lin.Op (op.Calling (calling.External row frame)); args = args; results = results }) (allows-unmarked (lin.Op (op.Calling (calling.External row frame)))) in
     marked_last d (external_words row frame) (each_front (external_words row frame) [] all) (omega arith) is
 
 plain_part : (t : ℕ) (f : Frame) (i : Line) (next : List Line) → AreDescriptors false (part_before t f None i next)
-plain_part t f i next = none_are false (part_before t f None i next) (before-in NoMark None t f i next (unmarked i.op))
+plain_part t f i next = none_are false (part_before t f None i next) (before-in NoMark None t f i next (allows-unmarked i.op))
 
 -- a frame point is no exit, and has its words
 point_part : (t : ℕ) (f : Frame) (d : Descr) (i : Line) (next : List Line) → passes_frame i.op ≡ true → IsDescriptor d →

@@ -1,5 +1,6 @@
 -- Pieces that leave no return address.
 use Rattle.std.proofs.Common.{◌≡◌, ℕ, ◌+◌, Bool, true, false, cond, nat_le, nat_lt, ◌||◌, List, [], ◌∷◌, ◌++◌, refl, ◌∙◌, ap}
+use Rattle.std.proofs.lemmas.Bool.{or_parts}
 use Rattle.bs_words.specs.declared.types.Loc.{Loc}
 use Rattle.bs_words.specs.declared.types.Loc.TheVariants as loc
 use Rattle.mach_ir.specs.Blocks.{bytes_of}
@@ -15,7 +16,6 @@ use Rattle.emit_rules.specs.Traversal.{Each, each_none, each_more}
 use Rattle.emit_rules.specs.Values.{Makes, makes_first, makes_upper, makes_lower, makes_sum, makes_shift}
 use Rattle.emit_rules.proofs.Values.{constant_is_made}
 use Rattle.laid_parts.specs.Laid.{comes_back, some_comes_back}
-use Rattle.laid_parts.proofs.Registers.{neither}
 
 pub record GoOn (ps : List Piece) : Type 0 where
   pub none : some_comes_back ps ≡ false
@@ -26,7 +26,7 @@ goes_on e = record { none = e }
 joined-none : (xs ys : List Piece) → some_comes_back xs ≡ false → some_comes_back ys ≡ false → some_comes_back (xs ++ ys) ≡ false
 joined-none [] ys e g = g
 joined-none (x ∷ xs) ys e g =
-    let h = neither (comes_back x) (some_comes_back xs) e in
+    let h = or_parts (comes_back x) (some_comes_back xs) e in
     ap (λ (z : Bool). z || some_comes_back (xs ++ ys)) h.0 ∙ joined-none xs ys h.1 g
 
 pub all_on : {xs ys : List Piece} → GoOn xs → GoOn ys → GoOn (xs ++ ys)

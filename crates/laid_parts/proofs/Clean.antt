@@ -16,7 +16,8 @@ use Rattle.emit_rules.specs.Slots.{far_stack, stack_load}
 use Rattle.emit_rules.specs.Traversal.{Each, each_none, each_more}
 use Rattle.emit_rules.specs.Values.{Makes, makes_first, makes_upper, makes_lower, makes_sum, makes_shift}
 use Rattle.emit_rules.proofs.Values.{constant_is_made}
-use Rattle.laid_parts.specs.Named.{is_among, piece_targets}
+use Rattle.linear_rules.specs.Lowered.{is_among}
+use Rattle.laid_parts.specs.Named.{piece_targets}
 use Rattle.laid_parts.specs.Stack.{Form, Unknown, Is, FromSp, Held, plus, minus, changed, loaded, stored, piece_made, word_at, at_first}
 use Rattle.laid_parts.proofs.Words.{Clear, later, joined, nothing, one_still, IsFree, is_unknown, is_constant, IsClean, IsScratch, is_t1, is_t2, is_sp, near_load, far_load}
 

@@ -1,6 +1,7 @@
 -- The words of a piece, decoded, name the registers that the piece names.
 use Rattle.std.proofs.Common.{◌≡◌, ℕ, ◌+◌, ◌%◌, ◌^◌, ◌<◌, Bool, true, false, not, ◌||◌, ◌&&◌, List, [], ◌∷◌, map, Option, Some, refl, ◌∙◌, ap}
 use Rattle.std.specs.List.{AllByRecursion}
+use Rattle.std.proofs.Math.Bool.{and-false, or-false}
 use Rattle.layout_rules.specs.Conditions.{LeadsTo}
 use Rattle.layout_rules.specs.Words.{code_to}
 use Rattle.layout_rules.specs.declared.form.Form.{Form}
@@ -16,10 +17,11 @@ use Rattle.rv_isa.proofs.RoundTrip.{decoded-encoded}
 use Rattle.rv_pieces.specs.Named.{PieceFits}
 use Rattle.rv_pieces.specs.declared.piece.Piece.{Piece}
 use Rattle.rv_pieces.specs.declared.piece.Piece.TheVariants as piece
+use Rattle.linear_rules.specs.Lowered.{is_among}
 use Rattle.laid_parts.specs.Decoded.{NamesAs, Decodes}
 use Rattle.laid_parts.specs.Laid.{is_reserved}
-use Rattle.laid_parts.specs.Named.{is_among, sources, targets, piece_sources}
-use Rattle.laid_parts.proofs.Registers.{or_false, and_false, is-apart, hits}
+use Rattle.laid_parts.specs.Named.{sources, targets, piece_sources}
+use Rattle.laid_parts.proofs.Registers.{is-apart, hits}
 
 -- ---- truth values: whether a register that is written or read is the one that is asked for
 
@@ -85,7 +87,7 @@ jump_names at to l Far = record { reads = λ n e. by_t1_reads n e; writes = λ n
 branch_names : (at to : ℕ) (c : Condition) (a b : Register) (l : ℕ) (f : Form) →
     NamesAs (piece.Branch c a b l) (code_to at to (piece.Branch c a b l) f)
 branch_names at to c a b l Near = record {
-  reads = λ n e. or_false (is_among n (piece_sources (piece.Branch c a b l)));
+  reads = λ n e. or-false (is_among n (piece_sources (piece.Branch c a b l)));
   writes = λ n e. refl;
   known = λ j h. absurd (cc);
   memory = λ e. refl;
@@ -105,8 +107,8 @@ branch_names at to c a b l Far = record {
 
 pub names_as : (at to : ℕ) (p : Piece) (f : Form) → NamesAs p (code_to at to p f)
 names_as at to (piece.Known j) f = record {
-  reads = λ n e. then_nothing (is_among n (sources j)) _ (and_false (not (is_among n (targets j))));
-  writes = λ n e. or_false (is_among n (targets j));
+  reads = λ n e. then_nothing (is_among n (sources j)) _ (and-false (not (is_among n (targets j))));
+  writes = λ n e. or-false (is_among n (targets j));
   known = λ i h. cc;
   memory = λ e. absurd (cc);
 }

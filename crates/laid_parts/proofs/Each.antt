@@ -1,15 +1,16 @@
 -- The part of each line names the registers that the line reads and writes.
-use Rattle.std.proofs.Common.{◌≡◌, ℕ, suc, Bool, true, false, cond, nat_eq, ◌||◌, List, [], ◌∷◌, ◌++◌, length, refl, sym, subst, ◌∙◌, ap, arith, Option}
+use Rattle.std.proofs.Common.{◌≡◌, ℕ, Bool, true, false, cond, nat_eq, ◌||◌, List, [], ◌∷◌, ◌++◌, length, refl, sym, subst, ◌∙◌, ap, arith, Option}
 use Rattle.std.specs.List.{All, Contains}
-use Rattle.std.proofs.lemmas.Bool.{eqb-true}
+use Rattle.std.proofs.lemmas.Bool.{eqb-true, or_parts}
 use Rattle.std.proofs.lemmas.Bool.Decides.{nat_tests}
 use Rattle.std.proofs.lemmas.List.Elements.{All-contains, All-nil, All-cons, All-head, All-tail}
+use Rattle.std.proofs.Math.Bool.{or-false}
 use Rattle.bs_words.specs.declared.operators.CmpOp.TheVariants as compare
 use Rattle.bs_words.specs.declared.operators.IntOp.TheVariants as operator
 use Rattle.bs_words.specs.declared.types.Comp.{Comp}
 use Rattle.bs_words.specs.declared.types.Loc.{Loc}
 use Rattle.bs_words.specs.declared.types.Loc.TheVariants as loc
-use Rattle.mach_ir.specs.Forms.{HasForm, copies, constant, symbol, operates, loads, stores, allocates, calls, tail_calls, checks, raises, returns, IsRight, a_register, a_constant, IsCallee, by_register, IsTested, holds, fails, signed, unsigned}
+use Rattle.mach_ir.specs.Forms.{HasForm, constant, operates, allocates, calls, tail_calls, checks, raises, IsRight, a_register, a_constant, IsCallee, by_register, IsTested, holds, fails, signed, unsigned}
 use Rattle.mach_ir.specs.Meaning.{is_temporary}
 use Rattle.mach_ir.specs.Placed.{colours}
 use Rattle.mach_ir.specs.Seats.{AreSeated, InOrder, AfterFirst, in_order, after_first, argument_places, result_places}
@@ -23,7 +24,7 @@ use Rattle.mach_ir.specs.declared.op.Op.TheVariants as op
 use Rattle.mach_ir.specs.declared.op.Pure.TheVariants as pure
 use Rattle.mach_ir.specs.declared.op.Right.{Right}
 use Rattle.mach_ir.specs.declared.op.Right.TheVariants as right
-use Rattle.lin_ir.specs.Formed.{FlowHasForm, label_form, jump_form, exit_form, branch_form, switch_form, push_form, pop_form, enter_form, IsFormed, formed_op, formed_flow, is_colour, is_slot, IsLocation, is_home, is_spare, IsSelfMove, is_self_move, Locates, comps, places_of, lin_operand_seats, lin_result_seats, WellFormed, Seated}
+use Rattle.lin_ir.specs.Formed.{FlowHasForm, IsFormed, formed_op, formed_flow, is_colour, is_slot, IsLocation, is_home, is_spare, IsSelfMove, is_self_move, Locates, comps, places_of, lin_operand_seats, lin_result_seats, WellFormed, Seated}
 use Rattle.lin_ir.specs.Meaning.{same_loc, is_named}
 use Rattle.lin_ir.specs.declared.descr.Descr.{Descr}
 use Rattle.lin_ir.specs.declared.lin.Flow.{Flow}
@@ -43,9 +44,12 @@ use Rattle.emit_rules.specs.Slots.{first, second, fetched, copied}
 use Rattle.emit_rules.specs.Tests.{right_words}
 use Rattle.emit_rules.specs.Traps.{raise_bound_error, check_part}
 use Rattle.rv_isa.specs.declared.register.Register.TheVariants.{T1}
+use Rattle.lin_laws.proofs.Forms.{symbol_inv, copy_inv, load_inv, store_inv, register_inv, length_comps, label_inv, jump_inv, exit_inv, branch_inv, switch_inv, push_inv, pop_inv, enter_inv, same_loc_is}
+use Rattle.linear_rules.specs.Lowered.{is_among}
+use Rattle.mach_laws.proofs.Instructions.{returns_none}
 use Rattle.laid_parts.specs.Laid.{is_reserved, raises_behind, branches, up_to_branch, NamesRegisters, MovesNothing, CarriesRegisters, moves_nothing, names}
-use Rattle.laid_parts.specs.Named.{is_among, is_source, is_target, piece_targets}
-use Rattle.laid_parts.proofs.Registers.{neither, or_false, Names, same, alone, is-apart, IsApart}
+use Rattle.laid_parts.specs.Named.{is_source, is_target, piece_targets}
+use Rattle.laid_parts.proofs.Registers.{Names, same, alone, is-apart, IsApart}
 use Rattle.laid_parts.proofs.Operators.{IsNumbered, numbered, in_slot, copied-names}
 use Rattle.laid_parts.proofs.Lines as lines
 
@@ -126,14 +130,14 @@ named_none l (s ∷ ss) e = absurd (cc)
 
 pub named_one : (l : Loc) (ss : List Spot) (t : Comp) → comps ss ≡ t ∷ [] → is_named l (places_of ss) ≡ same_loc (first ss) l
 named_one l [] t e = absurd (cc)
-named_one l (s ∷ []) t e = or_false (same_loc s.loc l)
+named_one l (s ∷ []) t e = or-false (same_loc s.loc l)
 named_one l (s ∷ r ∷ ss) t e = absurd (cc)
 
 pub named_two : (l : Loc) (ss : List Spot) (t u : Comp) → comps ss ≡ t ∷ u ∷ [] →
     is_named l (places_of ss) ≡ (same_loc (first ss) l || same_loc (second ss) l)
 named_two l [] t u e = absurd (cc)
 named_two l (s ∷ []) t u e = absurd (cc)
-named_two l (s ∷ r ∷ []) t u e = ap (λ (z : Bool). same_loc s.loc l || z) (or_false (same_loc r.loc l))
+named_two l (s ∷ r ∷ []) t u e = ap (λ (z : Bool). same_loc s.loc l || z) (or-false (same_loc r.loc l))
 named_two l (s ∷ r ∷ q ∷ ss) t u e = absurd (cc)
 
 -- ---- lines whose parts name every register themselves
@@ -154,58 +158,12 @@ registers_of {part} k h = record {
 pub constant_inv : (w : ℕ) (xs ys : List Comp) → HasForm (op.Pure (pure.Constant w)) xs ys → (xs ≡ []) × ((u : Comp) × (ys ≡ u ∷ []))
 constant_inv w xs ys (constant {to = u} l) = (refl, (u, refl))
 
-pub symbol_inv : (name : List ℕ) (xs ys : List Comp) → HasForm (op.Pure (pure.Symbol name)) xs ys → (xs ≡ []) × ((u : Comp) × (ys ≡ u ∷ []))
-symbol_inv name xs ys (symbol {to = u}) = (refl, (u, refl))
-
-pub copy_inv : (kind : _) (xs ys : List Comp) → HasForm (op.Pure (pure.Copy kind)) xs ys → (t : Comp) × (u : Comp) × (xs ≡ t ∷ []) × (ys ≡ u ∷ [])
-copy_inv kind xs ys (copies {from = t} {to = u}) = (t, u, refl, refl)
-
-pub load_inv : (k : _) (offset : ℕ) (xs ys : List Comp) → HasForm (op.Access (access.Load k offset)) xs ys →
-    (t : Comp) × (u : Comp) × (xs ≡ t ∷ []) × (ys ≡ u ∷ [])
-load_inv k offset xs ys (loads {address = t} {to = u}) = (t, u, refl, refl)
-
-pub store_inv : (k : _) (offset : ℕ) (xs ys : List Comp) → HasForm (op.Access (access.Store k offset)) xs ys →
-    (t : Comp) × (u : Comp) × (xs ≡ t ∷ u ∷ []) × (ys ≡ [])
-store_inv k offset xs ys (stores {address = t} {value = u}) = (t, u, refl, refl)
-
 pub alloc_inv : (blocks : _) (xs ys : List Comp) → HasForm (op.Access (access.Alloc blocks)) xs ys → (xs ≡ []) × (length ys ≡ length blocks)
 alloc_inv blocks xs ys (allocates some all most as_many) = (refl, as_many)
-
-pub register_inv : (f : _) (xs ys : List Comp) → HasForm (op.Pure (pure.Operator f right.Register)) xs ys →
-    (t : Comp) × (u : Comp) × (o : Comp) × (xs ≡ t ∷ u ∷ []) × (ys ≡ o ∷ [])
-register_inv f xs ys (operates {left = t} {to = o} (a_register {t = u})) = (t, u, o, refl, refl)
 
 pub with_inv : (f : _) (w : ℕ) (xs ys : List Comp) → HasForm (op.Pure (pure.Operator f (right.Constant w))) xs ys →
     (t : Comp) × (o : Comp) × (xs ≡ t ∷ []) × (ys ≡ o ∷ [])
 with_inv f w xs ys (operates {left = t} {to = o} (a_constant e)) = (t, o, refl, refl)
-
-pub length_comps : (ss : List Spot) → length (comps ss) ≡ length ss
-length_comps [] = refl
-length_comps (s ∷ ss) = ap suc (length_comps ss)
-
-pub label_inv : (l : ℕ) (xs ys : List Comp) → FlowHasForm (flow.Label l) xs ys → (xs ≡ []) × (ys ≡ [])
-label_inv l xs ys label_form = (refl, refl)
-
-pub jump_inv : (l : ℕ) (xs ys : List Comp) → FlowHasForm (flow.Jump l) xs ys → (xs ≡ []) × (ys ≡ [])
-jump_inv l xs ys jump_form = (refl, refl)
-
-pub exit_inv : (l : ℕ) (xs ys : List Comp) → FlowHasForm (flow.Exit l) xs ys → (xs ≡ []) × (ys ≡ [])
-exit_inv l xs ys exit_form = (refl, refl)
-
-pub branch_inv : (g : _) (l : ℕ) (xs ys : List Comp) → FlowHasForm (flow.Branch g l) xs ys → IsTested g xs × (ys ≡ [])
-branch_inv g l xs ys (branch_form h) = (h, refl)
-
-pub switch_inv : (ls : List ℕ) (xs ys : List Comp) → FlowHasForm (flow.Switch ls) xs ys → ((t : Comp) × (xs ≡ t ∷ [])) × (ys ≡ [])
-switch_inv ls xs ys (switch_form {index = t}) = ((t, refl), refl)
-
-pub push_inv : (l : ℕ) (xs ys : List Comp) → FlowHasForm (flow.PushTrap l) xs ys → (xs ≡ []) × (ys ≡ [])
-push_inv l xs ys push_form = (refl, refl)
-
-pub pop_inv : (xs ys : List Comp) → FlowHasForm flow.PopTrap xs ys → (xs ≡ []) × (ys ≡ [])
-pop_inv xs ys pop_form = (refl, refl)
-
-pub enter_inv : (xs ys : List Comp) → FlowHasForm flow.EnterTrap xs ys → (xs ≡ []) × ((t : Comp) × (ys ≡ t ∷ []))
-enter_inv xs ys enter_form = (refl, (_, refl))
 
 -- what stands beside the first operand
 pub data RightIs : Right → List Comp → Type 0 where
@@ -223,15 +181,15 @@ module _ (m : Lin) (args : List Spot) (a : Locates m args) (n : ℕ) (apart : Is
   rights right.Register u xs e (one_right v) =
       (lines.by_register (second_numbered m args u v [] e a), sym (named_two (loc.Machine n) args u v e))
   rights (right.Constant w) u xs e no_right =
-      (lines.by_constant, or_false (same_loc (first args) (loc.Machine n)) ∙ sym (named_one (loc.Machine n) args u e))
+      (lines.by_constant, or-false (same_loc (first args) (loc.Machine n)) ∙ sym (named_one (loc.Machine n) args u e))
 
   with_tested : (g : Test) (xs : List Comp) → comps args ≡ xs → IsTested g xs →
       IsNumbered (first args) × lines.TestNumbered n apart t g args
       × ((lines.is_at n apart t (first args) || lines.test_at n apart t g args) ≡ is_named (loc.Machine n) (places_of args))
   with_tested test.Holds xs e (holds {t = u}) =
-      (first_numbered m args u [] e a, lines.alone_holds, or_false (same_loc (first args) (loc.Machine n)) ∙ sym (named_one (loc.Machine n) args u e))
+      (first_numbered m args u [] e a, lines.alone_holds, or-false (same_loc (first args) (loc.Machine n)) ∙ sym (named_one (loc.Machine n) args u e))
   with_tested test.Fails xs e (fails {t = u}) =
-      (first_numbered m args u [] e a, lines.alone_fails, or_false (same_loc (first args) (loc.Machine n)) ∙ sym (named_one (loc.Machine n) args u e))
+      (first_numbered m args u [] e a, lines.alone_fails, or-false (same_loc (first args) (loc.Machine n)) ∙ sym (named_one (loc.Machine n) args u e))
   with_tested (test.Signed c o) xs e (signed {rest} {left = u} h) =
       let x = rights o u rest e (right_inv _ o rest h) in
       (first_numbered m args u rest e a, lines.with_signed x.0, x.1)
@@ -318,21 +276,12 @@ module _ (m : Lin) (t : ℕ) (f : Frame) (d : Option Descr) (args results : List
       same (lines.pop-names n apart t) (sym (named_none (loc.Machine n) args i.0)) (sym (named_none (loc.Machine n) results i.1))
   flow-plain flow.EnterTrap h o n apart = absurd (o refl)
 
-pub same_is : (k l : Loc) → same_loc k l ≡ true → k ≡ l
-same_is (loc.Machine k) (loc.Machine l) e = ap (λ (z : ℕ). loc.Machine z) (eqb-true k l e)
-same_is (loc.Slot k) (loc.Slot l) e = ap (λ (z : ℕ). loc.Slot z) (eqb-true k l e)
-same_is (loc.Machine k) (loc.Slot l) e = absurd (cc)
-same_is (loc.Machine k) loc.Unset e = absurd (cc)
-same_is (loc.Slot k) (loc.Machine l) e = absurd (cc)
-same_is (loc.Slot k) loc.Unset e = absurd (cc)
-same_is loc.Unset l e = absurd (cc)
-
 -- ---- registers that conventions hand over
 
 prefix_none : (l : Loc) (ls more : List Loc) → is_named l (ls ++ more) ≡ false → is_named l ls ≡ false
 prefix_none l [] more e = refl
 prefix_none l (k ∷ ks) more e =
-    let p = neither (same_loc k l) (is_named l (ks ++ more)) e in
+    let p = or_parts (same_loc k l) (is_named l (ks ++ more)) e in
     ap (λ (z : Bool). z || is_named l ks) p.0 ∙ prefix_none l ks more p.1
 
 pub seated_none : (l : Loc) (places ls : List Loc) → AreSeated (InOrder places) ls → is_named l places ≡ false → is_named l ls ≡ false
@@ -343,7 +292,7 @@ pub seated_after : (l : Loc) (places : List Loc) (ss : List Spot) → AreSeated 
 seated_after l places [] s h = elim s [ ]
 seated_after l places (x ∷ ss) (after_first more e) h =
     let k : is_named l (places_of ss) ≡ false = prefix_none l (places_of ss) more (ap (λ (z : List Loc). is_named l z) e ∙ h) in
-    sym (ap (λ (z : Bool). same_loc x.loc l || z) k ∙ or_false (same_loc x.loc l))
+    sym (ap (λ (z : Bool). same_loc x.loc l || z) k ∙ or-false (same_loc x.loc l))
 
 no_temporary : (n : ℕ) → is_temporary n ≡ false → is_named (loc.Machine n) result_places ≡ false
 no_temporary n e = by (nat_eq 10 n) refl
@@ -366,9 +315,6 @@ check_inv o xs ys (checks {rest} {bound} h) = (bound, rest, refl, h, refl)
 pub raise_inv : (xs ys : List Comp) → HasForm (op.Leaving leaving.Raise) xs ys → ys ≡ []
 raise_inv xs ys raises = refl
 
-pub return_inv : (xs ys : List Comp) → HasForm (op.Leaving leaving.Return) xs ys → ys ≡ []
-return_inv xs ys (returns result) = refl
-
 pub call_more : (result : _) (xs ys : List Comp) → HasForm (op.Calling (calling.Call callee.Register result)) xs ys →
     (t : Comp) × (ts : List Comp) × (xs ≡ t ∷ ts)
 call_more result xs ys (calls {first} more is) = callee_more first more is
@@ -380,7 +326,7 @@ targets_up_to n [] p ys e g k =
     ap (λ (z : Bool). z || is_target n (cond (branches p) [] (up_to_branch ys))) g
     ∙ ap (λ (z : Bool). is_target n (cond z [] (up_to_branch ys))) k
 targets_up_to n (x ∷ xs) p ys e g k =
-    let h = neither _ _ e in
+    let h = or_parts _ _ e in
     ap (λ (z : Bool). z || is_target n (cond (branches x) [] (up_to_branch (xs ++ p ∷ ys)))) h.0
     ∙ by (branches x) (targets_up_to n xs p ys h.1 g k)
   where
@@ -431,7 +377,7 @@ module _ (m : Lin) (t : ℕ) (f : Frame) (d : Option Descr) (args results : List
         let b = first_numbered m args i.0 i.1 i.2 a in
         check_writes n (nat_eq 10 n || false) refl
         (lines.check-tests n (is-apart n e) t o args b x.0).sets
-        ((lines.check-names n (is-apart n e) t o args b x.0).sets ∙ sym (or_false (nat_eq 10 n)))
+        ((lines.check-names n (is-apart n e) t o args b x.0).sets ∙ sym (or-false (nat_eq 10 n)))
         ∙ sym (named_none (loc.Machine n) results i.4);
   }
     where
@@ -446,7 +392,7 @@ module _ (m : Lin) (t : ℕ) (f : Frame) (d : Option Descr) (args results : List
   }
   leaving-names leaving.Return h s = record {
     reads = λ n e g. (lines.return-names n (is-apart n e) t f).reads ∙ sym (seated_none (loc.Machine n) result_places (places_of args) s g);
-    writes = λ n e g. (lines.return-names n (is-apart n e) t f).sets ∙ sym (named_none (loc.Machine n) results (return_inv (comps args) (comps results) h));
+    writes = λ n e g. (lines.return-names n (is-apart n e) t f).sets ∙ sym (named_none (loc.Machine n) results (returns_none h));
   }
 
   enter-names : FlowHasForm flow.EnterTrap (comps args) (comps results) → NamesIn (lin.Flow flow.EnterTrap)
@@ -461,7 +407,7 @@ module _ (m : Lin) (t : ℕ) (f : Frame) (d : Option Descr) (args results : List
           is_source n (cond b [] (copied t (loc.Machine 10) (first results))) ≡ false
       from_a0 n e true c g = refl
       from_a0 n e false c g =
-          (copied-names n (is-apart n e) t (loc.Machine 10) (first results) (numbered {r = 10} refl) c).reads ∙ (sym (or_false (nat_eq 10 n)) ∙ g)
+          (copied-names n (is-apart n e) t (loc.Machine 10) (first results) (numbered {r = 10} refl) c).reads ∙ (sym (or-false (nat_eq 10 n)) ∙ g)
 
 -- ---- every line
 
@@ -480,12 +426,12 @@ module _ (m : Lin) (t : ℕ) (f : Frame) (d : Option Descr) where
     where
       by : (b : Bool) → same_loc x.loc y.loc ≡ b →
           CarriesRegisters (record { op = lin.Op (op.Pure (pure.Copy kind)); args = x ∷ []; results = y ∷ [] }) (cond b [] (copied t x.loc y.loc))
-      by true k = moves_nothing (x, y, is_self_move (same_is x.loc y.loc k))
+      by true k = moves_nothing (x, y, is_self_move (same_loc_is x.loc y.loc k))
       by false k = names (no_self_copy x y (first_numbered m (x ∷ []) u [] e a) k) (record {
         reads = λ n o w. (copied-names n (is-apart n o) t x.loc y.loc (first_numbered m (x ∷ []) u [] e a) (first_numbered m (y ∷ []) v [] g r)).reads
-            ∙ sym (or_false (same_loc x.loc (loc.Machine n)));
+            ∙ sym (or-false (same_loc x.loc (loc.Machine n)));
         writes = λ n o w. (copied-names n (is-apart n o) t x.loc y.loc (first_numbered m (x ∷ []) u [] e a) (first_numbered m (y ∷ []) v [] g r)).sets
-            ∙ sym (or_false (same_loc y.loc (loc.Machine n)));
+            ∙ sym (or-false (same_loc y.loc (loc.Machine n)));
       })
 
   pub line_carried : (o : LinOp) (args results : List Spot) → IsFormed (record { op = o; args = args; results = results }) →

@@ -24,6 +24,7 @@ use Rattle.lin_ir.specs.declared.lin.Spot.{Spot}
 use Rattle.rv_pieces.specs.declared.piece.Piece.TheVariants as piece
 use Rattle.std.specs.Prelude.{◌*◌, ◌<◌, nat_le}
 use Rattle.std.proofs.Common.{◌+◌}
+use Rattle.std.proofs.Math.Bool.{or-false}
 use Rattle.bs_words.specs.declared.operators.CmpOp.{CmpOp}
 use Rattle.mach_ir.specs.declared.op.External.{External}
 use Rattle.rv_isa.specs.declared.instr.AluImmOp.TheVariants as imm
@@ -40,12 +41,12 @@ use Rattle.emit_rules.specs.Entry.{Frame}
 use Rattle.emit_rules.specs.Calls.{mark_of, call_words, external_words, external_service}
 use Rattle.emit_rules.specs.Slots.{first, second, register_of, slot_offset}
 use Rattle.emit_rules.specs.Tests.{signed_branch, unsigned_branch, right_register, right_words, branch_part, value_words, tests_in_turn, table_of_jumps, switch_part}
+use Rattle.lin_laws.proofs.Forms.{label_inv, jump_inv, exit_inv, branch_inv, switch_inv}
 use Rattle.laid_parts.specs.Laid.{lies_at, lie_at, NamesSlots}
-use Rattle.laid_parts.proofs.Registers.{or_false}
 use Rattle.laid_parts.proofs.Words.{Chunk, in_part, joined, same, then_none, either, nothing, still, is_t1, is_t2, stack_load-words}
 use Rattle.laid_parts.proofs.SlotParts.{IsWithinFrame, in_frame, immediate-still, operation-still, shift-still, constant-still, fetched-slot}
 use Rattle.laid_parts.proofs.PureSlots.{first_within, second_within, slots_of, lie_none, lie_one, lie_two, lie_seated, lie_after}
-use Rattle.laid_parts.proofs.Each.{RightIs, one_right, no_right, label_inv, jump_inv, exit_inv, branch_inv, switch_inv, right_inv, call_more}
+use Rattle.laid_parts.proofs.Each.{RightIs, one_right, no_right, right_inv, call_more}
 
 module _ (c t : ℕ) where
   abbrev at_slot : Loc → Bool
@@ -169,7 +170,7 @@ module _ (m : Lin) (t : ℕ) (b : 8 * m.slots + 16 * t < 1073741824) (f : Frame)
       RightWithin c t o args × ((lies_at t c (first args) || right-slot c t o args) ≡ lie_at t c (places_of args))
   unfolding RightWithin right-slot
   beside c right.Register u us e (one_right v) = (second_within m t b args u v [] e a, sym (lie_two t c args u v e))
-  beside c (right.Constant w) u us e no_right = (tt, or_false (lies_at t c (first args)) ∙ sym (lie_one t c args u e))
+  beside c (right.Constant w) u us e no_right = (tt, or-false (lies_at t c (first args)) ∙ sym (lie_one t c args u e))
 
   branch-slots : (c : ℕ) (g : Test) (l : ℕ) (us : List Comp) → comps args ≡ us → IsTested g us →
       Chunk c (branch_part t g l args) (lie_at t c (places_of args)) false

@@ -1,6 +1,7 @@
 -- The slots that the parts of lines name that leave a function, test a bound, or push, pop or enter a trap.
 use Rattle.std.proofs.Common.{◌≡◌, ℕ, ◌+◌, ◌*◌, ◌<◌, Bool, true, false, cond, nat_eq, nat_lt, nat_le, not, ◌||◌, ◌&&◌, List, [], ◌∷◌, length, refl, sym, ◌∙◌, ap, Option, subst, arith}
 use Rattle.std.proofs.lemmas.Bool.Decides.{nat_tests}
+use Rattle.std.proofs.Math.Bool.{and-false}
 use Rattle.bs_words.specs.Word.{add_word, sext_word, word_of, signed_in}
 use Rattle.bs_words.specs.declared.types.Loc.{Loc}
 use Rattle.bs_words.specs.declared.types.Loc.TheVariants as loc
@@ -38,16 +39,17 @@ use Rattle.emit_rules.specs.Traps.{raise_words, raise_bound_error, push_part, po
 use Rattle.emit_rules.specs.Traversal.{Each, each_none, each_more}
 use Rattle.emit_rules.specs.Values.{Makes, makes_first, makes_upper, makes_lower, makes_sum, makes_shift}
 use Rattle.emit_rules.proofs.Values.{constant_is_made}
+use Rattle.lin_laws.proofs.Forms.{push_inv, pop_inv, enter_inv, same_loc_is}
+use Rattle.linear_rules.specs.Lowered.{is_among}
+use Rattle.mach_laws.proofs.Instructions.{returns_none}
 use Rattle.laid_parts.specs.Laid.{lies_at, is_return_address, NamesSlots}
-use Rattle.laid_parts.specs.Named.{is_among}
 use Rattle.laid_parts.specs.Stack.{Form, Is, Held, plus, word_at}
-use Rattle.laid_parts.proofs.Registers.{and_false}
 use Rattle.laid_parts.proofs.Words.{Through, Clear, Part, AtSp, IsClean, Whatever, IsFree, is_unknown, is_constant, joined, same, then_none, either, nothing, one_still, silent, in_part, at_end, is_t1, is_t2, later, stack_load-words}
 use Rattle.laid_parts.proofs.Clean.{steady, free_names_none, plus_free, constant-clear}
 use Rattle.laid_parts.proofs.SlotParts.{IsWithinFrame, in_register, fetched-clear, copied-slot}
 use Rattle.laid_parts.proofs.PureSlots.{first_within, slots_of, lie_none, lie_one, lie_seated, lie_after}
 use Rattle.laid_parts.proofs.FlowSlots.{value-slot, right-slot, RightWithin, beside}
-use Rattle.laid_parts.proofs.Each.{right_inv, tail_more, check_inv, raise_inv, return_inv, push_inv, pop_inv, enter_inv, same_is}
+use Rattle.laid_parts.proofs.Each.{right_inv, tail_more, check_inv, raise_inv}
 
 -- ---- where nothing is loaded or stored, whatever registers hold
 
@@ -116,7 +118,7 @@ module _ (c : ℕ) where
   unfolding later add_word sext_word word_of signed_in
   push-slots l e = record {
     each = λ h k. record {
-      loads = ap (λ (z : Bool). not (is_among c (word_at (plus (h 2) (Is (sext_word 0xFF0 12))) 0)) && z) (and_false _) ∙ and_false _;
+      loads = ap (λ (z : Bool). not (is_among c (word_at (plus (h 2) (Is (sext_word 0xFF0 12))) 0)) && z) (and-false _) ∙ and-false _;
       stores = ap
           (λ (f : Form). is_among c (word_at (plus f (Is (sext_word 0xFF0 12))) 0) || (is_among c (word_at (plus f (Is (sext_word 0xFF0 12))) 8) || false))
           k.sp ∙ no_pushed e;
@@ -195,7 +197,7 @@ module _ (m : Lin) (t : ℕ) (b : 8 * m.slots + 16 * t < 1073741824) (f : Frame)
       (sym (lie_seated t c result_places (places_of args) s refl)) (sym (lie_none t c results (raise_inv (comps args) (comps results) h))))
   leaving-named leaving.Return h s =
       slots_of t (λ c n. same c (return-slots c f fits n)
-      (sym (lie_seated t c result_places (places_of args) s refl)) (sym (lie_none t c results (return_inv (comps args) (comps results) h))))
+      (sym (lie_seated t c result_places (places_of args) s refl)) (sym (lie_none t c results (returns_none h))))
 
   pub push-named : (l : ℕ) → FlowHasForm (flow.PushTrap l) (comps args) (comps results) → NamesIn (lin.Flow (flow.PushTrap l))
   push-named l h =
@@ -217,5 +219,5 @@ module _ (m : Lin) (t : ℕ) (b : 8 * m.slots + 16 * t < 1073741824) (f : Frame)
           Part c (cond z [] (copied t (loc.Machine 10) (first results))) false (lies_at t c (first results))
       from_a0 c x true k =
           same c (at_end c (nothing c)) refl
-          (subst (λ (l : Loc). false ≡ lies_at t c l) (same_is (loc.Machine 10) (first results) k) refl)
+          (subst (λ (l : Loc). false ≡ lies_at t c l) (same_loc_is (loc.Machine 10) (first results) k) refl)
       from_a0 c x false k = in_part c (copied-slot c t (loc.Machine 10) (first results) (in_register {r = 10} refl) x)

@@ -1,5 +1,6 @@
 -- The registers that the parts of lines name, by their first and second operands.
 use Rattle.std.proofs.Common.{◌≡◌, ℕ, ◌+◌, ◌*◌, Bool, true, false, cond, nat_eq, nat_le, not, ◌||◌, List, [], ◌∷◌, ◌++◌, length, map, refl, ◌∙◌, ap, Option, Some, None}
+use Rattle.std.proofs.Math.Bool.{and-false, or-false}
 use Rattle.bs_words.specs.declared.operators.CmpOp.{CmpOp}
 use Rattle.bs_words.specs.declared.operators.CmpOp.TheVariants as compare
 use Rattle.bs_words.specs.declared.operators.IntOp.{IntOp}
@@ -29,7 +30,7 @@ use Rattle.emit_rules.specs.Constants.{constant}
 use Rattle.emit_rules.specs.Memory.{ask, reserved, addresses, allocation_service}
 use Rattle.emit_rules.specs.Slots.{register_of, target, fetched, kept, slot_offset}
 use Rattle.emit_rules.specs.Tests.{signed_branch, unsigned_branch, constant_words, tests_in_turn, table_of_jumps, value_words}
-use Rattle.laid_parts.proofs.Registers.{or_false, and_false, or_turned, Names, same, joined, then_none, either, nothing, alone, hits, IsApart, addi-names, operation-names, shift-names, load-names, store-names, constant-names, constant-none, sum_to-names, lowered-names, stack_load-names, fetched-names, kept-names, first_none}
+use Rattle.laid_parts.proofs.Registers.{or_turned, Names, same, joined, then_none, either, nothing, alone, hits, IsApart, addi-names, operation-names, shift-names, load-names, store-names, constant-names, constant-none, sum_to-names, lowered-names, stack_load-names, fetched-names, kept-names, first_none}
 use Rattle.mach_ir.specs.declared.op.Callee.TheVariants as callee
 use Rattle.mach_ir.specs.declared.op.External.{External}
 use Rattle.lin_ir.specs.declared.descr.Descr.{Descr}
@@ -81,7 +82,7 @@ module _ (n : ℕ) (apart : IsApart n) (t : ℕ) where
   symbol_line-names name results c =
       then_none {xs = piece.SymbolAddress (target (first results)) name ∷ []}
       (same (alone n (piece.SymbolAddress (target (first results)) name)) refl
-      (or_false (hits n (target (first results))) ∙ at_place n apart T1 (first results) apart.t1 c))
+      (or-false (hits n (target (first results))) ∙ at_place n apart T1 (first results) apart.t1 c))
       (kept-names n apart t (first results))
 
   -- ---- memory
@@ -101,7 +102,7 @@ module _ (n : ℕ) (apart : IsApart n) (t : ℕ) where
       (joined {xs = load loads.Ld T1 S11 0 ∷ []} (same (load-names n apart loads.Ld T1 S11 0) apart.s11 apart.t1)
       (joined {xs = skip condition.Bgeu S10 T1 (4 * (1 + length (ask bytes))) ∷ []}
       (same (alone n (skip condition.Bgeu S10 T1 (4 * (1 + length (ask bytes)))))
-      (first_none n apart (hits n S10) (hits n T1 || false) apart.s10 ∙ (or_false (hits n T1) ∙ apart.t1)) refl)
+      (first_none n apart (hits n S10) (hits n T1 || false) apart.s10 ∙ (or-false (hits n T1) ∙ apart.t1)) refl)
       (joined (joined (constant-none n apart T0 bytes apart.t0) (constant-none n apart T2 allocation_service apart.t2)) (alone n ecall))))
 
   mark-names : (d : Option Descr) → Names n (mark_of d) false false
@@ -124,7 +125,7 @@ module _ (n : ℕ) (apart : IsApart n) (t : ℕ) where
       let k : length ss ≡ length bs = cc in
       let g = joined (addresses-names bs ss k h) (same (sum_to-names n apart T1 (target s.loc) S10 (bytes_of bs + 8) apart.t1) apart.s10
       (at_place n apart T1 s.loc apart.t1 a)) in
-      then_none (same g (and_false (not (is_named (loc.Machine n) (places_of ss))))
+      then_none (same g (and-false (not (is_named (loc.Machine n) (places_of ss))))
       (or_turned (is_named (loc.Machine n) (places_of ss)) (is_at s.loc))) (kept-names n apart t s.loc)
 
   pub alloc_line-names : (d : Option Descr) (blocks : List NewBlock) (results : List Spot) → length results ≡ length blocks → AreNumbered results →
@@ -151,7 +152,7 @@ module _ (n : ℕ) (apart : IsApart n) (t : ℕ) where
   chosen_none false = apart.t2
 
   branch-names : (c : Condition) (a b : Register) (l : ℕ) → Names n (piece.Branch c a b l ∷ []) (hits n a || hits n b) false
-  branch-names c a b l = same (alone n (piece.Branch c a b l)) (ap (λ (z : Bool). hits n a || z) (or_false (hits n b))) refl
+  branch-names c a b l = same (alone n (piece.Branch c a b l)) (ap (λ (z : Bool). hits n a || z) (or-false (hits n b))) refl
 
   turned-names : (c : Condition) (a b : Register) (l : ℕ) → Names n (piece.Branch c b a l ∷ []) (hits n a || hits n b) false
   turned-names c a b l = same (branch-names c b a l) (or_turned (hits n b) (hits n a)) refl
@@ -246,12 +247,12 @@ module _ (n : ℕ) (apart : IsApart n) (t : ℕ) where
   rows-names (l ∷ ls) = joined {xs = piece.Row l ∷ []} (alone n (piece.Row l)) (rows-names ls)
 
   goes_to-names : (r : Register) (w : ℕ) → Names n (goes_to r w ∷ []) (hits n r) false
-  goes_to-names r w = same (alone n (goes_to r w)) (or_false (hits n r)) (or_false (hits n Zero) ∙ apart.zero)
+  goes_to-names r w = same (alone n (goes_to r w)) (or-false (hits n r)) (or-false (hits n Zero) ∙ apart.zero)
 
   table-names : (ls : List ℕ) → Names n (table_of_jumps ls) false false
   table-names ls =
       joined {xs = shift shifts.Slli T1 T1 3 ∷ []} (same (shift-names n apart shifts.Slli T1 T1 3) apart.t1 apart.t1)
-      (joined {xs = auipc T2 ∷ []} (same (alone n (auipc T2)) refl (or_false (hits n T2) ∙ apart.t2))
+      (joined {xs = auipc T2 ∷ []} (same (alone n (auipc T2)) refl (or-false (hits n T2) ∙ apart.t2))
       (joined {xs = operation alu.Add T2 T2 T1 ∷ []}
       (same (operation-names n apart alu.Add T2 T2 T1) (first_none n apart (hits n T2) (hits n T1) apart.t2 ∙ apart.t1) apart.t2)
       (joined {xs = goes_to T2 12 ∷ []} (same (goes_to-names T2 12) apart.t2 refl) (rows-names ls))))
@@ -263,7 +264,7 @@ module _ (n : ℕ) (apart : IsApart n) (t : ℕ) where
   -- ---- calls
 
   pub call_line-names : (whom : List ℕ) (d : Option Descr) (args : List Spot) → Names n (call_words t (callee.Symbol whom) args ++ mark_of d) false false
-  call_line-names name d args = joined (same (alone n (piece.Call name)) refl (or_false (hits n Ra) ∙ apart.ra)) (mark-names d)
+  call_line-names name d args = joined (same (alone n (piece.Call name)) refl (or-false (hits n Ra) ∙ apart.ra)) (mark-names d)
 
   pub call_register-names : (d : Option Descr) (args : List Spot) → IsNumbered (first args) →
       Names n (call_words t callee.Register args ++ mark_of d) (is_at (first args)) false
@@ -271,7 +272,7 @@ module _ (n : ℕ) (apart : IsApart n) (t : ℕ) where
       then_none
       (joined (fetched-names n apart t T1 (first args) apart.t1)
       (same (alone n (calls_at (register_of T1 (first args))))
-      (or_false (hits n (register_of T1 (first args))) ∙ at_place n apart T1 (first args) apart.t1 a) (or_false (hits n Ra) ∙ apart.ra)))
+      (or-false (hits n (register_of T1 (first args))) ∙ at_place n apart T1 (first args) apart.t1 a) (or-false (hits n Ra) ∙ apart.ra)))
       (mark-names d)
 
   given_back-names : (f : Frame) → Names n (given_back f) false false
@@ -281,7 +282,7 @@ module _ (n : ℕ) (apart : IsApart n) (t : ℕ) where
 
   pub tail_call-names : (f : Frame) (name : List ℕ) (args : List Spot) → Names n (tail_call_part t f (callee.Symbol name) args) false false
   tail_call-names f name args =
-      joined (given_back-names f) (same (alone n (piece.TailCall name)) refl (or_false (hits n T1) ∙ apart.t1))
+      joined (given_back-names f) (same (alone n (piece.TailCall name)) refl (or-false (hits n T1) ∙ apart.t1))
 
   pub tail_register-names : (f : Frame) (args : List Spot) → IsNumbered (first args) →
       Names n (tail_call_part t f callee.Register args) (is_at (first args)) false
@@ -291,7 +292,7 @@ module _ (n : ℕ) (apart : IsApart n) (t : ℕ) where
   pub external-names : (row : External) (frame : Bool) (d : Option Descr) → Names n (external_words row frame ++ mark_of d) false false
   external-names row frame d =
       joined
-      (joined {xs = piece.ExternalNumber T0 row ∷ []} (same (alone n (piece.ExternalNumber T0 row)) refl (or_false (hits n T0) ∙ apart.t0))
+      (joined {xs = piece.ExternalNumber T0 row ∷ []} (same (alone n (piece.ExternalNumber T0 row)) refl (or-false (hits n T0) ∙ apart.t0))
       (joined (constant-none n apart T2 (external_service frame) apart.t2) (alone n ecall)))
       (mark-names d)
 
@@ -309,7 +310,7 @@ module _ (n : ℕ) (apart : IsApart n) (t : ℕ) where
 
   pub push-names : (l : ℕ) → Names n (push_part l) false false
   push-names l =
-      joined {xs = piece.LabelAddress T1 l ∷ []} (same (alone n (piece.LabelAddress T1 l)) refl (or_false (hits n T1) ∙ apart.t1))
+      joined {xs = piece.LabelAddress T1 l ∷ []} (same (alone n (piece.LabelAddress T1 l)) refl (or-false (hits n T1) ∙ apart.t1))
       (joined {xs = addi Sp Sp 0xFFFFFFFFFFFFFFF0 ∷ []} (same (addi-names n apart Sp Sp 0xFFFFFFFFFFFFFFF0) apart.sp apart.sp)
       (joined {xs = store stores.Sd T1 Sp 0 ∷ []}
       (same (store-names n apart stores.Sd T1 Sp 0) (first_none n apart (hits n Sp) (hits n T1) apart.sp ∙ apart.t1) refl)
@@ -335,7 +336,7 @@ module _ (n : ℕ) (apart : IsApart n) (t : ℕ) where
       (same
       (joined {xs = skip condition.Bltu (right_register r args) (register_of T1 (first args)) (4 * (1 + length raise_bound_error)) ∷ []}
       (alone n (skip condition.Bltu (right_register r args) (register_of T1 (first args)) (4 * (1 + length raise_bound_error))))
-      (then_none {xs = lui A0 0x10000 ∷ []} (same (alone n (lui A0 0x10000)) refl (or_false (hits n A0))) raise-names))
-      (or_false _ ∙ (ap (λ (z : Bool). hits n (right_register r args) || z) (or_false (hits n (register_of T1 (first args))))
+      (then_none {xs = lui A0 0x10000 ∷ []} (same (alone n (lui A0 0x10000)) refl (or-false (hits n A0))) raise-names))
+      (or-false _ ∙ (ap (λ (z : Bool). hits n (right_register r args) || z) (or-false (hits n (register_of T1 (first args))))
       ∙ (or_turned (hits n (right_register r args)) (hits n (register_of T1 (first args))) ∙ two_at r args a h)))
       refl)

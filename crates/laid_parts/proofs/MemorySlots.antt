@@ -1,6 +1,7 @@
 -- The slots that the parts of loads, stores and allocations name.
 use Rattle.std.proofs.Common.{◌≡◌, ℕ, ◌+◌, ◌-◌, ◌*◌, ◌%◌, ◌<◌, Bool, true, false, cond, nat_le, nat_lt, not, ◌||◌, List, [], ◌∷◌, ◌++◌, length, refl, sym, ◌∙◌, Option}
 use Rattle.std.proofs.lemmas.List.Elements.{All-head, All-tail}
+use Rattle.std.proofs.Math.Bool.{and-false, or-false}
 use Rattle.mach_ir.specs.Blocks.{bytes_of}
 use Rattle.mach_ir.specs.Forms.{HasForm, is_immediate_12}
 use Rattle.mach_ir.specs.declared.blocks.NewBlock.{NewBlock}
@@ -26,14 +27,15 @@ use Rattle.emit_rules.specs.Entry.{Frame}
 use Rattle.emit_rules.specs.Instructions.{operation, load, skip, ecall}
 use Rattle.emit_rules.specs.Memory.{address_offset, load_width, load_part, store_width, store_part, allocation_service, ask, reserved, addresses, alloc_part}
 use Rattle.emit_rules.specs.Slots.{first, second, register_of, target}
+use Rattle.lin_laws.proofs.Forms.{load_inv, store_inv, length_comps}
 use Rattle.laid_parts.specs.Laid.{lies_at, lie_at, NamesSlots}
-use Rattle.laid_parts.proofs.Registers.{or_false, and_false, or_turned}
+use Rattle.laid_parts.proofs.Registers.{or_turned}
 use Rattle.laid_parts.proofs.Words.{Chunk, Clear, Part, joined, same, then_none, either, nothing, at_sp, at_end, is_unknown, is_t1, is_t2, is_sp}
 use Rattle.laid_parts.proofs.Clean.{steady, immediate-clear, add-clear, subtract-clear, load-clear, store-clear, constant-clear}
 use Rattle.laid_parts.proofs.SlotParts.{IsWithinFrame, immediate-still, operation-still, constant-still, target-apart, register-apart, fetched-clear, kept-slot}
 use Rattle.laid_parts.proofs.PureSlots.{within, first_within, second_within, slots_of, lie_none, lie_one, lie_two}
 use Rattle.laid_parts.proofs.FlowSlots.{mark-still}
-use Rattle.laid_parts.proofs.Each.{load_inv, store_inv, alloc_inv, length_comps}
+use Rattle.laid_parts.proofs.Each.{alloc_inv}
 
 chosen_apart : (b : Bool) (base : Register) → is_sp base ≡ false → is_sp (cond b base T1) ≡ false
 chosen_apart true base e = e
@@ -58,7 +60,7 @@ module _ (c t : ℕ) where
       (load_from-clear (is_immediate_12 w) (load_width k) (register_of T1 (first args)) (target (first results)) w (address_offset w)
       (register-apart t T1 (first args) refl a) (target-apart t (first results) d))))
       (kept-slot c t (first results) d))
-      (or_false (lies_at t c (first args))) refl)
+      (or-false (lies_at t c (first args))) refl)
 
   store_line-slots : (k : _) (w : ℕ) (args : List Spot) → IsWithinFrame t (first args) → IsWithinFrame t (second args) →
       Part c (store_part t k w args) (lies_at t c (first args) || lies_at t c (second args)) false
@@ -105,7 +107,7 @@ module _ (m : Lin) (t : ℕ) (b : 8 * m.slots + 16 * t < 1073741824) where
       let g = addresses-slots c ns ss k (All-tail (λ (s : Spot). IsLocation m s.loc) s ss h) in
       same c
       (joined c (then_none c g (sum_to-still c t (target s.loc) S10 (bytes_of ns + 8) (target-apart t s.loc a))) (kept-slot c t s.loc a))
-      (and_false (not (lie_at t c (places_of ss)))) (or_turned (lie_at t c (places_of ss)) (lies_at t c s.loc))
+      (and-false (not (lie_at t c (places_of ss)))) (or_turned (lie_at t c (places_of ss)) (lies_at t c s.loc))
 
   alloc_line-slots : (c : ℕ) (d : Option Descr) (blocks : List NewBlock) (results : List Spot) → length results ≡ length blocks → Locates m results →
       Part c (alloc_part t (mark_of d) blocks results) false (lie_at t c (places_of results))

@@ -1,5 +1,6 @@
 -- The registers that the parts of lines name, but for the reserved ones.
 use Rattle.std.proofs.Common.{◌≡◌, ℕ, ◌-◌, ◌%◌, Bool, true, false, cond, nat_eq, not, ◌||◌, List, [], ◌∷◌, ◌++◌, refl, ◌∙◌, ap}
+use Rattle.std.proofs.Math.Bool.{and-false, or-false, or_self}
 use Rattle.bs_words.specs.declared.operators.CmpOp.{CmpOp}
 use Rattle.bs_words.specs.declared.operators.CmpOp.TheVariants as compare
 use Rattle.bs_words.specs.declared.operators.IntOp.{IntOp}
@@ -22,7 +23,7 @@ use Rattle.emit_rules.specs.Instructions.{with_immediate, operation, load, store
 use Rattle.emit_rules.specs.Constants.{constant}
 use Rattle.emit_rules.specs.Operators.{is_some, compared, operated, compared_with, operated_with}
 use Rattle.emit_rules.specs.Slots.{register_of, target, copied, slot_offset}
-use Rattle.laid_parts.proofs.Registers.{or_false, and_false, or_same, not_both, or_turned, Names, same, joined, then_none, nothing, hits, IsApart, with_immediate-names, addi-names, operation-names, shift-names, load-names, store-names, constant-none, stack_load-names, stack_store-names, kept-names, last_none, first_none}
+use Rattle.laid_parts.proofs.Registers.{not_both, or_turned, Names, same, joined, then_none, nothing, hits, IsApart, with_immediate-names, addi-names, operation-names, shift-names, load-names, store-names, constant-none, stack_load-names, stack_store-names, kept-names, last_none, first_none}
 
 -- a location that a line may name: its register has its number
 pub data IsNumbered : Loc → Type 0 where
@@ -39,7 +40,7 @@ module _ (n : ℕ) (apart : IsApart n) where
 
   -- what changes the target again
   again : (to : Register) {xs ys : List Piece} {R : Bool} → Names n xs R (hits n to) → Names n ys (hits n to) (hits n to) → Names n (xs ++ ys) R (hits n to)
-  again to {xs} {ys} {R} x y = same (joined x y) (ap (λ (z : Bool). R || z) (not_both (hits n to)) ∙ or_false R) (or_same (hits n to))
+  again to {xs} {ys} {R} x y = same (joined x y) (ap (λ (z : Bool). R || z) (not_both (hits n to)) ∙ or-false R) (or_self (hits n to))
 
   is_some-names : (to : Register) → Names n (is_some to ∷ []) (hits n to) (hits n to)
   is_some-names to = same (operation-names n apart alu.Sltu to Zero to) (first_none n apart (hits n Zero) (hits n to) apart.zero) refl
@@ -130,7 +131,7 @@ module _ (n : ℕ) (apart : IsApart n) where
   load_from-names true k base to w x = load-names n apart k to base x
   load_from-names false k base to w x =
       same (joined (far-names T1 base w (operation-names n apart alu.Add T1 base T2)) (same (load-names n apart k to T1 x) apart.t1 refl))
-      (ap (λ (z : Bool). hits n base || z) (and_false (not (hits n T1))) ∙ or_false (hits n base))
+      (ap (λ (z : Bool). hits n base || z) (and-false (not (hits n T1))) ∙ or-false (hits n base))
       (first_none n apart (hits n T1) (hits n to) apart.t1)
 
   pub store_to-names : (b : Bool) (k : StoreWidth) (base from : Register) (w x : ℕ) {xs ys : List Piece} → Names n xs false false →

@@ -22,15 +22,17 @@ use Rattle.emit_rules.specs.Entry.{Frame}
 use Rattle.emit_rules.specs.Slots.{first, second, copied}
 use Rattle.std.specs.Prelude.{◌*◌, ◌<◌, ◌≤◌, ◌/◌}
 use Rattle.std.proofs.Common.{cond, ◌+◌}
+use Rattle.std.proofs.lemmas.Bool.{or_parts}
+use Rattle.std.proofs.Math.Bool.{or-false}
 use Rattle.mach_ir.specs.declared.op.Pure.{Pure}
 use Rattle.mach_ir.specs.Seats.{AreSeated, InOrder, AfterFirst, in_order, after_first}
+use Rattle.lin_laws.proofs.Forms.{symbol_inv, copy_inv, register_inv, same_loc_is}
 use Rattle.laid_parts.specs.Laid.{lies_at, lie_at, is_aside, NamesSlots, CarriesSlots, moves_nothing, names}
 use Rattle.laid_parts.specs.Stack.{at_first}
-use Rattle.laid_parts.proofs.Registers.{or_false, neither}
 use Rattle.laid_parts.proofs.Words.{Part, in_part, same, is_sp}
 use Rattle.laid_parts.proofs.Clean.{at_first_clean}
 use Rattle.laid_parts.proofs.SlotParts.{IsWithinFrame, in_register, in_frame, copied-slot, operator_register-slots, operator_constant-slots, constant_line-slots, symbol_line-slots}
-use Rattle.laid_parts.proofs.Each.{is_numbered, constant_inv, symbol_inv, copy_inv, register_inv, with_inv, same_is, no_move, no_self_copy}
+use Rattle.laid_parts.proofs.Each.{is_numbered, constant_inv, with_inv, no_move, no_self_copy}
 
 -- ---- slots that lines name, by how many operands they have
 
@@ -40,20 +42,20 @@ lie_none t c (s ∷ ss) e = absurd (cc)
 
 pub lie_one : (t c : ℕ) (ss : List Spot) (u : Comp) → comps ss ≡ u ∷ [] → lie_at t c (places_of ss) ≡ lies_at t c (first ss)
 lie_one t c [] u e = absurd (cc)
-lie_one t c (s ∷ []) u e = or_false (lies_at t c s.loc)
+lie_one t c (s ∷ []) u e = or-false (lies_at t c s.loc)
 lie_one t c (s ∷ r ∷ ss) u e = absurd (cc)
 
 pub lie_two : (t c : ℕ) (ss : List Spot) (u v : Comp) → comps ss ≡ u ∷ v ∷ [] →
     lie_at t c (places_of ss) ≡ (lies_at t c (first ss) || lies_at t c (second ss))
 lie_two t c [] u v e = absurd (cc)
 lie_two t c (s ∷ []) u v e = absurd (cc)
-lie_two t c (s ∷ r ∷ []) u v e = ap (λ (z : Bool). lies_at t c s.loc || z) (or_false (lies_at t c r.loc))
+lie_two t c (s ∷ r ∷ []) u v e = ap (λ (z : Bool). lies_at t c s.loc || z) (or-false (lies_at t c r.loc))
 lie_two t c (s ∷ r ∷ q ∷ ss) u v e = absurd (cc)
 
 lie_prefix : (t c : ℕ) (ls more : List Loc) → lie_at t c (ls ++ more) ≡ false → lie_at t c ls ≡ false
 lie_prefix t c [] more e = refl
 lie_prefix t c (k ∷ ks) more e =
-    let p = neither (lies_at t c k) (lie_at t c (ks ++ more)) e in
+    let p = or_parts (lies_at t c k) (lie_at t c (ks ++ more)) e in
     ap (λ (z : Bool). z || lie_at t c ks) p.0 ∙ lie_prefix t c ks more p.1
 
 -- at the places of a convention, which are registers
@@ -65,7 +67,7 @@ pub lie_after : (t c : ℕ) (places : List Loc) (ss : List Spot) → AreSeated (
 lie_after t c places [] s h = elim s [ ]
 lie_after t c places (x ∷ ss) (after_first more e) h =
     let k : lie_at t c (places_of ss) ≡ false = lie_prefix t c (places_of ss) more (ap (λ (z : List Loc). lie_at t c z) e ∙ h) in
-    ap (λ (z : Bool). lies_at t c x.loc || z) k ∙ or_false (lies_at t c x.loc)
+    ap (λ (z : Bool). lies_at t c x.loc || z) k ∙ or-false (lies_at t c x.loc)
 
 -- ---- locations
 
@@ -130,12 +132,12 @@ module _ (m : Lin) (t : ℕ) (b : 8 * m.slots + 16 * t < 1073741824) (f : Frame)
     where
       by : (q : Bool) → same_loc x.loc y.loc ≡ q →
           CarriesSlots f t (record { op = lin.Op (op.Pure (pure.Copy kind)); args = x ∷ []; results = y ∷ [] }) (cond q [] (copied t x.loc y.loc))
-      by true k = moves_nothing (x, y, is_self_move (same_is x.loc y.loc k))
+      by true k = moves_nothing (x, y, is_self_move (same_loc_is x.loc y.loc k))
       by false w =
           names (no_self_copy x y (is_numbered (All-head (λ (s : Spot). IsLocation m s.loc) x [] a)) w)
           (slots_of t (λ c n. in_part c (same c
           (copied-slot c t x.loc y.loc (first_within m t b (x ∷ []) u [] e a) (first_within m t b (y ∷ []) v [] g r))
-          (sym (or_false (lies_at t c x.loc))) (sym (or_false (lies_at t c y.loc))))))
+          (sym (or-false (lies_at t c x.loc))) (sym (or-false (lies_at t c y.loc))))))
 
   pub pure-slots : (g : Pure) (args results : List Spot) → IsFormed (record { op = lin.Op (op.Pure g); args = args; results = results }) →
       Locates m args → Locates m results → SlotsIn (lin.Op (op.Pure g)) args results

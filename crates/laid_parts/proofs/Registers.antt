@@ -1,5 +1,7 @@
 -- The registers that chunks of a part name, but for the reserved ones.
 use Rattle.std.proofs.Common.{◌≡◌, ℕ, zero, suc, ◌+◌, ◌-◌, ◌%◌, Bool, true, false, cond, nat_eq, nat_lt, nat_le, not, ◌||◌, ◌&&◌, List, [], ◌∷◌, ◌++◌, refl, ◌∙◌, ap}
+use Rattle.std.proofs.lemmas.Bool.{or_parts}
+use Rattle.std.proofs.Math.Bool.{and-false, or-false, or_self}
 use Rattle.bs_words.specs.declared.types.Loc.{Loc}
 use Rattle.bs_words.specs.declared.types.Loc.TheVariants as loc
 use Rattle.mach_ir.specs.Forms.{is_immediate_12}
@@ -19,22 +21,11 @@ use Rattle.rv_pieces.specs.declared.piece.Piece.{Piece}
 use Rattle.emit_rules.specs.Instructions.{low_12, with_immediate, addi, operation, shift, lui, addiw, load, store}
 use Rattle.emit_rules.specs.Constants.{is_word_32, above_12, constant_32, higher, shifted, constant_shifted, constant, sum_to, lowered}
 use Rattle.emit_rules.specs.Slots.{far_stack, stack_load, stack_store, slot_offset, fetched, kept}
-use Rattle.laid_parts.specs.Named.{is_among, piece_sources, piece_targets, is_source, is_target}
+use Rattle.linear_rules.specs.Lowered.{is_among}
+use Rattle.laid_parts.specs.Named.{piece_sources, piece_targets, is_source, is_target}
 use Rattle.laid_parts.specs.Laid.{is_reserved}
 
 -- ---- truth values
-
-pub or_false : (b : Bool) → (b || false) ≡ b
-or_false true = refl
-or_false false = refl
-
-pub and_false : (b : Bool) → (b && false) ≡ false
-and_false true = refl
-and_false false = refl
-
-pub or_same : (b : Bool) → (b || b) ≡ b
-or_same true = refl
-or_same false = refl
 
 pub not_both : (b : Bool) → (not b && b) ≡ false
 not_both true = refl
@@ -54,10 +45,6 @@ regroup false false s u y = refl
 pub or_grouped : (a b c : Bool) → (a || (b || c)) ≡ ((a || b) || c)
 or_grouped true b c = refl
 or_grouped false b c = refl
-
-pub neither : (a b : Bool) → (a || b) ≡ false → (a ≡ false) × (b ≡ false)
-neither true b e = absurd (cc)
-neither false b e = (refl, e)
 
 -- ---- what pieces name
 
@@ -90,7 +77,7 @@ joined {n} {xs} {ys} {R} {S} {Q} {T} x y = record {
 
 -- what stands last and names none
 pub then_none : {n : ℕ} {xs ys : List Piece} {R S : Bool} → Names n xs R S → Names n ys false false → Names n (xs ++ ys) R S
-then_none {n} {xs} {ys} {R} {S} x y = same (joined x y) (ap (λ (z : Bool). R || z) (and_false (not S)) ∙ or_false R) (or_false S)
+then_none {n} {xs} {ys} {R} {S} x y = same (joined x y) (ap (λ (z : Bool). R || z) (and-false (not S)) ∙ or-false R) (or-false S)
 
 pub either : {n : ℕ} (b : Bool) {xs ys : List Piece} {R S : Bool} → Names n xs R S → Names n ys R S → Names n (cond b xs ys) R S
 either true x y = x
@@ -101,8 +88,8 @@ nothing = record { reads = refl; sets = refl }
 
 pub alone : (n : ℕ) (p : Piece) → Names n (p ∷ []) (is_among n (piece_sources p)) (is_among n (piece_targets p))
 alone n p = record {
-  reads = ap (λ (z : Bool). is_among n (piece_sources p) || z) (and_false (not (is_among n (piece_targets p)))) ∙ or_false (is_among n (piece_sources p));
-  sets = or_false (is_among n (piece_targets p));
+  reads = ap (λ (z : Bool). is_among n (piece_sources p) || z) (and-false (not (is_among n (piece_targets p)))) ∙ or-false (is_among n (piece_sources p));
+  sets = or-false (is_among n (piece_targets p));
 }
 
 -- the register has this number
@@ -122,50 +109,50 @@ pub record IsApart (n : ℕ) : Type 0 where
 
 pub is-apart : (n : ℕ) → is_reserved n ≡ false → IsApart n
 is-apart n e =
-    let p0 = neither _ _ e in
-    let p1 = neither _ _ p0.1 in
-    let p2 = neither _ _ p1.1 in
-    let p3 = neither _ _ p2.1 in
-    let p4 = neither _ _ p3.1 in
-    let p5 = neither _ _ p4.1 in
-    let p6 = neither _ _ p5.1 in
-    let p7 = neither _ _ p6.1 in
-    let p8 = neither _ _ p7.1 in
+    let p0 = or_parts _ _ e in
+    let p1 = or_parts _ _ p0.1 in
+    let p2 = or_parts _ _ p1.1 in
+    let p3 = or_parts _ _ p2.1 in
+    let p4 = or_parts _ _ p3.1 in
+    let p5 = or_parts _ _ p4.1 in
+    let p6 = or_parts _ _ p5.1 in
+    let p7 = or_parts _ _ p6.1 in
+    let p8 = or_parts _ _ p7.1 in
     record { zero = p0.0; ra = p1.0; sp = p2.0; t0 = p3.0; t1 = p4.0; t2 = p5.0; s1 = p6.0; s10 = p7.0; s11 = p8.0 }
 
 module _ (n : ℕ) (apart : IsApart n) where
   -- ---- single instructions
 
   pub with_immediate-names : (f : AluImmOp) (to from : Register) (w : ℕ) → Names n (with_immediate f to from w ∷ []) (hits n from) (hits n to)
-  with_immediate-names f to from w = same (alone n (with_immediate f to from w)) (or_false (hits n from)) (or_false (hits n to))
+  with_immediate-names f to from w = same (alone n (with_immediate f to from w)) (or-false (hits n from)) (or-false (hits n to))
 
   pub addi-names : (to from : Register) (w : ℕ) → Names n (addi to from w ∷ []) (hits n from) (hits n to)
-  addi-names to from w = same (alone n (addi to from w)) (or_false (hits n from)) (or_false (hits n to))
+  addi-names to from w = same (alone n (addi to from w)) (or-false (hits n from)) (or-false (hits n to))
 
   pub operation-names : (f : AluOp) (to a b : Register) → Names n (operation f to a b ∷ []) (hits n a || hits n b) (hits n to)
   operation-names f to a b =
-      same (alone n (operation f to a b)) (ap (λ (z : Bool). hits n a || z) (or_false (hits n b))) (or_false (hits n to))
+      same (alone n (operation f to a b)) (ap (λ (z : Bool). hits n a || z) (or-false (hits n b))) (or-false (hits n to))
 
   pub shift-names : (f : ShiftOp) (to from : Register) (amount : ℕ) → Names n (shift f to from amount ∷ []) (hits n from) (hits n to)
-  shift-names f to from amount = same (alone n (shift f to from amount)) (or_false (hits n from)) (or_false (hits n to))
+  shift-names f to from amount = same (alone n (shift f to from amount)) (or-false (hits n from)) (or-false (hits n to))
 
   pub lui-names : (to : Register) (w : ℕ) → Names n (lui to w ∷ []) false (hits n to)
-  lui-names to w = same (alone n (lui to w)) refl (or_false (hits n to))
+  lui-names to w = same (alone n (lui to w)) refl (or-false (hits n to))
 
   pub addiw-names : (to from : Register) (w : ℕ) → Names n (addiw to from w ∷ []) (hits n from) (hits n to)
-  addiw-names to from w = same (alone n (addiw to from w)) (or_false (hits n from)) (or_false (hits n to))
+  addiw-names to from w = same (alone n (addiw to from w)) (or-false (hits n from)) (or-false (hits n to))
 
   pub load-names : (k : LoadWidth) (to address : Register) (w : ℕ) → Names n (load k to address w ∷ []) (hits n address) (hits n to)
-  load-names k to address w = same (alone n (load k to address w)) (or_false (hits n address)) (or_false (hits n to))
+  load-names k to address w = same (alone n (load k to address w)) (or-false (hits n address)) (or-false (hits n to))
 
   pub store-names : (k : StoreWidth) (from address : Register) (w : ℕ) → Names n (store k from address w ∷ []) (hits n address || hits n from) false
-  store-names k from address w = same (alone n (store k from address w)) (ap (λ (z : Bool). hits n address || z) (or_false (hits n from))) refl
+  store-names k from address w = same (alone n (store k from address w)) (ap (λ (z : Bool). hits n address || z) (or-false (hits n from))) refl
 
   -- ---- constants
 
   -- what changes a register that was set before
   pub over : {xs ys : List Piece} (r : Register) → Names n xs false (hits n r) → Names n ys (hits n r) (hits n r) → Names n (xs ++ ys) false (hits n r)
-  over r x y = same (joined x y) (not_both (hits n r)) (or_same (hits n r))
+  over r x y = same (joined x y) (not_both (hits n r)) (or_self (hits n r))
 
   over_if : (b : Bool) {xs ys : List Piece} (r : Register) → Names n xs false (hits n r) → Names n ys (hits n r) (hits n r) →
       Names n (xs ++ cond b [] ys) false (hits n r)
@@ -183,7 +170,7 @@ module _ (n : ℕ) (apart : IsApart n) where
 
   both : {xs ys : List Piece} (r : Register) → Names n xs (hits n r) (hits n r) → Names n ys (hits n r) (hits n r) →
       Names n (xs ++ ys) (hits n r) (hits n r)
-  both r x y = same (joined x y) (ap (λ (z : Bool). hits n r || z) (not_both (hits n r)) ∙ or_false (hits n r)) (or_same (hits n r))
+  both r x y = same (joined x y) (ap (λ (z : Bool). hits n r || z) (not_both (hits n r)) ∙ or-false (hits n r)) (or_self (hits n r))
 
   sum_shifted-names : (r : Register) (w amount : ℕ) → Names n (addi r r w ∷ shifted r amount) (hits n r) (hits n r)
   sum_shifted-names r w zero = addi-names r r w
@@ -205,7 +192,7 @@ module _ (n : ℕ) (apart : IsApart n) where
   constant-none r w e = same (constant-names r w) refl e
 
   pub last_none : (a b : Bool) → b ≡ false → (a || b) ≡ a
-  last_none a b e = ap (λ (z : Bool). a || z) e ∙ or_false a
+  last_none a b e = ap (λ (z : Bool). a || z) e ∙ or-false a
 
   pub first_none : (a b : Bool) → a ≡ false → (a || b) ≡ b
   first_none a b e = ap (λ (z : Bool). z || b) e

@@ -27,11 +27,11 @@ use Rattle.emit_rules.specs.Slots.{first, second, fetched}
 use Rattle.emit_rules.specs.Traversal.{Each, each_none, each_more}
 use Rattle.emit_rules.specs.Values.{Makes, makes_first, makes_upper, makes_lower, makes_sum, makes_shift}
 use Rattle.emit_rules.proofs.Values.{constant_is_made}
-use Rattle.laid_parts.proofs.Registers.{or_false}
 use Rattle.laid_parts.specs.Laid.{lies_at}
 use Rattle.laid_parts.proofs.Clean.{stack_load-clear}
 use Rattle.laid_parts.proofs.Words.{Chunk, Clear, joined, same, then_none, nothing, still, IsScratch, is_t1, is_t2, is_sp, stack_load-words, stack_store-words}
 use Rattle.std.proofs.Common.{◌*◌, ◌<◌}
+use Rattle.std.proofs.Math.Bool.{or-false}
 
 module _ (c : ℕ) where
   pub immediate-still : (f : AluImmOp) (to from : Register) (w : ℕ) → is_sp to ≡ false → Chunk c (with_immediate f to from w ∷ []) false false
@@ -154,7 +154,7 @@ module _ (c t : ℕ) where
   copied-slot (loc.Slot j) to (in_frame a) b =
       same c
       (joined c (stack_load-words c T2 (target to) (slot_offset t j) is_t2 a (target-apart t to b)) (kept-slot to b))
-      (or_false (nat_eq (8 * j + 16 * t) c)) refl
+      (or-false (nat_eq (8 * j + 16 * t) c)) refl
   copied-slot (loc.Machine r) (loc.Slot j) a (in_frame b) = stack_store-words c (register_at r) (slot_offset t j) b
   copied-slot (loc.Machine r) (loc.Machine o) a (in_register e) = immediate-still c imm.Addi (register_at o) (register_at r) 0 e
   copied-slot (loc.Machine r) loc.Unset a b = elim b [ ]
@@ -169,7 +169,7 @@ module _ (c t : ℕ) where
       (then_none c (joined c (fetched-slot T1 (first args) is_t1 refl a) (fetched-slot T2 (second args) is_t2 refl b))
       (operated-still c f (target (first results)) (register_of T1 (first args)) (register_of T2 (second args)) (target-apart t (first results) d)))
       (kept-slot (first results) d))
-      (or_false (lies_at t c (first args) || lies_at t c (second args))) refl
+      (or-false (lies_at t c (first args) || lies_at t c (second args))) refl
 
   pub operator_constant-slots : (f : IntOp) (w : ℕ) (args results : List Spot) → IsWithinFrame t (first args) → IsWithinFrame t (first results) →
       Chunk c (operator_part t f (right.Constant w) args results) (lies_at t c (first args)) (lies_at t c (first results))
@@ -179,7 +179,7 @@ module _ (c t : ℕ) where
       (then_none c (fetched-slot T1 (first args) is_t1 refl a)
       (operated_with-still c f (target (first results)) (register_of T1 (first args)) w (target-apart t (first results) d)))
       (kept-slot (first results) d))
-      (or_false (lies_at t c (first args))) refl
+      (or-false (lies_at t c (first args))) refl
 
   pub constant_line-slots : (w : ℕ) (results : List Spot) → IsWithinFrame t (first results) →
       Chunk c (constant (target (first results)) w ++ kept t (first results)) false (lies_at t c (first results))

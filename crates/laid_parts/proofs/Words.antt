@@ -2,6 +2,7 @@
 use Rattle.std.proofs.Common.{◌≡◌, ℕ, ◌+◌, ◌*◌, ◌%◌, ◌^◌, ◌<◌, ◌≤◌, ◌⊎◌, inl, inr, Bool, true, false, cond, nat_eq, nat_lt, not, ◌||◌, ◌&&◌, List, [], ◌∷◌, ◌++◌, refl, sym, subst, ◌∙◌, ap, arith}
 use Rattle.std.proofs.lemmas.Bool.{ltb-true}
 use Rattle.std.proofs.lemmas.Bool.Decides.{nat_tests}
+use Rattle.std.proofs.Math.Bool.{and-false, or-false}
 use Rattle.bs_words.specs.Word.{add_word, sext_word}
 use Rattle.rv_isa.specs.Registers.{number}
 use Rattle.rv_isa.specs.declared.instr.LoadWidth.TheVariants as loads
@@ -13,9 +14,10 @@ use Rattle.emit_rules.specs.Instructions.{low_12, load, store}
 use Rattle.emit_rules.specs.Constants.{above_12}
 use Rattle.emit_rules.specs.Slots.{far_stack, stack_load, stack_store}
 use Rattle.emit_rules.proofs.Values.{by_12, by_32, first_is}
-use Rattle.laid_parts.specs.Named.{is_among, piece_targets}
+use Rattle.linear_rules.specs.Lowered.{is_among}
+use Rattle.laid_parts.specs.Named.{piece_targets}
 use Rattle.laid_parts.specs.Stack.{Form, Unknown, Is, FromSp, Held, after, loaded, stored, is_loaded, is_stored, piece_made, plus, word_at}
-use Rattle.laid_parts.proofs.Registers.{or_false, and_false, regroup, or_grouped}
+use Rattle.laid_parts.proofs.Registers.{regroup, or_grouped}
 
 -- ---- pieces one after the other
 
@@ -102,7 +104,7 @@ module _ (c : ℕ) where
 
   pub then_none : {P Q T : Held → Type 0} {xs ys : List Piece} {R S : Bool} → Through P Q c xs R S → Through Q T c ys false false →
       Through P T c (xs ++ ys) R S
-  then_none {xs} {ys} {R} {S} x y = same (joined x y) (ap (λ (z : Bool). R || z) (and_false (not S)) ∙ or_false R) (or_false S)
+  then_none {xs} {ys} {R} {S} x y = same (joined x y) (ap (λ (z : Bool). R || z) (and-false (not S)) ∙ or-false R) (or-false S)
 
   pub either : {P Q : Held → Type 0} (b : Bool) {xs ys : List Piece} {R S : Bool} → Through P Q c xs R S → Through P Q c ys R S →
       Through P Q c (cond b xs ys) R S
@@ -129,7 +131,7 @@ module _ (c : ℕ) where
   unfolding later
   one_still p a b t = record {
     each = λ h e. record {
-      loads = ap (λ (z : List ℕ). is_among c z || (not (is_among c (stored h p)) && false)) (a h e) ∙ and_false (not (is_among c (stored h p)));
+      loads = ap (λ (z : List ℕ). is_among c z || (not (is_among c (stored h p)) && false)) (a h e) ∙ and-false (not (is_among c (stored h p)));
       stores = ap (λ (z : List ℕ). is_among c z || false) (b h e);
       left = t h e;
     };
@@ -181,7 +183,7 @@ module _ (c : ℕ) where
   near_load to w l t = record {
     each = λ h e. record {
       loads = ap (λ (f : Form). (is_among c (word_at f (low_12 w)) || false)) e
-          ∙ (or_false _ ∙ (or_false _ ∙ ap (λ (z : ℕ). nat_eq z c) (near_is w l)));
+          ∙ (or-false _ ∙ (or-false _ ∙ ap (λ (z : ℕ). nat_eq z c) (near_is w l)));
       stores = refl;
       left = ap (λ (z : Bool). cond (z || false) Unknown (h 2)) t ∙ e;
     };
@@ -191,9 +193,9 @@ module _ (c : ℕ) where
   unfolding later
   near_store from w l = record {
     each = λ h e. record {
-      loads = and_false (not (is_among c (word_at (h 2) (low_12 w))));
+      loads = and-false (not (is_among c (word_at (h 2) (low_12 w))));
       stores = ap (λ (f : Form). (is_among c (word_at f (low_12 w)) || false)) e
-          ∙ (or_false _ ∙ (or_false _ ∙ ap (λ (z : ℕ). nat_eq z c) (near_is w l)));
+          ∙ (or-false _ ∙ (or-false _ ∙ ap (λ (z : ℕ). nat_eq z c) (near_is w l)));
       left = e;
     };
   }
@@ -207,7 +209,7 @@ module _ (c : ℕ) where
   far_load scratch to w is_t1 l t = record {
     each = λ h e. record {
       loads = ap (λ (f : Form). (is_among c (word_at (plus (upper w) f) (low_12 w)) || false)) e
-          ∙ (or_false _ ∙ (or_false _ ∙ ap (λ (z : ℕ). nat_eq z c) (far_is w l)));
+          ∙ (or-false _ ∙ (or-false _ ∙ ap (λ (z : ℕ). nat_eq z c) (far_is w l)));
       stores = refl;
       left = ap (λ (z : Bool). cond (z || false) Unknown (h 2)) t ∙ e;
     };
@@ -215,7 +217,7 @@ module _ (c : ℕ) where
   far_load scratch to w is_t2 l t = record {
     each = λ h e. record {
       loads = ap (λ (f : Form). (is_among c (word_at (plus (upper w) f) (low_12 w)) || false)) e
-          ∙ (or_false _ ∙ (or_false _ ∙ ap (λ (z : ℕ). nat_eq z c) (far_is w l)));
+          ∙ (or-false _ ∙ (or-false _ ∙ ap (λ (z : ℕ). nat_eq z c) (far_is w l)));
       stores = refl;
       left = ap (λ (z : Bool). cond (z || false) Unknown (h 2)) t ∙ e;
     };
@@ -225,9 +227,9 @@ module _ (c : ℕ) where
   unfolding later
   far_store from w l = record {
     each = λ h e. record {
-      loads = and_false (not (is_among c (word_at (plus (upper w) (h 2)) (low_12 w))));
+      loads = and-false (not (is_among c (word_at (plus (upper w) (h 2)) (low_12 w))));
       stores = ap (λ (f : Form). (is_among c (word_at (plus (upper w) f) (low_12 w)) || false)) e
-          ∙ (or_false _ ∙ (or_false _ ∙ ap (λ (z : ℕ). nat_eq z c) (far_is w l)));
+          ∙ (or-false _ ∙ (or-false _ ∙ ap (λ (z : ℕ). nat_eq z c) (far_is w l)));
       left = e;
     };
   }

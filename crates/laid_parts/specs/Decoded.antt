@@ -5,8 +5,9 @@ use Rattle.rv_isa.specs.declared.instr.Instr.{Instr}
 use Rattle.rv_isa.specs.declared.instr.Instr.TheVariants as instr
 use Rattle.rv_pieces.specs.declared.piece.Piece.{Piece}
 use Rattle.rv_pieces.specs.declared.piece.Piece.TheVariants as piece
+use Rattle.linear_rules.specs.Lowered.{is_among}
 use Rattle.laid_parts.specs.Laid.{is_reserved}
-use Rattle.laid_parts.specs.Named.{is_among, sources, targets, piece_sources, piece_targets}
+use Rattle.laid_parts.specs.Named.{sources, targets, piece_sources, piece_targets}
 
 -- whether instructions in this order name a register as a source before they have set it
 abbrev pub is_source_in : ℕ → List Instr → Bool

@@ -31,7 +31,8 @@ use Rattle.rv_pieces.specs.declared.piece.Piece.{Piece}
 use Rattle.rv_pieces.specs.declared.piece.Piece.TheVariants as piece
 use Rattle.rv_pieces.specs.declared.piece.Pieces.{Pieces}
 use Rattle.emit_rules.specs.Entry.{Frame, frame_of, return_offset, entry}
-use Rattle.laid_parts.specs.Named.{is_among, is_source, is_target}
+use Rattle.linear_rules.specs.Lowered.{is_among}
+use Rattle.laid_parts.specs.Named.{is_source, is_target}
 use Rattle.laid_parts.specs.Stack.{at_first, is_loaded, is_stored}
 
 -- ---- registers that are not compared

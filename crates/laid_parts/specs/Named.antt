@@ -1,14 +1,11 @@
 -- The registers that instructions and pieces name, as their sources and as their targets.
-use Rattle.std.specs.Prelude.{ℕ, Bool, false, nat_eq, not, ◌||◌, ◌&&◌, List, [], ◌∷◌}
+use Rattle.std.specs.Prelude.{ℕ, Bool, false, not, ◌||◌, ◌&&◌, List, [], ◌∷◌}
 use Rattle.rv_isa.specs.Registers.{number, ra, t1}
 use Rattle.rv_isa.specs.declared.instr.Instr.{Instr}
 use Rattle.rv_isa.specs.declared.instr.Instr.TheVariants as instr
 use Rattle.rv_pieces.specs.declared.piece.Piece.{Piece}
 use Rattle.rv_pieces.specs.declared.piece.Piece.TheVariants as piece
-
-abbrev pub is_among : ℕ → List ℕ → Bool
-is_among n [] = false
-is_among n (m ∷ ms) = nat_eq m n || is_among n ms
+use Rattle.linear_rules.specs.Lowered.{is_among}
 
 -- ---- instructions, by their formats
 

@@ -2,6 +2,7 @@
 use Rattle.std.proofs.Common.{◌≡◌, ℕ, zero, suc, ◌+◌, ◌*◌, ◌^◌, ◌<◌, ◌≤◌, List, [], ◌∷◌, ◌++◌, length, Some, refl, subst, length-append, append_assoc, arith}
 use Rattle.std.specs.Prelude.{slice_get}
 use Rattle.std.specs.List.{AllByRecursion}
+use Rattle.std.proofs.lemmas.Option.{same_Some}
 use Rattle.cmm_tree.specs.Tree.{FunctionTree, FileTree, functions}
 use Rattle.correctness.specs.Bounds.{FillCode}
 use Rattle.image_form.specs.Image.{stub, code_limit}
@@ -16,9 +17,6 @@ use Rattle.layout_rules.proofs.Standing.{words_length, pieces_stand}
 use Rattle.rv_pieces.specs.declared.piece.Piece.{Piece}
 use Rattle.rv_pieces.specs.declared.piece.Piece.TheVariants.{Known, Label, Branch, Jump, Row, LabelAddress, Call, TailCall, SymbolAddress, ExternalNumber, Descriptor}
 use Rattle.rv_pieces.specs.declared.piece.Pieces.{Pieces}
-
-same_some : {A : Type 0} {x y : A} → Some x ≡ Some y → x ≡ y
-same_some e = cc
 
 -- there are as many forms as pieces
 pub forms_length : (places : ℕ → ℕ) (at : ℕ) (ps : List Piece) (fs : List Form) → ReachFrom places at ps fs → length fs ≡ length ps
@@ -62,8 +60,8 @@ found file entries fs [] forms pre at k p row e behind are laid low is row_is = 
 found file entries fs (q ∷ ps) [] pre at k p row e behind are laid low is row_is = absurd are
 found file entries [] (q ∷ ps) (g ∷ forms) pre at k p row e behind are laid low is row_is = cc
 found file entries (f ∷ fs) (q ∷ ps) (g ∷ forms) pre at zero p row e behind are laid low is row_is =
-    let same : q ≡ p = same_some is in
-    let same_row = same_some row_is in
+    let same : q ≡ p = same_Some _ _ is in
+    let same_row = same_Some _ _ row_is in
     let words = function_words file entries at q.code g in
     let rest = code_from file entries (at + total_words q.code g) ps forms in
     let code = pre ++ (words ++ rest) in

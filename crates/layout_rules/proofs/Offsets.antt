@@ -3,27 +3,9 @@ use Rattle.std.proofs.Common.{◌≡◌, ℕ, ◌+◌, ◌-◌, ◌*◌, ◌/◌
 use Rattle.std.proofs.lemmas.Bool.{cases_lt}
 use Rattle.bs_words.specs.Word.{add_word}
 use Rattle.bs_words.proofs.Word.{sext-high, sext-low}
+use Rattle.machine_laws.proofs.Immediates.{by_12, by_20, Extended}
 use Rattle.layout_rules.specs.Words.{distance, branch_offset, jal_offset, upper, lower}
 use Rattle.rv_machine.specs.Arithmetic.{imm_i, imm_b, imm_j, imm_u}
-
--- a number of so many bits, by the value of its highest bit
-abbrev pub Extended : (half w result : ℕ) → Type 0
-Extended half w result = ((w < half) × (result ≡ w)) ⊎ ((half ≤ w) × (result ≡ w + 2 ^ 64 - 2 * half))
-
-low_12 : (x : ℕ) → x < 2048 → imm_i x ≡ x
-low_12 x l =
-    let e : x % 2 ^ 12 ≡ x = omega (arith, l) in
-    let h : x % 2 ^ 12 < 2 ^ (12 - 1) = omega (arith, l) in
-    sym (sext-low x 12 (omega arith) h) ∙ e
-
-high_12 : (x : ℕ) → 2048 ≤ x → x < 4096 → imm_i x ≡ x + 2 ^ 64 - 2 * 2048
-high_12 x l u =
-    let e : x % 2 ^ 12 + (2 ^ 64 - 2 ^ 12) ≡ x + 2 ^ 64 - 2 * 2048 = omega (arith, u) in
-    let h : 2 ^ (12 - 1) ≤ x % 2 ^ 12 = omega (arith, l, u) in
-    sym (sext-high x 12 (omega arith) h) ∙ e
-
-pub by_12 : (x : ℕ) → x < 4096 → Extended 2048 x (imm_i x)
-by_12 x u = ⊎_elim (λ l. inl (l, low_12 x l)) (λ l. inr (l, high_12 x l u)) (cases_lt x 2048)
 
 low_13 : (x : ℕ) → x < 4096 → imm_b x ≡ x
 low_13 x l =
@@ -54,21 +36,6 @@ high_21 x l u =
 
 pub by_21 : (x : ℕ) → x < 2097152 → Extended 1048576 x (imm_j x)
 by_21 x u = ⊎_elim (λ l. inl (l, low_21 x l)) (λ l. inr (l, high_21 x l u)) (cases_lt x 1048576)
-
-low_20 : (x : ℕ) → 4096 * x < 2 ^ 31 → imm_u x ≡ 4096 * x
-low_20 x l =
-    let e : 4096 * x % 2 ^ 32 ≡ 4096 * x = omega (arith, l) in
-    let h : 4096 * x % 2 ^ 32 < 2 ^ (32 - 1) = omega (arith, l) in
-    sym (sext-low (4096 * x) 32 (omega arith) h) ∙ e
-
-high_20 : (x : ℕ) → 2 ^ 31 ≤ 4096 * x → x < 2 ^ 20 → imm_u x ≡ 4096 * x + 2 ^ 64 - 2 * 2 ^ 31
-high_20 x l u =
-    let e : 4096 * x % 2 ^ 32 + (2 ^ 64 - 2 ^ 32) ≡ 4096 * x + 2 ^ 64 - 2 * 2 ^ 31 = omega (arith, u) in
-    let h : 2 ^ (32 - 1) ≤ 4096 * x % 2 ^ 32 = omega (arith, l, u) in
-    sym (sext-high (4096 * x) 32 (omega arith) h) ∙ e
-
-pub by_20 : (x : ℕ) → x < 2 ^ 20 → Extended (2 ^ 31) (4096 * x) (imm_u x)
-by_20 x u = ⊎_elim (λ l. inl (l, low_20 x l)) (λ l. inr (l, high_20 x l u)) (cases_lt (4096 * x) (2 ^ 31))
 
 -- ---- sums
 

@@ -1,6 +1,8 @@
 -- Making forms longer ends in the least forms in which all labels are reached.
-use Rattle.std.proofs.Common.{◌≡◌, ◌⊎◌, ℕ, suc, ◌+◌, ◌*◌, ◌<◌, ◌≤◌, Bool, true, false, cond, ◌&&◌, leb-true, ltb-true, ltb-false, le-leb, List, [], ◌∷◌, ◌++◌, length, Option, Some, None, refl, inl, inr, lt-ltb, arith}
+use Rattle.std.proofs.Common.{◌≡◌, ◌⊎◌, ℕ, suc, ◌+◌, ◌*◌, ◌<◌, ◌≤◌, Bool, true, false, cond, leb-true, ltb-true, ltb-false, le-leb, List, [], ◌∷◌, ◌++◌, length, Option, Some, None, refl, inl, inr, lt-ltb, arith}
 use Rattle.std.specs.Prelude.{nat_lt, nat_le}
+use Rattle.std.proofs.lemmas.Option.{same_Some}
+use Rattle.std.proofs.lemmas.Bool.{and_parts, and_from}
 use Rattle.layout_rules.specs.declared.form.Form.{Form}
 use Rattle.layout_rules.specs.declared.form.Form.TheVariants.{Near, Middle, Far}
 use Rattle.layout_rules.specs.Forms.{branch_words, jump_words, words_of, is_label, label_from, place_or_entry, place_of, branch_reaches, jal_reaches, branch_form, jump_form, needed, rank, ReachFrom, Reach, NoLonger, AreForms, AllNear, longer, grown_from, ranks}
@@ -51,31 +53,23 @@ pub record Nearer (a b a' b' : ℕ) : Type 0 where
   pub either :
       ((a ≤ b) × (a' ≤ b') × (b + a' ≤ b' + a)) ⊎ ((b ≤ a) × (b' ≤ a') × (a + b' ≤ a' + b))
 
-both_true : (p q : Bool) → (p && q) ≡ true → (p ≡ true) × (q ≡ true)
-both_true true true e = (refl, refl)
-both_true true false e = cc
-both_true false q e = cc
-
-true_both : (p q : Bool) → p ≡ true → q ≡ true → (p && q) ≡ true
-true_both p q e f = rw (e, f) refl
-
 pub jal_within : (a b : ℕ) → jal_reaches a b ≡ true → (b < a + 262144) × (a ≤ b + 262144)
 jal_within a b e =
-    let both = both_true (nat_lt b (a + 262144)) (nat_le a (b + 262144)) e in
+    let both = and_parts (nat_lt b (a + 262144)) (nat_le a (b + 262144)) e in
     (ltb-true b (a + 262144) both.0, leb-true a (b + 262144) both.1)
 
 jal_does : (a b : ℕ) → b < a + 262144 → a ≤ b + 262144 → jal_reaches a b ≡ true
 jal_does a b h k =
-    true_both (nat_lt b (a + 262144)) (nat_le a (b + 262144)) (lt-ltb b (a + 262144) h) (le-leb a (b + 262144) k)
+    and_from (nat_lt b (a + 262144)) (nat_le a (b + 262144)) (lt-ltb b (a + 262144) h) (le-leb a (b + 262144) k)
 
 pub branch_within : (a b : ℕ) → branch_reaches a b ≡ true → (b < a + 1024) × (a ≤ b + 1024)
 branch_within a b e =
-    let both = both_true (nat_lt b (a + 1024)) (nat_le a (b + 1024)) e in
+    let both = and_parts (nat_lt b (a + 1024)) (nat_le a (b + 1024)) e in
     (ltb-true b (a + 1024) both.0, leb-true a (b + 1024) both.1)
 
 branch_does : (a b : ℕ) → b < a + 1024 → a ≤ b + 1024 → branch_reaches a b ≡ true
 branch_does a b h k =
-    true_both (nat_lt b (a + 1024)) (nat_le a (b + 1024)) (lt-ltb b (a + 1024) h) (le-leb a (b + 1024) k)
+    and_from (nat_lt b (a + 1024)) (nat_le a (b + 1024)) (lt-ltb b (a + 1024) h) (le-leb a (b + 1024) k)
 
 pub rank_most : (f : Form) → rank f ≤ 2
 rank_most Near = omega arith
@@ -198,17 +192,14 @@ pub record Coming (l b b' at at' : ℕ) (ps : List Piece) (fs gs : List Form) : 
 Knows : (l b b' at at' : ℕ) → List Piece → List Form → List Form → Type 0
 Knows l b b' at at' ps fs gs = Passed b b' at at' ⊎ Coming l b b' at at' ps fs gs
 
-same_some : {A : Type 0} {x y : A} → Some x ≡ Some y → x ≡ y
-same_some e = cc
-
 goes_past : (t : Bool) (l b b' at at' w w' : ℕ) (ps : List Piece) (fs gs : List Form) → w ≤ w' →
     cond t (Some at) (label_from l (at + w) ps fs) ≡ Some b →
     cond t (Some at') (label_from l (at' + w') ps gs) ≡ Some b' →
     Knows l b b' (at + w) (at' + w') ps fs gs
 unfolding Knows
 goes_past true l b b' at at' w w' ps fs gs h e e' =
-    let same : at ≡ b = same_some e in
-    let same' : at' ≡ b' = same_some e' in
+    let same : at ≡ b = same_Some _ _ e in
+    let same' : at' ≡ b' = same_Some _ _ e' in
     inl (record { first = omega (arith, same); second = omega (arith, same'); nearer = omega (arith, h, same, same') })
 goes_past false l b b' at at' w w' ps fs gs h e e' = inr (record { first = e; second = e' })
 
@@ -229,8 +220,8 @@ unfolding Ahead
 coming_nearer at at' b b' None o' e e' a = cc
 coming_nearer at at' b b' (Some c) None e e' a = cc
 coming_nearer at at' b b' (Some c) (Some c') e e' a =
-    let same : c ≡ b = same_some e in
-    let same' : c' ≡ b' = same_some e' in
+    let same : c ≡ b = same_Some _ _ e in
+    let same' : c' ≡ b' = same_Some _ _ e' in
     record { either = inl (omega (arith, same, a.0), omega (arith, same', a.1), omega (arith, same, same', a.2)) }
 
 nearer : (l b b' at at' : ℕ) (ps : List Piece) (fs gs : List Form) → NoLonger fs gs → Knows l b b' at at' ps fs gs → Nearer at b at' b'

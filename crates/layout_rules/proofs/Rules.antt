@@ -1,7 +1,8 @@
 -- The tables of an image keep its rules: functions and descriptors.
-use Rattle.std.proofs.Common.{◌≡◌, ℕ, suc, ◌+◌, ◌*◌, ◌<◌, ◌≤◌, Bool, true, false, List, [], ◌∷◌, ◌++◌, All, subst, arith}
+use Rattle.std.proofs.Common.{◌≡◌, ℕ, ◌+◌, ◌*◌, ◌<◌, ◌≤◌, Bool, true, false, List, [], ◌∷◌, ◌++◌, subst, arith}
 use Rattle.std.specs.List.{AllByRecursion}
 use Rattle.std.proofs.lemmas.List.{length-map}
+use Rattle.std.proofs.lemmas.List.Elements.{recursion_from_All}
 use Rattle.bs_words.specs.Symbol.{IsSymbol}
 use Rattle.cmm_tree.specs.Tree.{FunctionTree, FileTree}
 use Rattle.image_form.specs.Image.{First, EachNext, IsName, IsFunc, IsDesc}
@@ -15,12 +16,12 @@ use Rattle.rv_pieces.specs.declared.piece.Piece.{Piece}
 use Rattle.rv_pieces.specs.declared.piece.Piece.TheVariants.{Known, Label, Branch, Jump, Row, LabelAddress, Call, TailCall, SymbolAddress, ExternalNumber, Descriptor}
 use Rattle.rv_pieces.specs.declared.piece.Pieces.{Pieces}
 
-branch_some : (f : Form) → 1 ≤ branch_words f
+pub branch_some : (f : Form) → 1 ≤ branch_words f
 branch_some Near = omega arith
 branch_some Middle = omega arith
 branch_some Far = omega arith
 
-jump_some : (f : Form) → 1 ≤ jump_words f
+pub jump_some : (f : Form) → 1 ≤ jump_words f
 jump_some Near = omega arith
 jump_some Middle = omega arith
 jump_some Far = omega arith
@@ -201,15 +202,11 @@ each_desc file len at (p ∷ ps) (f ∷ forms) m laid in_code =
 
 -- ---- functions
 
-by_recursion : {X : Type 0} (P : X → Type 0) (xs : List X) → All P xs → AllByRecursion P xs
-by_recursion P [] all = tt
-by_recursion P (x ∷ xs) all = (all 0 x (omega arith), by_recursion P xs (λ k d lt. all (suc k) d (omega (arith, lt))))
-
 pub is_name : (name : List ℕ) → IsSymbol name → IsName name
 is_name name symbol = record {
   nonempty = omega (arith, symbol.0);
   short = symbol.1;
-  visible = by_recursion (λ b. (0x21 ≤ b) × (b ≤ 0x7E)) name symbol.2;
+  visible = recursion_from_All (λ b. (0x21 ≤ b) × (b ≤ 0x7E)) name symbol.2;
 }
 
 pub each_func : (file : FileTree) (at : ℕ) (fs : List FunctionTree) (ps : List Pieces) (forms : List (List Form)) → AllByRecursion IsRowLaid fs → AllByRecursion (IsFunctionLaid file) ps →

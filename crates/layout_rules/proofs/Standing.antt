@@ -4,6 +4,7 @@ use Rattle.std.specs.Prelude.{slice_get}
 use Rattle.std.specs.List.{AllByRecursion}
 use Rattle.std.proofs.lemmas.List.{length-map, get_or_at}
 use Rattle.std.proofs.lemmas.Option.{slice_get-get_or}
+use Rattle.emit_rules.proofs.Traverse.{number-below}
 use Rattle.layout_rules.specs.declared.form.Form.{Form}
 use Rattle.layout_rules.specs.declared.form.Form.TheVariants.{Near, Middle, Far}
 use Rattle.layout_rules.specs.Conditions.{LeadsTo}
@@ -13,9 +14,6 @@ use Rattle.layout_rules.specs.Laid.{address_of_place}
 use Rattle.layout_rules.specs.Stands.{HasCode, HasPieces}
 use Rattle.layout_rules.specs.Words.{Named, code_to, code_of, target_of, words_from, words_to}
 use Rattle.rv_isa.specs.Encoding.{InstrFits, encoded}
-use Rattle.rv_isa.specs.Registers.{number}
-use Rattle.rv_isa.specs.declared.register.Register.{Register}
-use Rattle.rv_isa.specs.declared.register.Register.TheVariants.{Zero, Ra, Sp, Gp, Tp, T0, T1, T2, S0, S1, A0, A1, A2, A3, A4, A5, A6, A7, S2, S3, S4, S5, S6, S7, S8, S9, S10, S11, T3, T4, T5, T6}
 use Rattle.rv_isa.specs.declared.instr.Instr.{Instr}
 use Rattle.rv_pieces.specs.declared.piece.Piece.{Piece}
 use Rattle.rv_pieces.specs.declared.piece.Piece.TheVariants.{Known, Label, Branch, Jump, Row, LabelAddress, Call, TailCall, SymbolAddress, ExternalNumber, Descriptor}
@@ -49,57 +47,23 @@ words_length n at (p ∷ ps) (f ∷ fs) =
 
 -- ---- that they fit
 
-number_below : (r : Register) → number r < 32
-number_below Zero = omega arith
-number_below Ra = omega arith
-number_below Sp = omega arith
-number_below Gp = omega arith
-number_below Tp = omega arith
-number_below T0 = omega arith
-number_below T1 = omega arith
-number_below T2 = omega arith
-number_below S0 = omega arith
-number_below S1 = omega arith
-number_below A0 = omega arith
-number_below A1 = omega arith
-number_below A2 = omega arith
-number_below A3 = omega arith
-number_below A4 = omega arith
-number_below A5 = omega arith
-number_below A6 = omega arith
-number_below A7 = omega arith
-number_below S2 = omega arith
-number_below S3 = omega arith
-number_below S4 = omega arith
-number_below S5 = omega arith
-number_below S6 = omega arith
-number_below S7 = omega arith
-number_below S8 = omega arith
-number_below S9 = omega arith
-number_below S10 = omega arith
-number_below S11 = omega arith
-number_below T3 = omega arith
-number_below T4 = omega arith
-number_below T5 = omega arith
-number_below T6 = omega arith
-
 pub code_fits : (at to : ℕ) (p : Piece) (f : Form) → PieceFits p → at % 4 ≡ 0 → at + 4 < 2 ^ 32 → LeadsTo to p → AllByRecursion InstrFits (code_to at to p f)
 code_fits at to (Known i) f fits a h leads = (fits, tt)
 code_fits at to (Label l) f fits a h leads = tt
-code_fits at to (Branch c r s l) Near fits a h leads = ((number_below r, number_below s, omega arith, omega (arith, a, leads, h)), tt)
+code_fits at to (Branch c r s l) Near fits a h leads = ((number-below r, number-below s, omega arith, omega (arith, a, leads, h)), tt)
 code_fits at to (Branch c r s l) Middle fits a h leads =
-    ((number_below r, number_below s, omega arith, omega arith), ((omega arith, omega arith, omega (arith, a, leads, h)), tt))
+    ((number-below r, number-below s, omega arith, omega arith), ((omega arith, omega arith, omega (arith, a, leads, h)), tt))
 code_fits at to (Branch c r s l) Far fits a h leads =
-    ((number_below r, number_below s, omega arith, omega arith), ((omega arith, omega arith), ((omega arith, omega arith, omega arith), tt)))
+    ((number-below r, number-below s, omega arith, omega arith), ((omega arith, omega arith), ((omega arith, omega arith, omega arith), tt)))
 code_fits at to (Jump l) Near fits a h leads = ((omega arith, omega arith, omega (arith, a, leads, h)), tt)
 code_fits at to (Jump l) Middle fits a h leads = ((omega arith, omega arith), ((omega arith, omega arith, omega arith), tt))
 code_fits at to (Jump l) Far fits a h leads = ((omega arith, omega arith), ((omega arith, omega arith, omega arith), tt))
 code_fits at to (Row l) f fits a h leads = ((omega arith, omega arith), ((omega arith, omega arith, omega arith), tt))
-code_fits at to (LabelAddress r l) f fits a h leads = ((number_below r, omega arith), ((number_below r, number_below r, omega arith), tt))
+code_fits at to (LabelAddress r l) f fits a h leads = ((number-below r, omega arith), ((number-below r, number-below r, omega arith), tt))
 code_fits at to (Call name) f fits a h leads = ((omega arith, omega arith), ((omega arith, omega arith, omega arith), tt))
 code_fits at to (TailCall name) f fits a h leads = ((omega arith, omega arith), ((omega arith, omega arith, omega arith), tt))
-code_fits at to (SymbolAddress r name) f fits a h leads = ((number_below r, omega arith), ((number_below r, number_below r, omega arith), tt))
-code_fits at to (ExternalNumber r row) f fits a h leads = ((number_below r, omega arith), ((number_below r, number_below r, omega arith), tt))
+code_fits at to (SymbolAddress r name) f fits a h leads = ((number-below r, omega arith), ((number-below r, number-below r, omega arith), tt))
+code_fits at to (ExternalNumber r row) f fits a h leads = ((number-below r, omega arith), ((number-below r, number-below r, omega arith), tt))
 code_fits at to (Descriptor d) f fits a h leads = tt
 
 -- ---- where they stand

@@ -6,13 +6,13 @@ use Rattle.std.proofs.lemmas.Bool.{and_parts, ltb-true}
 use Rattle.std.proofs.lemmas.List.Elements.{All-contains, All-nil, All-cons}
 use Rattle.bs_words.specs.declared.types.Loc.{Loc}
 use Rattle.bs_words.specs.declared.types.Loc.TheVariants as loc
+use Rattle.bs_words.proofs.Lists.{none_in, in_cons, drop_none}
 use Rattle.dataflow.specs.declared.flow.Place as place
 use Rattle.mach_ir.specs.Placed.{colours}
 use Rattle.lin_ir.specs.Formed.{IsHome, is_colour, is_slot, IsLocation, is_home, is_spare, Locates, AreLocated}
 use Rattle.lin_ir.specs.Walks.{Reached, at_entry}
 use Rattle.lin_ir.specs.declared.lin.Spot.{Spot}
 use Rattle.lin_ir.specs.declared.lin.Lin.{Lin}
-use Rattle.lin_laws.proofs.Places.{none_in, in_cons, drop_none}
 use Rattle.lin_laws.proofs.Reaching.{all_reached}
 use Rattle.lin_laws.specs.Graph.{position, HasNumber, HaveNumbers, AreNumbered}
 use Rattle.lin_laws.specs.declared.position.Position.{Position}

@@ -8,6 +8,7 @@ use Rattle.std.proofs.lemmas.Option.{slice_get_within, slice_get-get_or}
 use Rattle.bs_bits.specs.Set.{has}
 use Rattle.bs_words.specs.Contents.{contents}
 use Rattle.bs_words.specs.declared.types.Comp.TheVariants as comp
+use Rattle.bs_words.proofs.Lists.{none_in, got}
 use Rattle.dataflow.specs.Flow.{IsPlace, WellFormed}
 use Rattle.dataflow.specs.Rows.{row}
 use Rattle.dataflow.specs.declared.flow.Flow as flow
@@ -15,7 +16,7 @@ use Rattle.dataflow.specs.declared.flow.Place as place
 use Rattle.lin_ir.specs.Walks.{targets, tries_after, Reached, goes, Live, LiveAfter, after_step}
 use Rattle.lin_ir.specs.declared.lin.Line.{Line}
 use Rattle.lin_ir.specs.declared.lin.Lin.{Lin}
-use Rattle.lin_laws.proofs.Places.{none_in, got, drop_is, place_drop, place_target, number_is, number_all}
+use Rattle.lin_laws.proofs.Places.{drop_is, place_drop, place_target, number_is, number_all}
 use Rattle.lin_laws.proofs.Walking.{step_is, in_steps, to_live, from_live}
 use Rattle.lin_laws.specs.Graph.{loc_of, place_of, place_at, position, steps, steps_at, raise_steps, AreNodes, IsGraphOf}
 use Rattle.lin_laws.specs.declared.position.Position.{Position}

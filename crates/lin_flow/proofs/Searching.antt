@@ -5,9 +5,9 @@ use Rattle.std.specs.Prelude.{slice_get, slice_index}
 use Rattle.std.proofs.lemmas.Bool.{cases_eq, cases_lt}
 use Rattle.std.proofs.lemmas.List.{length-set, length-map, map-set, get_or-map, get_or-set_same, get_or-set_other, get_or_append_left, get_or_push, get_or_default, length_push, take_more, take_all, map-append}
 use Rattle.std.proofs.lemmas.List.Elements.{Contains-append_left, Contains-append_right, Contains-push}
-use Rattle.lin_laws.proofs.Places.{first_in}
 use Rattle.lin_laws.specs.Graph.{position, AreNumbersOf}
 use Rattle.lin_laws.specs.declared.position.Position.{Position}
+use Rattle.bs_words.proofs.Lists.{first_in}
 use Rattle.lin_flow.specs.Nodes.{Landed}
 use Rattle.lin_flow.specs.Search.{all_of, groups_of, members, HasMember, AreGrouped, Grown, Entered, IsThere, HasFirst}
 use Rattle.lin_flow.specs.declared.search.Group as group

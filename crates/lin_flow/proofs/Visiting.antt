@@ -6,13 +6,13 @@ use Rattle.std.proofs.lemmas.List.{drop_all, length_push}
 use Rattle.std.proofs.lemmas.List.Elements.{All-nil, All-cons, All-head, All-drop, Contains-append_cases}
 use Rattle.std.proofs.lemmas.Option.{slice_get_within}
 use Rattle.bs_words.specs.Contents.{contents}
+use Rattle.bs_words.proofs.Lists.{none_in, got, drop_none}
 use Rattle.dataflow.specs.declared.flow.Place as place
 use Rattle.mach_ir.specs.Acts.{Target, On, At}
 use Rattle.lin_ir.specs.Walks.{targets, may_raise, tries_after, Reached}
 use Rattle.lin_ir.specs.declared.lin.Line.{Line}
 use Rattle.lin_ir.specs.declared.lin.Lin.{Lin}
 use Rattle.lin_laws.proofs.Numbers.{are_reads, are_writes}
-use Rattle.lin_laws.proofs.Places.{none_in, got, drop_none}
 use Rattle.lin_laws.proofs.Reaching.{steps_reached, raises_reached}
 use Rattle.lin_laws.specs.Graph.{place_at, position, steps, steps_at, raise_steps, raises_at, landing, HaveNumbers, AreNumbered, AreNumbersOf, AreReads, AreWrites, IsNode, AreNodes}
 use Rattle.lin_laws.specs.Numbers.{val_numbers, written_numbers}

@@ -9,6 +9,7 @@ use Rattle.bs_words.specs.declared.types.Comp.{Comp}
 use Rattle.bs_words.specs.declared.types.Comp.TheVariants as comp
 use Rattle.bs_words.specs.declared.types.Loc.{Loc}
 use Rattle.bs_words.specs.declared.types.Loc.TheVariants as loc
+use Rattle.bs_words.proofs.Lists.{none_in, first_in, later_in, in_cons}
 use Rattle.bs_bits.specs.Set.{has}
 use Rattle.lin_ir.specs.Descriptors.{frame_bytes, IsEntry, of_register, of_slot, ComesBefore, register_first, rising, NamesLive, IsDescr}
 use Rattle.lin_ir.specs.Walks.{goes, raises, Live, read, on, aside, LiveAcross, across_step, across_raise, LiveAt}
@@ -17,7 +18,7 @@ use Rattle.lin_ir.specs.declared.lin.Spot.{Spot}
 use Rattle.lin_ir.specs.declared.lin.Line.{Line}
 use Rattle.lin_ir.specs.declared.lin.Lin.{Lin}
 use Rattle.lin_laws.proofs.Numbers.{loc_of_number}
-use Rattle.lin_laws.proofs.Places.{Ends, none_in, first_in, later_in, in_cons, drop_is, target_ends, ends_label}
+use Rattle.lin_laws.proofs.Places.{Ends, drop_is, target_ends, ends_label}
 use Rattle.lin_laws.specs.Graph.{loc_of, HasNumber, HaveNumbers, AreNumbered}
 use Rattle.lin_laws.specs.Numbers.{number_in, entry_of, entries_from}
 

@@ -4,3 +4,4 @@ pub mod Reaching
 pub mod Unique
 pub mod Numbers
 pub mod Entries
+pub mod Forms

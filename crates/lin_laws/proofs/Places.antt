@@ -1,5 +1,5 @@
 -- Places of the text, lists that are tables, and numbers of positions.
-use Rattle.std.proofs.Common.{◌≡◌, ℕ, zero, suc, ◌-◌, ◌<◌, ◌≤◌, Bool, true, false, cond, ◌⊎◌, inl, inr, List, [], ◌∷◌, Some, length, map, drop, get_or, refl, sym, ap, ◌∙◌, subst, arith}
+use Rattle.std.proofs.Common.{◌≡◌, ℕ, zero, suc, ◌-◌, ◌<◌, ◌≤◌, Bool, true, false, cond, List, [], ◌∷◌, Some, length, map, drop, get_or, refl, sym, ap, ◌∙◌, subst, arith}
 use Rattle.std.proofs.lemmas.List.{length-drop, get_or_default}
 use Rattle.std.proofs.lemmas.List.Elements.{Contains-get_or}
 use Rattle.std.proofs.lemmas.Option.{slice_get-map, get_or_from_slice_get}
@@ -10,32 +10,11 @@ use Rattle.mach_ir.specs.Acts.{Target, On, At}
 use Rattle.lin_ir.specs.Meaning.{code_at, after_label, has_label}
 use Rattle.lin_ir.specs.declared.lin.Line.{Line}
 use Rattle.lin_ir.specs.declared.lin.Lin.{Lin}
+use Rattle.bs_words.proofs.Lists.{drop_none}
 use Rattle.lin_laws.specs.Graph.{place_of, place_at, position, AreNumbersOf}
 use Rattle.lin_laws.specs.declared.position.Position.{Position}
 
--- ---- members of lists
-
-pub none_in : {A : Type 0} (y : A) → Contains [] y → ⊥
-none_in y c = let le = c.1 in absurd (omega (arith, le))
-
-pub first_in : {A : Type 0} (y : A) (ys : List A) → Contains (y ∷ ys) y
-first_in y ys = (0, omega arith, refl)
-
-pub later_in : {A : Type 0} (x y : A) (ys : List A) → Contains ys y → Contains (x ∷ ys) y
-later_in x y ys c = let le = c.1 in (suc c.0, omega (arith, le), c.2)
-
-pub in_cons : {A : Type 0} (x y : A) (ys : List A) → Contains (x ∷ ys) y → (x ≡ y) ⊎ Contains ys y
-in_cons x y ys c = by c.0 c.1 c.2
-  where
-    by : (k : ℕ) → k < length (x ∷ ys) → slice_index_or (x ∷ ys) k y ≡ y → (x ≡ y) ⊎ Contains ys y
-    by zero le e = inl e
-    by (suc k) le e = inr (k, omega (arith, le), e)
-
--- what a list has at a place
-pub got : {A : Type 0} (xs : List A) (q : ℕ) → q < length xs → (x : A) × (slice_get xs q ≡ Some x)
-got [] q h = absurd (omega (arith, h))
-got (x ∷ xs) zero h = (x, refl)
-got (x ∷ xs) (suc q) h = got xs q (omega (arith, h))
+-- ---- tables
 
 pub table_at : {A B : Type 0} (h : A → B) (xs : List A) (q : ℕ) (x : A) (d : B) → slice_get xs q ≡ Some x →
     slice_index_or (map h xs) q d ≡ h x
@@ -63,10 +42,6 @@ number_all all ns ys y is c =
     (get_or ns c.0 0, Contains-get_or ns c.0 0 lt, is.each c.0 y le ∙ ap Some c.2)
 
 -- ---- the rest of the code from a place on
-
-pub drop_none : {A : Type 0} (xs : List A) → drop 0 xs ≡ xs
-drop_none [] = refl
-drop_none (x ∷ xs) = refl
 
 pub drop_is : {A : Type 0} (p : ℕ) (xs : List A) (x : A) (ys : List A) → drop p xs ≡ x ∷ ys → (p < length xs) × (drop (suc p) xs ≡ ys)
 drop_is zero [] x ys e = absurd (cc)

@@ -4,12 +4,13 @@ use Rattle.std.proofs.lemmas.Option.{slice_get_within}
 use Rattle.std.specs.List.{Contains}
 use Rattle.std.specs.Prelude.{slice_get}
 use Rattle.bs_words.specs.Contents.{contents}
+use Rattle.bs_words.proofs.Lists.{none_in, got, drop_none}
 use Rattle.dataflow.specs.declared.flow.Place as place
 use Rattle.lin_ir.specs.Meaning.{after_label}
 use Rattle.lin_ir.specs.Walks.{targets, may_raise, tries_after, goes, raises, Reached, at_entry, by_step, by_raise}
 use Rattle.lin_ir.specs.declared.lin.Line.{Line}
 use Rattle.lin_ir.specs.declared.lin.Lin.{Lin}
-use Rattle.lin_laws.proofs.Places.{Ends, none_in, got, number_all, drop_none, place_target, place_is, place_of_target, target_ends, ends_label}
+use Rattle.lin_laws.proofs.Places.{Ends, number_all, place_target, place_is, place_of_target, target_ends, ends_label}
 use Rattle.lin_laws.proofs.Walking.{step_is, in_steps, landing_is, in_landing}
 use Rattle.lin_laws.specs.Graph.{place_of, place_at, position, steps, steps_at, raises_at, raise_steps, AreNodes}
 use Rattle.lin_laws.specs.declared.position.Position.{Position}

@@ -6,7 +6,7 @@ use Rattle.lin_ir.specs.Descriptors.{ComesBefore, register_first, rising, IsDesc
 use Rattle.lin_ir.specs.declared.descr.Descr.{Descr}
 use Rattle.lin_ir.specs.declared.lin.Line.{Line}
 use Rattle.lin_ir.specs.declared.lin.Lin.{Lin}
-use Rattle.lin_laws.proofs.Places.{none_in, first_in, later_in, in_cons}
+use Rattle.bs_words.proofs.Lists.{none_in, first_in, later_in, in_cons}
 
 -- ---- lists in strict order
 

@@ -5,6 +5,7 @@ use Rattle.std.specs.List.{Contains}
 use Rattle.std.specs.Prelude.{slice_get}
 use Rattle.bs_words.specs.Contents.{contents}
 use Rattle.bs_words.specs.declared.types.Comp.TheVariants as comp
+use Rattle.bs_words.proofs.Lists.{none_in, first_in, later_in, in_cons, got}
 use Rattle.dataflow.specs.Flow.{Graph, graph, ReadsIn, LiveBefore}
 use Rattle.dataflow.specs.declared.flow.Flow as flow
 use Rattle.dataflow.specs.declared.flow.Place as place
@@ -14,7 +15,7 @@ use Rattle.lin_ir.specs.Meaning.{after_label}
 use Rattle.lin_ir.specs.Walks.{targets, may_raise, tries_after, goes, raises, Writes, Live, read, on, aside, LiveAcross, across_step, across_raise, LiveAt, Traps}
 use Rattle.lin_ir.specs.declared.lin.Line.{Line}
 use Rattle.lin_ir.specs.declared.lin.Lin.{Lin}
-use Rattle.lin_laws.proofs.Places.{none_in, first_in, later_in, in_cons, got, table_at, number_is, number_all, place_target, place_is, ends_label}
+use Rattle.lin_laws.proofs.Places.{table_at, number_is, number_all, place_target, place_is, ends_label}
 use Rattle.lin_laws.specs.Graph.{loc_of, place_of, place_at, position, steps, steps_at, landing, raises_at, raise_steps, ReadsAt, WritesAt, IsAfter, IsGraphOf}
 use Rattle.lin_laws.specs.declared.position.Position.{Position}
 

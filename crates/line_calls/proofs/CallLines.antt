@@ -41,11 +41,12 @@ use Rattle.linear_machine.specs.Relation.{Below, IsDescribed, Laid, StandsFor, W
 use Rattle.linear_machine.specs.View.{Fixed, IsCode, Leads, View}
 use Rattle.linear_machine.proofs.Arriving.{leads_in}
 use Rattle.linear_machine.proofs.Pure.{Reads, reads_held}
-use Rattle.linear_machine.proofs.Standing.{same_machine, within_past}
+use Rattle.linear_machine.proofs.Standing.{within_past}
 use Rattle.linear_machine.proofs.Steps.{stays, then_leads}
 use Rattle.line_stands.specs.Parts.{PartStands}
 use Rattle.line_stands.proofs.Parts.{counts, last}
 use Rattle.line_values.proofs.Operands.{fetches}
+use Rattle.lin_laws.proofs.Forms.{same_machine}
 use Rattle.line_calls.specs.Calls.{CalledSo, FollowsSo}
 use Rattle.line_calls.specs.Points.{EntriesStand}
 use Rattle.line_calls.proofs.CallWords.{call_leads, call_words_are, named_leads}

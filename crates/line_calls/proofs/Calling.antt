@@ -1,8 +1,7 @@
 -- A call: the callee begins above a function that waits, and the function goes on after it.
-use Rattle.std.proofs.Common.{◌≡◌, ℕ, ◌+◌, ◌<◌, ◌≤◌, Bool, true, false, cond, ◌&&◌, ◌||◌, nat_eq, List, [], ◌∷◌, length, Option, Some, None, slice_get, slice_index, slice_set, refl, ap, ap₂, arith, ◌∙◌, sym, subst}
-use Rattle.std.proofs.lemmas.Bool.{eqb-true}
+use Rattle.std.proofs.Common.{◌≡◌, ℕ, ◌+◌, ◌<◌, ◌≤◌, Bool, true, false, cond, ◌&&◌, ◌||◌, List, [], ◌∷◌, length, Option, Some, None, slice_get, slice_index, slice_set, refl, ap, ap₂, arith, ◌∙◌, sym, subst}
 use Rattle.bs_words.specs.Fits.{data_start, fits, type_of_comp}
-use Rattle.bs_words.specs.Memory.{Cell, Memory}
+use Rattle.bs_words.specs.Memory.{Memory}
 use Rattle.bs_words.specs.declared.types.Loc.{Loc}
 use Rattle.bs_words.specs.declared.types.Loc.TheVariants as loc
 use Rattle.bs_words.specs.declared.types.Ret.TheVariants as ret
@@ -30,7 +29,7 @@ use Rattle.linear_machine.specs.Follows.{Agrees, IsAfter, IsAt, IsDone, IsEntere
 use Rattle.linear_machine.specs.Relation.{AreCarried, Below, IsDescribed, Laid, Within, all_of, pushed}
 use Rattle.linear_machine.specs.View.{Fixed, View}
 use Rattle.linear_machine.proofs.Calls.{IsCaller, IsFresh, catches, catches_place, comes_back, enters, passes_on}
-use Rattle.linear_machine.proofs.Frames.{poisoned_some}
+use Rattle.linear_machine.proofs.Frames.{poisoned_some, none_left}
 use Rattle.line_calls.proofs.Handlers.{cleared_alone}
 
 -- ---- what the machine holds of a file, at a frame point
@@ -51,21 +50,17 @@ vals_held end before held file (l ∷ ls) agrees e = by_test (same_loc l spare) 
         let other : l ≡ spare → ⊥ = λ q. absurd (let g : same_loc spare spare ≡ false = subst (λ z. same_loc z spare ≡ false) q f in cc) in
         ap₂ (λ x y. is_val end x && y) (agrees.others l other) (later e)
 
-no_cells : (cells : List Cell) → nat_eq (length cells) 0 ≡ true → cells ≡ []
-no_cells [] e = refl
-no_cells (x ∷ xs) e = let n = eqb-true (length (x ∷ xs)) 0 e in absurd (omega (arith, n))
-
 -- a memory in which every block is whole, with no raise on its way
 pub around_whole : (a : Around) (memory : Memory) → is_complete a ≡ true → a.raised ≡ None →
     record { memory = memory; unwritten = []; tries = a.tries; raised = None } ≡ record a { memory = memory }
 around_whole a memory whole none =
-    ap (λ u. record { memory = memory; unwritten = u; tries = a.tries; raised = None }) (sym (no_cells a.unwritten whole))
+    ap (λ u. record { memory = memory; unwritten = u; tries = a.tries; raised = None }) (sym (none_left a.unwritten whole))
     ∙ ap (λ o. record { memory = memory; unwritten = a.unwritten; tries = a.tries; raised = o }) (sym none)
 
 pub around_raised : (a : Around) (memory : Memory) (rest : List ℕ) (x : Value) → is_complete a ≡ true →
     record { memory = memory; unwritten = []; tries = rest; raised = Some x } ≡ record a { memory = memory; tries = rest; raised = Some x }
 around_raised a memory rest x whole =
-    ap (λ u. record { memory = memory; unwritten = u; tries = rest; raised = Some x }) (sym (no_cells a.unwritten whole))
+    ap (λ u. record { memory = memory; unwritten = u; tries = rest; raised = Some x }) (sym (none_left a.unwritten whole))
 
 module _ (s : Fixed) (laid : Laid) (live : List Line → Type 0) (entry : ℕ → ℕ) (c : Below) (place : Place) (named : NamedAt) (m : Lin) (next : List Line)
     (v : View) (young : List Placed) (held file : Locations) (a : Around) (before : Type 0) (agrees : Agrees before held file) (k : ℕ)

@@ -52,10 +52,11 @@ use Rattle.linear_machine.proofs.Moving.{hart_of, within_like}
 use Rattle.linear_machine.proofs.Operating.{dropped}
 use Rattle.linear_machine.proofs.Sequences.{sets_as}
 use Rattle.linear_machine.proofs.Serving.{hart_is, with_memory}
-use Rattle.linear_machine.proofs.Standing.{IsFree, same_machine, within_changed, within_less}
+use Rattle.linear_machine.proofs.Standing.{IsFree, within_changed, within_less}
 use Rattle.line_stands.specs.Names.{IsRowAt}
 use Rattle.line_stands.specs.Parts.{PartStands}
 use Rattle.line_stands.proofs.Parts.{begins, splits}
+use Rattle.lin_laws.proofs.Forms.{same_machine}
 use Rattle.line_calls.specs.Calls.{FollowsSo, IsInTable}
 use Rattle.line_calls.specs.Reaches.{Reaches}
 use Rattle.line_calls.proofs.AllocLines.{dropped_less, dropped_others, no_t0}

@@ -28,6 +28,7 @@ use Rattle.rv_machine.specs.Services.{HeapOut, Machine, Going, Over, after_colle
 use Rattle.rv_machine.specs.Sound.{AllWords}
 use Rattle.machine_laws.proofs.Memory.{word_below}
 use Rattle.machine_laws.proofs.Words.{other_register, with_registers}
+use Rattle.machine_laws.proofs.Serving.{filled_are}
 use Rattle.moving_laws.proofs.Words.{same_or_not}
 use Rattle.linear_machine.specs.Arrival.{Gone, Needs}
 use Rattle.linear_machine.specs.Outside.{GoesOn, Taken, given, taken_moving}
@@ -40,7 +41,7 @@ use Rattle.linear_machine.proofs.Moving.{left, left_is, within_after}
 use Rattle.linear_machine.proofs.Serving.{collection, collection_not, hart_is, with_memory, within_there}
 use Rattle.linear_machine.proofs.Steps.{one_step, other_number, ready, ready_stands}
 use Rattle.linear_machine.proofs.Storing.{bytes_need}
-use Rattle.line_calls.proofs.Outside.{behind, behind_are, behind_others, behind_result, filled_are, within_behind}
+use Rattle.line_calls.proofs.Outside.{behind, behind_are, behind_others, behind_result, within_behind}
 use Rattle.line_calls.proofs.Traps.{IsTrap, is_trap}
 
 answer_is : (r : Ret) (x : ℕ) (registers : List ℕ) → with_answer r x (filled destroyed registers) ≡ behind r x registers

@@ -40,11 +40,11 @@ use Rattle.linear_machine.proofs.Following.{result_follows, same_loc-true}
 use Rattle.linear_machine.proofs.Frames.{heap_around}
 use Rattle.linear_machine.proofs.Jumps.{raise_differs, raise_high, raise_leads, raise_place, raise_points, raise_value, raised_at}
 use Rattle.linear_machine.proofs.Parts.{comes_here}
-use Rattle.linear_machine.proofs.Standing.{same_machine}
 use Rattle.linear_machine.proofs.Trapping.{handler_is, popped, popped_registers, pushes, throws}
 use Rattle.linear_machine.proofs.Turning.{placed_past}
 use Rattle.line_stands.specs.Parts.{PartStands}
 use Rattle.line_stands.proofs.Parts.{nothing_more}
+use Rattle.lin_laws.proofs.Forms.{same_machine}
 use Rattle.line_calls.specs.Leading.{Leaves}
 use Rattle.line_calls.specs.Laws.{frame_in}
 use Rattle.line_calls.proofs.Leaving.{return_leaves}

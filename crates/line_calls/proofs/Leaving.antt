@@ -24,7 +24,7 @@ use Rattle.linear_machine.specs.Moments.{AtReturn}
 use Rattle.linear_machine.specs.Relation.{Below, Laid, ReturnStands, Within}
 use Rattle.linear_machine.specs.View.{Fixed, View, IsCode, Leads}
 use Rattle.linear_machine.proofs.Formats.{sets_jalr}
-use Rattle.linear_machine.proofs.Immediates.{low_12, up}
+use Rattle.machine_laws.proofs.Immediates.{low_12, up}
 use Rattle.linear_machine.proofs.Jumps.{back_place}
 use Rattle.linear_machine.proofs.Slots.{IsStackWord}
 use Rattle.linear_machine.proofs.Steps.{at_place, reg, set_to_step, then_leads}

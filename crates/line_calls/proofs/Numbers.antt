@@ -15,7 +15,7 @@ use Rattle.rv_machine.specs.Sound.{AreRegisters}
 use Rattle.linear_machine.specs.View.{Fixed, View, IsCode}
 use Rattle.linear_machine.proofs.Formats.{sets_imm, sets_op}
 use Rattle.linear_machine.proofs.Jumps.{add_near, less_near}
-use Rattle.linear_machine.proofs.Immediates.{up}
+use Rattle.machine_laws.proofs.Immediates.{up}
 use Rattle.linear_machine.proofs.Sequences.{sets_as}
 use Rattle.linear_machine.proofs.Steps.{Passes, SetsRegister}
 use Rattle.layout_rules.specs.Forms.{total_words}

@@ -21,6 +21,7 @@ use Rattle.rv_machine.specs.Hart as next
 use Rattle.rv_machine.specs.Services.{Machine, Going, answered, call_made, called, destroyed, external, filled, served}
 use Rattle.rv_machine.specs.Sound.{AllWords, AreRegisters}
 use Rattle.machine_laws.proofs.Words.{other_register, with_registers}
+use Rattle.machine_laws.proofs.Serving.{filled_are}
 use Rattle.moving_laws.specs.Stands.{Among}
 use Rattle.linear_machine.specs.Files.{HoldsLess}
 use Rattle.linear_machine.specs.Outside.{GoesOn, Taken, given, taken_alone}
@@ -31,10 +32,6 @@ use Rattle.linear_machine.proofs.Likes.{known_either}
 use Rattle.linear_machine.proofs.Steps.{one_step, other_number, ready, ready_stands}
 
 -- ---- what it destroys
-
-pub filled_are : (rs xs : List ℕ) → AreRegisters xs → AreRegisters (filled rs xs)
-filled_are [] xs are = are
-filled_are (r ∷ rs) xs are = filled_are rs (with_register r 0x5A5A5A5A5A5A5A5A xs) (with_registers xs r 0x5A5A5A5A5A5A5A5A are (omega arith))
 
 pub filled_others : (rs xs : List ℕ) (q : ℕ) → (Among q rs → ⊥) → slice_index (filled rs xs) q ≡ slice_index xs q
 filled_others [] xs q none = refl

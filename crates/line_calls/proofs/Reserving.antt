@@ -55,7 +55,7 @@ use Rattle.linear_machine.proofs.Storing.{bytes_need}
 use Rattle.line_stands.specs.Parts.{PartStands}
 use Rattle.line_stands.proofs.Parts.{known, nothing_more, splits}
 use Rattle.line_calls.specs.Reaches.{Reaches}
-use Rattle.linear_machine.proofs.Immediates.{up}
+use Rattle.machine_laws.proofs.Immediates.{up}
 use Rattle.line_calls.proofs.Tailing.{place_near}
 use Rattle.line_calls.proofs.Numbers.{constant_reaches, lowers}
 use Rattle.line_calls.proofs.Reaching.{arrived, arrives_as, reaches_as, reaches_more, reaches_set, single}

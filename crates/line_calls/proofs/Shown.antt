@@ -134,7 +134,7 @@ module _ (s : Fixed) (laid : Laid) (u : View) (young : List Placed) (held : Loca
       ∙ ap (map (shown s.image)) (sym w.are)
 
 -- a value that is known points to a function that is there
-in_table : (image : Tables) (count : ℕ) (x : Value) → IsKnown image count x → IsInTable image x
+pub in_table : (image : Tables) (count : ℕ) (x : Value) → IsKnown image count x → IsInTable image x
 in_table image count (Word w) known = tt
 in_table image count (Block k o) known = tt
 in_table image count (Function f) known = known

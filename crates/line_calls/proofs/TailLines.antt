@@ -31,8 +31,8 @@ use Rattle.linear_machine.specs.Relation.{Below, Laid, StandsFor, Within}
 use Rattle.linear_machine.specs.View.{Fixed, View}
 use Rattle.linear_machine.proofs.Arriving.{leads_in}
 use Rattle.linear_machine.proofs.Pure.{Reads, reads_held}
-use Rattle.linear_machine.proofs.Standing.{same_machine}
 use Rattle.line_stands.specs.Parts.{PartStands}
+use Rattle.lin_laws.proofs.Forms.{same_machine}
 use Rattle.line_calls.specs.Leading.{Leaves}
 use Rattle.line_calls.specs.Points.{EntriesStand}
 use Rattle.line_calls.proofs.Callees.{registered_replaces}

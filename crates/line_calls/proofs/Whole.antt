@@ -10,7 +10,7 @@ use Rattle.emit_rules.specs.Emitted.{part_of}
 use Rattle.emit_rules.specs.Entry.{Frame}
 use Rattle.layout_rules.specs.Laid.{address_of_place, desc_at}
 use Rattle.layout_rules.specs.Words.{Named}
-use Rattle.lin_ir.specs.Formed.{IsFormed, IsLocation, IsQuiet, comps, formed_flow, formed_op, FlowHasForm, enter_form, pop_form, push_form, pushes}
+use Rattle.lin_ir.specs.Formed.{IsFormed, IsLocation, IsQuiet, comps, formed_flow, formed_op, FlowHasForm, pushes}
 use Rattle.lin_ir.specs.Meaning.{Locations, NamedAt, after_label, step, values}
 use Rattle.lin_ir.specs.Walks.{may_raise, targets}
 use Rattle.lin_ir.specs.declared.descr.Descr.{Descr}
@@ -45,6 +45,7 @@ use Rattle.linear_machine.specs.View.{Fixed, View}
 use Rattle.line_stands.specs.Lines.{LineStands}
 use Rattle.line_stands.specs.Parts.{PartStands}
 use Rattle.line_stands.proofs.Parts.{mark_none, nothing_more, splits}
+use Rattle.lin_laws.proofs.Forms.{push_inv, pop_inv, enter_inv, length_comps}
 use Rattle.line_calls.specs.Calls.{FollowsSo}
 use Rattle.line_calls.specs.Points.{AreMarked, IsReadyFor, IsTurn, PointStands, before_service}
 use Rattle.line_calls.proofs.AllocLines.{alloc_line}
@@ -58,14 +59,6 @@ use Rattle.line_calls.proofs.Seats.{first_seated}
 use Rattle.line_calls.proofs.TailLines.{tail_named, tail_registered}
 
 -- ---- forms
-
-no_spots : (ps : List Spot) → comps ps ≡ [] → ps ≡ []
-no_spots [] e = refl
-no_spots (p ∷ ps) e = absurd (cc)
-
-length_comps : (ps : List Spot) → length (comps ps) ≡ length ps
-length_comps [] = refl
-length_comps (p ∷ ps) = ap suc (length_comps ps)
 
 call_results : (whom : Callee) (result : Ret) (cs ds : List Comp) → HasForm (op.Calling (calling.Call whom result)) cs ds → ds ≡ results_of result
 call_results whom result cs ds (calls arguments is) = refl
@@ -107,15 +100,6 @@ pub record IsAllocation (blocks : List NewBlock) (cs ds : List Comp) : Type 0 wh
 
 alloc_form : (blocks : List NewBlock) (cs ds : List Comp) → HasForm (op.Access (access.Alloc blocks)) cs ds → IsAllocation blocks cs ds
 alloc_form blocks cs ds (allocates some all most as_many) = record { some = some; all = all; most = most; as_many = as_many; none = refl }
-
-push_flow : (l : ℕ) (cs ds : List Comp) → FlowHasForm (flow.PushTrap l) cs ds → (cs ≡ []) × (ds ≡ [])
-push_flow l cs ds push_form = (refl, refl)
-
-pop_flow : (cs ds : List Comp) → FlowHasForm flow.PopTrap cs ds → (cs ≡ []) × (ds ≡ [])
-pop_flow cs ds pop_form = (refl, refl)
-
-enter_flow : (cs ds : List Comp) → FlowHasForm flow.EnterTrap cs ds → (cs ≡ []) × ((t : Comp) × (ds ≡ t ∷ []))
-enter_flow cs ds enter_form = (refl, (_, refl))
 
 -- ---- lines
 
@@ -330,8 +314,8 @@ module _ (s : Fixed) (n : Named) (laid : Laid) (live : List Line → Type 0) (en
   push_follows : (l : ℕ) (args results : List Spot) → FlowHasForm (flow.PushTrap l) (comps args) (comps results) →
       Given (record { op = lin.Flow (flow.PushTrap l); args = args; results = results }) →
       Followed (record { op = lin.Flow (flow.PushTrap l); args = args; results = results })
-  push_follows l (p ∷ args) results form g = absurd (let q = (push_flow l (comps (p ∷ args)) (comps results) form).0 in cc)
-  push_follows l [] (r ∷ results) form g = absurd (let q = (push_flow l [] (comps (r ∷ results)) form).1 in cc)
+  push_follows l (p ∷ args) results form g = absurd (let q = (push_inv l (comps (p ∷ args)) (comps results) form).0 in cc)
+  push_follows l [] (r ∷ results) form g = absurd (let q = (push_inv l [] (comps (r ∷ results)) form).1 in cc)
   push_follows l [] [] form g =
       let i : Line = record { op = lin.Flow (flow.PushTrap l); args = []; results = [] } in
       let among = g.lines.named l (pushes refl) in
@@ -359,15 +343,15 @@ module _ (s : Fixed) (n : Named) (laid : Laid) (live : List Line → Type 0) (en
   pop_follows : (args results : List Spot) → FlowHasForm flow.PopTrap (comps args) (comps results) →
       Given (record { op = lin.Flow flow.PopTrap; args = args; results = results }) →
       Followed (record { op = lin.Flow flow.PopTrap; args = args; results = results })
-  pop_follows (p ∷ args) results form g = absurd (let q = (pop_flow (comps (p ∷ args)) (comps results) form).0 in cc)
-  pop_follows [] (r ∷ results) form g = absurd (let q = (pop_flow [] (comps (r ∷ results)) form).1 in cc)
+  pop_follows (p ∷ args) results form g = absurd (let q = (pop_inv (comps (p ∷ args)) (comps results) form).0 in cc)
+  pop_follows [] (r ∷ results) form g = absurd (let q = (pop_inv [] (comps (r ∷ results)) form).1 in cc)
   pop_follows [] [] form g = pop_by a.tries refl g
 
   enter_follows : (args results : List Spot) → FlowHasForm flow.EnterTrap (comps args) (comps results) →
       Given (record { op = lin.Flow flow.EnterTrap; args = args; results = results }) →
       Followed (record { op = lin.Flow flow.EnterTrap; args = args; results = results })
-  enter_follows (p ∷ args) results form g = absurd (let q = (enter_flow (comps (p ∷ args)) (comps results) form).0 in cc)
-  enter_follows [] [] form g = absurd (let q = (enter_flow [] [] form).1.1 in cc)
+  enter_follows (p ∷ args) results form g = absurd (let q = (enter_inv (comps (p ∷ args)) (comps results) form).0 in cc)
+  enter_follows [] [] form g = absurd (let q = (enter_inv [] [] form).1.1 in cc)
   enter_follows [] (p ∷ []) form g =
       let i : Line = record { op = lin.Flow flow.EnterTrap; args = []; results = p ∷ [] } in
       so_without k s laid live entry c v _ _ (act_no place m i next file a (if_known (record a { raised = None }) a.raised)

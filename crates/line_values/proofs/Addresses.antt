@@ -26,7 +26,7 @@ use Rattle.linear_machine.specs.Relation as relation
 use Rattle.linear_machine.specs.Straight.{Changes}
 use Rattle.linear_machine.specs.View.{Fixed, View, IsCode}
 use Rattle.linear_machine.proofs.Formats.{sets_op}
-use Rattle.linear_machine.proofs.Immediates.{low_12, up}
+use Rattle.machine_laws.proofs.Immediates.{low_12, up}
 use Rattle.linear_machine.proofs.Loading.{moved_word}
 use Rattle.linear_machine.proofs.Rows.{immediate_is}
 use Rattle.linear_machine.proofs.Sequences.{no_change, set_then, sets_as, widened}

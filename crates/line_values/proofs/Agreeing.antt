@@ -17,7 +17,8 @@ use Rattle.moving_laws.proofs.Rewriting.{start_inside}
 use Rattle.linear_machine.specs.Relation.{StandsFor}
 use Rattle.linear_machine.specs.View.{Fixed}
 use Rattle.linear_machine.proofs.Storing.{blocks_apart}
-use Rattle.line_values.proofs.Compared.{Near, address_less, block_end, eqb_as, function_even, function_low, functions_apart, inside_block, int_le_is, le_is, near_block, near_by, near_less, near_small}
+use Rattle.linear_machine.proofs.Loading.{words_end}
+use Rattle.line_values.proofs.Compared.{Near, address_less, eqb_as, function_even, function_low, functions_apart, inside_block, int_le_is, le_is, near_block, near_by, near_less, near_small}
 
 ok_same : {X : Type 0} {x z : X} → ◌≡◌ {A = Result X Kind} (Ok x) (Ok z) → x ≡ z
 ok_same e = cc
@@ -44,7 +45,7 @@ module _ (s : Fixed) (placed : List Placed) (blocks : AreBlocks placed) (sizes :
   in_there k o w st h =
       let i = st.known.0 in
       let near = start_inside placed k blocks.inside i in
-      let ends = block_end placed k blocks.inside i in
+      let ends = words_end placed k blocks.inside i in
       let z = sized k i in
       let l = ltb-true o (8 * slice_index sizes k) h in
       let inside : o < 8 * words_of placed k = omega (arith, l, z) in
@@ -57,7 +58,7 @@ module _ (s : Fixed) (placed : List Placed) (blocks : AreBlocks placed) (sizes :
       let i = st.known.0 in
       let near = start_inside placed k blocks.inside i in
       let z = sized k i in
-      near_block (start_of placed k) (words_of placed k) o w near.1 (block_end placed k blocks.inside i) st.known.1
+      near_block (start_of placed k) (words_of placed k) o w near.1 (words_end placed k blocks.inside i) st.known.1
       (⊎_elim (λ l. inl (omega (arith, l, z))) (λ l. inr l) (near_by o (slice_index sizes k) h)) st.is
 
   code_there : (f w : ℕ) → StandsFor s placed w (Function f) → (0x10000 ≤ w) × (w < 0x10000000) × (w % 2 ≡ 0)

@@ -1,5 +1,5 @@
 -- Accesses of a few bytes are accesses of parts of words.
-use Rattle.std.proofs.Common.{◌≡◌, ◌≢◌, ℕ, suc, ◌+◌, ◌*◌, ◌%◌, ◌^◌, ◌<◌, ◌≤◌, inl, inr, Bool, true, false, ◌==◌, List, ◌∷◌, length, map, Some, refl, ap, ap₂, arith, ◌∙◌, sym}
+use Rattle.std.proofs.Common.{◌≡◌, ◌≢◌, ℕ, suc, ◌+◌, ◌*◌, ◌%◌, ◌^◌, ◌<◌, ◌≤◌, inl, inr, false, ◌==◌, List, ◌∷◌, length, map, Some, refl, ap, ap₂, arith, ◌∙◌}
 use Rattle.std.specs.List.{list_any}
 use Rattle.std.proofs.lemmas.Bool.{and_right, cond-false, cond-true, eq-eqb, lt-leb}
 use Rattle.bs_words.specs.Word.{add_word}
@@ -20,12 +20,6 @@ use Rattle.linear_machine.specs.View.{Fixed, View, Stands, Leads, IsCode}
 use Rattle.linear_machine.proofs.Likes.{known_same, like_hold}
 use Rattle.linear_machine.proofs.Statics.{all_share, readable_shares}
 use Rattle.linear_machine.proofs.Steps.{SetsRegister, one_step, ready, ready_stands, reg, register_reg, unserved_step, with_hart}
-
-pub bool_same : (p q : Bool) → (p ≡ true → q ≡ true) → (q ≡ true → p ≡ true) → p ≡ q
-bool_same true true f g = refl
-bool_same true false f g = sym (f refl)
-bool_same false true f g = g refl
-bool_same false false f g = refl
 
 pub width_some : (w : ℕ) → IsWidth w → 1 ≤ w
 width_some w (inl e) = omega (arith, e)

@@ -16,11 +16,10 @@ use Rattle.moving_laws.proofs.Rewriting.{start_inside}
 use Rattle.linear_machine.specs.Contents.{size_in}
 use Rattle.linear_machine.specs.Relation.{HeapStands, StandsFor}
 use Rattle.linear_machine.specs.View.{Fixed}
-use Rattle.linear_machine.proofs.Loading.{block_there, cell_there}
+use Rattle.linear_machine.proofs.Loading.{block_there, cell_there, words_end}
 use Rattle.linear_machine.proofs.Statics.{data_held, first_in, held_readable, listed_below, readable_held, static_at}
 use Rattle.std.proofs.lemmas.Option.{slice_get_within}
 use Rattle.line_values.proofs.Bytes.{width_some}
-use Rattle.line_values.proofs.Compared.{block_end}
 use Rattle.line_values.proofs.Statics.{is_in}
 use Rattle.moving_laws.specs.Words.{IsReadable, held_word}
 use Rattle.moving_laws.proofs.Held.{IsDataOrAbove, IsHeld}
@@ -119,7 +118,7 @@ module _ (s : Fixed) (placed : List Placed) (m : List Region) (regions : HasRegi
           let size : words_of placed k ≡ n = h.stand.sizes k i ∙ ap size_in b.1 ∙ b.2 in
           by_index ((o + 8) % 2 ^ 64 / 8) (some_is p.1)
           (place_by (start_of placed k) o n (words_of placed k) ((o + 8) % 2 ^ 64) ((o + 8) % 2 ^ 64 / 8) near.1 near.0
-          (block_end placed k h.old.inside i) size refl
+          (words_end placed k h.old.inside i) size refl
           room even refl)
           b.0 b.1 b.2 i near.1 size
         where
@@ -156,7 +155,7 @@ module _ (s : Fixed) (placed : List Placed) (m : List Region) (regions : HasRegi
       let near = start_inside placed k h.old.inside l in
       record {
         high = omega (arith, e, near);
-        below = (let top = block_end placed k h.old.inside l in omega (arith, e, top, inside'));
+        below = (let top = words_end placed k h.old.inside l in omega (arith, e, top, inside'));
         readable = h.readable.each k at l even (omega (arith, e)) (omega (arith, e, inside'));
       }
   high_of at cell even (static_cell {l} {j} f) none = absurd (none l j refl)

@@ -54,7 +54,7 @@ use Rattle.rv_isa.specs.declared.instr.LoadWidth.TheVariants.{Ld}
 use Rattle.rv_machine.specs.Memory.{code_start, word, Region}
 use Rattle.linear_machine.proofs.Arriving.{leads_in}
 use Rattle.linear_machine.proofs.Formats.{goes_branch_on, goes_branch_taken, sets_lui}
-use Rattle.linear_machine.proofs.Immediates.{by_20}
+use Rattle.machine_laws.proofs.Immediates.{by_20}
 use Rattle.linear_machine.proofs.Sequences.{set_changes}
 use Rattle.linear_machine.specs.Moments.{AtThrow}
 use Rattle.linear_machine.proofs.Jumps.{raise_differs, raise_high, raise_leads, raise_place, raise_points, raise_value, raised_at}
@@ -172,7 +172,7 @@ module _ (s : Fixed) (n : Named) (laid : Laid) (v : View) (young : List Placed) 
 
 -- ---- the test
 
-word_of : (v : Value) (j : ℕ) → word_in v ≡ Ok j → v ≡ Word j
+pub word_of : (v : Value) (j : ℕ) → word_in v ≡ Ok j → v ≡ Word j
 word_of (Word w) j e = let same : w ≡ j = ok_is e in ap Word same
   where
     ok_is : {X : Type 0} {x y : X} → ◌≡◌ {A = Result X Kind} (Ok x) (Ok y) → x ≡ y

@@ -11,11 +11,9 @@ use Rattle.image_form.specs.Image.{EachNext, IsBehind, IsFunc}
 use Rattle.image_form.specs.Tables.{Func}
 use Rattle.rv_isa.specs.declared.instr.AluOp.TheVariants.{Slt, Sltu}
 use Rattle.rv_machine.specs.Arithmetic.{alu, bit_of, imm_i, is_less}
-use Rattle.rv_machine.specs.Hart.{Placed}
-use Rattle.moving_laws.specs.Heap.{IsInHeap}
-use Rattle.moving_laws.specs.Values.{function_at, start_of, words_of}
+use Rattle.moving_laws.specs.Values.{function_at}
 use Rattle.moving_laws.proofs.Words.{same_or_not}
-use Rattle.linear_machine.proofs.Immediates.{low_12}
+use Rattle.machine_laws.proofs.Immediates.{low_12}
 
 -- ---- tests
 
@@ -144,11 +142,6 @@ functions_apart (h ∷ hs) (suc f) zero next l k e = let b = function_behind h h
 functions_apart (h ∷ hs) (suc f) (suc g) next l k e = ap suc (functions_apart hs f g next.1 (omega (arith, l)) (omega (arith, k)) e)
 
 -- ---- where blocks lie
-
-pub block_end : (bs : List Placed) (k : ℕ) → AllByRecursion IsInHeap bs → k < length bs → start_of bs k + 8 * words_of bs k ≤ 0x38010000
-block_end [] k all l = absurd (omega (arith, l))
-block_end (b ∷ bs) zero all l = all.0.high
-block_end (b ∷ bs) (suc k) all l = block_end bs k all.1 (omega (arith, l))
 
 -- a byte of a block
 pub inside_block : (start size o w : ℕ) → 0x30000008 ≤ start → start + 8 * size ≤ 0x38010000 → o < 8 * size → w ≡ add_word start o → w ≡ start + o

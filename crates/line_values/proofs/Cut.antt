@@ -25,9 +25,8 @@ use Rattle.bs_words.specs.declared.types.Comp.{Comp}
 use Rattle.bs_words.specs.declared.types.Comp.TheVariants as comp
 use Rattle.bs_words.specs.declared.types.Loc.TheVariants as loc
 use Rattle.bs_words.specs.declared.types.Ret.TheVariants as ret
+use Rattle.bs_words.proofs.Lists.{none_in}
 use Rattle.emit_rules.specs.Emitted.{part_of}
-use Rattle.emit_rules.specs.Entry.{Frame}
-use Rattle.layout_rules.specs.Words.{Named}
 use Rattle.layout_rules.specs.declared.form.Form.TheVariants.{Near}
 use Rattle.lin_ir.specs.Formed.{IsLocation, NamesLabel, formed_op, goes_to, is_colour, is_home, pushes, spare}
 use Rattle.lin_ir.specs.Meaning.{Locations, NamedAt, step}
@@ -54,6 +53,7 @@ use Rattle.line_stands.specs.Parts.{PartStands}
 use Rattle.line_values.specs.Followed.{plain_store}
 use Rattle.line_values.proofs.Following.{plain_followed}
 use Rattle.line_values.proofs.Statics.{first_at, is_in}
+use Rattle.line_values.proofs.Example.{no_names, no_frame}
 
 abbrev whole : StaticList
 whole = record { start = 0x10000000; size = 8; cells = Word 0 ∷ [] }
@@ -164,15 +164,6 @@ puts = record { op = lin.Op (op.Access (access.Store chunk.U8 0)); args = to ∷
 abbrev one : Lin
 one = record { name = []; params = []; result = ret.Unit; slots = 0; code = puts ∷ [] }
 
-abbrev no_names : Named
-no_names = record { label = λ l. 0; symbol = λ name. 0; external = λ row. 0 }
-
-abbrev no_frame : Frame
-no_frame = record { bytes = 0; saves = false }
-
-nothing : {X : Type 0} {x : X} → Contains [] x → ⊥
-nothing (k, l, e) = omega (arith, l)
-
 module _ (s : Fixed) (at : ℕ) (only : IsCode s at (Store Sb 11 10 0)) where
   abbrev laid : Laid
   laid = record { part = λ n. at + (1 - n); frame = 0; saves = false; slots = 0; handler = λ l. 0; even = refl; room = omega arith }
@@ -197,8 +188,8 @@ module _ (s : Fixed) (at : ℕ) (only : IsCode s at (Store Sb 11 10 0)) where
   line_stands = record {
     part = part;
     names = record {
-      label = λ l i. absurd (nothing i);
-      within = λ l i. absurd (nothing i);
+      label = λ l i. absurd (none_in _ i);
+      within = λ l i. absurd (none_in _ i);
       handler = λ l. refl;
       symbol = λ name v e. absurd (cc);
       external = λ row e. absurd (no_external row e.line e.among e.frame e.is);
@@ -216,7 +207,7 @@ module _ (s : Fixed) (at : ℕ) (only : IsCode s at (Store Sb 11 10 0)) where
     operand_seats = anywhere;
     result_seats = anywhere;
     named = λ l i. absurd (no_label l i);
-    handlers = λ l i. absurd (nothing i);
+    handlers = λ l i. absurd (none_in _ i);
     spare = record { reads = λ t i. no_spare t i; on = λ t i l. absurd l; aside = λ e l i d. d };
   }
     where

@@ -6,6 +6,7 @@ use Rattle.bs_words.specs.Memory.{Memory}
 use Rattle.bs_words.specs.declared.types.Comp.TheVariants as comp
 use Rattle.bs_words.specs.declared.types.Loc.TheVariants as loc
 use Rattle.bs_words.specs.declared.types.Ret.TheVariants as ret
+use Rattle.bs_words.proofs.Lists.{none_in}
 use Rattle.emit_rules.specs.Constants.{constant}
 use Rattle.emit_rules.specs.Emitted.{part_of}
 use Rattle.emit_rules.specs.Entry.{Frame}
@@ -47,18 +48,15 @@ abbrev one : Lin
 one = record { name = []; params = []; result = ret.Unit; slots = 0; code = makes ∷ [] }
 
 -- nothing is named
-abbrev no_names : Named
+abbrev pub no_names : Named
 no_names = record { label = λ l. 0; symbol = λ name. 0; external = λ row. 0 }
 
-abbrev no_frame : Frame
+abbrev pub no_frame : Frame
 no_frame = record { bytes = 0; saves = false }
 
 -- t0 is not read
 abbrev dead : List Line → Type 0
 dead rest = ⊥
-
-nothing : {X : Type 0} {x : X} → Contains [] x → ⊥
-nothing (k, l, e) = omega (arith, l)
 
 module _ (s : Fixed) (at : ℕ) (first : IsCode s at (OpImm Addi 10 0 42)) where
   abbrev laid : Laid
@@ -88,8 +86,8 @@ module _ (s : Fixed) (at : ℕ) (first : IsCode s at (OpImm Addi 10 0 42)) where
   stands = record {
     part = part;
     names = record {
-      label = λ l i. absurd (nothing i);
-      within = λ l i. absurd (nothing i);
+      label = λ l i. absurd (none_in _ i);
+      within = λ l i. absurd (none_in _ i);
       handler = λ l. refl;
       symbol = λ name v e. absurd (cc);
       external = λ row e. absurd (no_external row e.line e.among e.frame e.is);
@@ -106,8 +104,8 @@ module _ (s : Fixed) (at : ℕ) (first : IsCode s at (OpImm Addi 10 0 42)) where
     operand_seats = anywhere;
     result_seats = anywhere;
     named = λ l i. absurd (no_label l i);
-    handlers = λ l i. absurd (nothing i);
-    spare = record { reads = λ t i. absurd (nothing i); on = λ t i l. absurd l; aside = λ e l i d. d };
+    handlers = λ l i. absurd (none_in _ i);
+    spare = record { reads = λ t i. absurd (none_in _ i); on = λ t i l. absurd l; aside = λ e l i d. d };
   }
     where
       no_external : (row : External) (line : Line) → Contains (makes ∷ []) line → (frame : _) →

@@ -10,7 +10,7 @@ use Rattle.emit_rules.specs.Units.{is_branch}
 use Rattle.emit_rules.proofs.Units.{if_branch}
 use Rattle.layout_rules.specs.Forms.{total_words}
 use Rattle.layout_rules.specs.Words.{Named}
-use Rattle.lin_ir.specs.Formed.{FlowHasForm, label_form, jump_form, exit_form, branch_form, switch_form, IsFormed, formed_op, formed_flow, IsLocation, goes_to, comps, spare}
+use Rattle.lin_ir.specs.Formed.{FlowHasForm, IsFormed, formed_op, formed_flow, IsLocation, goes_to, comps, spare}
 use Rattle.lin_ir.specs.Meaning.{Locations, NamedAt, State, after_label, code_at, step}
 use Rattle.lin_ir.specs.Walks.{may_raise, targets}
 use Rattle.lin_ir.specs.declared.descr.Descr.{Descr}
@@ -22,7 +22,7 @@ use Rattle.lin_ir.specs.declared.lin.LinOp.{LinOp}
 use Rattle.lin_ir.specs.declared.lin.LinOp.TheVariants as lin
 use Rattle.lin_ir.specs.declared.lin.Spot.{Spot}
 use Rattle.mach_ir.specs.Acts.{Around, At, On}
-use Rattle.mach_ir.specs.Forms.{IsTested, HasForm, checks, copies, constant, symbol, operates, loads, stores, a_register, a_constant, is_immediate, is_immediate_12}
+use Rattle.mach_ir.specs.Forms.{IsTested, HasForm, checks, constant, operates, a_register, a_constant, is_immediate, is_immediate_12}
 use Rattle.mach_ir.specs.Runs.{Place, Step, Continues, Pays, Deepens, Waits, FinishesBy, Finishes, FinishesRaising, IsStuck}
 use Rattle.mach_ir.specs.Walks.{OneOf, this, other}
 use Rattle.mach_ir.specs.declared.op.Access.TheVariants as access
@@ -33,6 +33,7 @@ use Rattle.mach_ir.specs.declared.op.Pure.{Pure}
 use Rattle.mach_ir.specs.declared.op.Pure.TheVariants as pure
 use Rattle.bs_words.specs.declared.operators.IntOp.{IntOp}
 use Rattle.bs_words.specs.declared.operators.IntOp.TheVariants as operator
+use Rattle.bs_words.proofs.Lists.{first_in, none_in}
 use Rattle.mach_ir.specs.declared.op.Right.{Right}
 use Rattle.mach_ir.specs.declared.op.Right.TheVariants as right
 use Rattle.linear_machine.specs.Follows.{FollowsStep, IsAt}
@@ -43,6 +44,7 @@ use Rattle.linear_machine.proofs.Pure.{Reads}
 use Rattle.linear_machine.proofs.Rows.{immediate_small}
 use Rattle.line_stands.specs.Lines.{LineStands}
 use Rattle.line_stands.specs.Parts.{PartStands}
+use Rattle.lin_laws.proofs.Forms.{symbol_inv, copy_inv, load_inv, store_inv, register_inv, label_inv, jump_inv, exit_inv, branch_inv, switch_inv}
 use Rattle.line_values.specs.Followed.{BranchesAreFollowed, Followed, FollowsBranch, IsPlain, plain_pure, plain_load, plain_store, plain_check, plain_label, plain_jump, plain_exit, plain_branch, plain_switch}
 use Rattle.layout_rules.specs.Laid.{address_of_place}
 use Rattle.line_values.proofs.Checking.{check_line, check_with_line}
@@ -74,23 +76,6 @@ with_two (x ∷ y ∷ z ∷ xs) t u e P p = absurd (cc)
 constant_inv : (w : ℕ) (xs ys : List Comp) → HasForm (op.Pure (pure.Constant w)) xs ys → (xs ≡ []) × ((u : Comp) × (ys ≡ u ∷ [])) × (w < 2 ^ 64)
 constant_inv w xs ys (constant {to = u} l) = (refl, (u, refl), l)
 
-symbol_inv : (name : List ℕ) (xs ys : List Comp) → HasForm (op.Pure (pure.Symbol name)) xs ys → (xs ≡ []) × ((u : Comp) × (ys ≡ u ∷ []))
-symbol_inv name xs ys (symbol {to = u}) = (refl, (u, refl))
-
-copy_inv : (kind : _) (xs ys : List Comp) → HasForm (op.Pure (pure.Copy kind)) xs ys → (t : Comp) × (u : Comp) × (xs ≡ t ∷ []) × (ys ≡ u ∷ [])
-copy_inv kind xs ys (copies {from = t} {to = u}) = (t, u, refl, refl)
-
-load_inv : (k : _) (offset : ℕ) (xs ys : List Comp) → HasForm (op.Access (access.Load k offset)) xs ys → (t : Comp) × (u : Comp) × (xs ≡ t ∷ []) × (ys ≡ u ∷ [])
-load_inv k offset xs ys (loads {address = t} {to = u}) = (t, u, refl, refl)
-
-store_inv : (k : _) (offset : ℕ) (xs ys : List Comp) → HasForm (op.Access (access.Store k offset)) xs ys →
-    (t : Comp) × (u : Comp) × (xs ≡ t ∷ u ∷ []) × (ys ≡ [])
-store_inv k offset xs ys (stores {address = t} {value = u}) = (t, u, refl, refl)
-
-register_inv : (f : _) (xs ys : List Comp) → HasForm (op.Pure (pure.Operator f right.Register)) xs ys →
-    (t : Comp) × (u : Comp) × (o : Comp) × (xs ≡ t ∷ u ∷ []) × (ys ≡ o ∷ [])
-register_inv f xs ys (operates {left = t} {to = o} (a_register {t = u})) = (t, u, o, refl, refl)
-
 with_inv : (f : _) (w : ℕ) (xs ys : List Comp) → HasForm (op.Pure (pure.Operator f (right.Constant w))) xs ys →
     (t : Comp) × (o : Comp) × (xs ≡ t ∷ []) × (ys ≡ o ∷ []) × (is_immediate f w ≡ true)
 with_inv f w xs ys (operates {left = t} {to = o} (a_constant e)) = (t, o, refl, refl, e)
@@ -101,21 +86,6 @@ check_inv xs ys (checks {bound = t} (a_register {t = u})) = (t, u, refl, refl)
 check_with_inv : (w : ℕ) (xs ys : List Comp) → HasForm (op.Leaving (leaving.Checkbound (right.Constant w))) xs ys →
     (t : Comp) × (xs ≡ t ∷ []) × (ys ≡ []) × (is_immediate_12 w ≡ true)
 check_with_inv w xs ys (checks {bound = t} (a_constant e)) = (t, refl, refl, e)
-
-label_inv : (l : ℕ) (xs ys : List Comp) → FlowHasForm (flow.Label l) xs ys → (xs ≡ []) × (ys ≡ [])
-label_inv l xs ys label_form = (refl, refl)
-
-jump_inv : (l : ℕ) (xs ys : List Comp) → FlowHasForm (flow.Jump l) xs ys → (xs ≡ []) × (ys ≡ [])
-jump_inv l xs ys jump_form = (refl, refl)
-
-exit_inv : (l : ℕ) (xs ys : List Comp) → FlowHasForm (flow.Exit l) xs ys → (xs ≡ []) × (ys ≡ [])
-exit_inv l xs ys exit_form = (refl, refl)
-
-branch_inv : (t : _) (l : ℕ) (xs ys : List Comp) → FlowHasForm (flow.Branch t l) xs ys → IsTested t xs × (ys ≡ [])
-branch_inv t l xs ys (branch_form h) = (h, refl)
-
-switch_inv : (labels : List ℕ) (xs ys : List Comp) → FlowHasForm (flow.Switch labels) xs ys → ((t : Comp) × (xs ≡ t ∷ [])) × (ys ≡ [])
-switch_inv labels xs ys (switch_form {index = t}) = ((t, refl), refl)
 
 form_of : (f : Op) (args results : List Spot) → IsFormed (record { op = lin.Op f; args = args; results = results }) → HasForm f (comps args) (comps results)
 form_of f args results (formed_op h) = h
@@ -148,14 +118,8 @@ immediate_word operator.Mod w h = absurd (cc)
 
 -- ---- places
 
-first_in : {X : Type 0} (x : X) (xs : List X) → Contains (x ∷ xs) x
-first_in x xs = (0, omega arith, refl)
-
 second_in : {X : Type 0} (x y : X) (xs : List X) → Contains (x ∷ y ∷ xs) y
 second_in x y xs = (1, omega arith, refl)
-
-no_member : {X : Type 0} (x : X) → Contains [] x → ⊥
-no_member x (k, l, e) = omega (arith, l)
 
 one_member : (r : Spot) (t : Comp) → Contains (r ∷ []) (record { loc = spare; comp = t }) → r.loc ≡ spare
 one_member r t (zero, l, e) = ap (λ (x : Spot). x.loc) e
@@ -233,7 +197,7 @@ module _ (s : Fixed) (laid : Laid) (n : Named) (m : Lin) (place : Place) (named 
     -- with no result
     passes_to : (to : _) → OneOf to (targets o) → results ≡ [] → live (code_at m.code next to) → live (record { op = o; args = args; results = results } ∷ next)
     passes_to to i none l =
-        ⊎_elim (λ w. absurd (no_member (record { loc = spare; comp = w.0 }) (subst (λ rs. Contains rs (record { loc = spare; comp = w.0 })) none w.1)))
+        ⊎_elim (λ w. absurd (none_in (record { loc = spare; comp = w.0 }) (subst (λ rs. Contains rs (record { loc = spare; comp = w.0 })) none w.1)))
         (λ q. q.1) (st.spare.on to i l)
 
     -- with one

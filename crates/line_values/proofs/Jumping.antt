@@ -1,7 +1,8 @@
 -- Jumps and branches come to their labels, in every form that reaches.
-use Rattle.std.proofs.Common.{◌≡◌, ℕ, ◌+◌, ◌-◌, ◌*◌, ◌^◌, ◌<◌, ◌≤◌, ◌⊎◌, inl, inr, Bool, true, false, cond, not, ◌==◌, nat_le, nat_lt, [], ◌∷◌, length, refl, ap, arith, ◌∙◌, subst, ⊎_elim}
+use Rattle.std.proofs.Common.{◌≡◌, ℕ, ◌+◌, ◌-◌, ◌*◌, ◌^◌, ◌<◌, ◌≤◌, ◌⊎◌, inl, inr, Bool, true, false, cond, not, ◌==◌, nat_le, nat_lt, [], ◌∷◌, length, refl, ap, arith, ◌∙◌, subst, ⊎_elim, sym}
 use Rattle.std.proofs.lemmas.Bool.{and_from, and_parts, le-leb, leb-true, lt-ltb, ltb-true}
 use Rattle.std.proofs.lemmas.Option.{slice_get_within}
+use Rattle.std.proofs.Math.Bool.{not-not}
 use Rattle.bs_words.specs.Word.{add_word}
 use Rattle.bs_words.proofs.Below.{add_word-below}
 use Rattle.layout_rules.specs.Forms.{branch_form, branch_reaches, branch_words, jal_reaches, jump_form, rank}
@@ -120,17 +121,13 @@ jump_goes s u are to near_u near_to Far reach code k e =
 
 -- ---- branches
 
-twice : (t : Bool) → t ≡ not (not t)
-twice true = refl
-twice false = refl
-
 inverted_is : (c : Condition) (x y : ℕ) (b : Bool) → is_taken c x y ≡ b → is_taken (inverted c) x y ≡ not b
 inverted_is condition.Beq x y b e = ap not e
-inverted_is condition.Bne x y b e = twice (x == y) ∙ ap not e
+inverted_is condition.Bne x y b e = sym (not-not (x == y)) ∙ ap not e
 inverted_is condition.Blt x y b e = ap not e
-inverted_is condition.Bge x y b e = twice (is_less x y) ∙ ap not e
+inverted_is condition.Bge x y b e = sym (not-not (is_less x y)) ∙ ap not e
 inverted_is condition.Bltu x y b e = ap not e
-inverted_is condition.Bgeu x y b e = twice (nat_lt x y) ∙ ap not e
+inverted_is condition.Bgeu x y b e = sym (not-not (nat_lt x y)) ∙ ap not e
 
 -- the offset of a branch over a few words
 skip_by : (from bytes x to : ℕ) → bytes < 4096 → from + bytes ≡ to → to < 2 ^ 32 →

@@ -1,11 +1,9 @@
 -- Loads of every chunk follow their lines.
 use Rattle.std.proofs.Common.{◌≡◌, ℕ, suc, ◌+◌, ◌*◌, ◌/◌, ◌%◌, ◌^◌, ◌<◌, ◌≤◌, ◌⊎◌, inl, inr, Bool, true, false, cond, List, [], ◌∷◌, ◌++◌, length, Option, Some, None, Result, Ok, Err, slice_index, refl, ap, arith, ◌∙◌, sym, subst, ⊎_elim, append_assoc}
-use Rattle.bs_words.specs.Fits.{fits, misfit}
-use Rattle.bs_words.specs.Memory.{Cell, cell_at, end_of_data, extended, loaded_as, loaded_from, of_type, offset_in_cell, part, value_in, width}
+use Rattle.bs_words.specs.Memory.{Cell, cell_at, end_of_data, extended, loaded_as, loaded_from, offset_in_cell, part, value_in, width}
 use Rattle.bs_words.specs.Memory as memory
 use Rattle.bs_words.specs.declared.types.Chunk.{Chunk}
 use Rattle.bs_words.specs.declared.types.Chunk.TheVariants as chunk
-use Rattle.bs_words.specs.declared.types.Ty.{Ty}
 use Rattle.bs_words.specs.declared.types.Ty.TheVariants as ty
 use Rattle.bs_words.specs.declared.values.Kind.{Kind}
 use Rattle.bs_words.specs.declared.values.Value.{Value}
@@ -52,6 +50,8 @@ use Rattle.std.proofs.Math.Nat.{mod-lt}
 use Rattle.std.proofs.lemmas.Nat.{pow_pos}
 use Rattle.linear_machine.proofs.Operating.{unary}
 use Rattle.linear_machine.proofs.Standing.{IsScratch}
+use Rattle.linear_machine.proofs.Operators.{ok_is}
+use Rattle.linear_machine.proofs.Loads.{fit_is}
 use Rattle.line_values.proofs.Addresses.{addresses, no_function}
 
 -- ---- chunks
@@ -87,17 +87,6 @@ whole_part word from small l =
     at_zero : (word : ℕ) → word < 2 ^ 64 → part word 0 8 ≡ word
     at_zero word small = omega (arith, small)
 
-ok_same : {x z : Value} → ◌≡◌ {A = Result Value Kind} (Ok x) (Ok z) → x ≡ z
-ok_same e = cc
-
--- a value that fits is what is loaded
-fit_is : (end : ℕ) (t : Ty) (v z : Value) → of_type end t v ≡ Ok z → v ≡ z
-fit_is end t v z e = by_test (fits end t v) e
-  where
-    by_test : (b : Bool) → cond b (Ok v) (Err (misfit t)) ≡ Ok z → v ≡ z
-    by_test true e = ok_same e
-    by_test false e = absurd (cc)
-
 module _ (s : Fixed) (placed : List Placed) (end w from : ℕ) (small : w < 2 ^ 64) where
   -- what is loaded stands for the loaded value
   pub loaded_stands : (k : Chunk) (old z : Value) → StandsFor s placed w old → from + width k ≤ 8 → loaded_as k end from old ≡ Ok z →
@@ -107,22 +96,22 @@ module _ (s : Fixed) (placed : List Placed) (end w from : ℕ) (small : w < 2 ^ 
   loaded_stands chunk.Val old z st l e =
       subst (λ x. StandsFor s placed x z) (sym (whole_part w from small l)) (subst (StandsFor s placed w) (fit_is end ty.Val old z e) st)
   loaded_stands chunk.U8 (Word x) z st l e =
-      subst (StandsFor s placed (register_loaded (load_width chunk.U8) (part w from 1))) (ok_same e)
+      subst (StandsFor s placed (register_loaded (load_width chunk.U8) (part w from 1))) (ok_is _ _ e)
       (record { is = ap (λ y. extended chunk.U8 (part y from 1)) st.is; known = tt })
   loaded_stands chunk.I8 (Word x) z st l e =
-      subst (StandsFor s placed (register_loaded (load_width chunk.I8) (part w from 1))) (ok_same e)
+      subst (StandsFor s placed (register_loaded (load_width chunk.I8) (part w from 1))) (ok_is _ _ e)
       (record { is = ap (λ y. extended chunk.I8 (part y from 1)) st.is; known = tt })
   loaded_stands chunk.U16 (Word x) z st l e =
-      subst (StandsFor s placed (register_loaded (load_width chunk.U16) (part w from 2))) (ok_same e)
+      subst (StandsFor s placed (register_loaded (load_width chunk.U16) (part w from 2))) (ok_is _ _ e)
       (record { is = ap (λ y. extended chunk.U16 (part y from 2)) st.is; known = tt })
   loaded_stands chunk.I16 (Word x) z st l e =
-      subst (StandsFor s placed (register_loaded (load_width chunk.I16) (part w from 2))) (ok_same e)
+      subst (StandsFor s placed (register_loaded (load_width chunk.I16) (part w from 2))) (ok_is _ _ e)
       (record { is = ap (λ y. extended chunk.I16 (part y from 2)) st.is; known = tt })
   loaded_stands chunk.U32 (Word x) z st l e =
-      subst (StandsFor s placed (register_loaded (load_width chunk.U32) (part w from 4))) (ok_same e)
+      subst (StandsFor s placed (register_loaded (load_width chunk.U32) (part w from 4))) (ok_is _ _ e)
       (record { is = ap (λ y. extended chunk.U32 (part y from 4)) st.is; known = tt })
   loaded_stands chunk.I32 (Word x) z st l e =
-      subst (StandsFor s placed (register_loaded (load_width chunk.I32) (part w from 4))) (ok_same e)
+      subst (StandsFor s placed (register_loaded (load_width chunk.I32) (part w from 4))) (ok_is _ _ e)
       (record { is = ap (λ y. extended chunk.I32 (part y from 4)) st.is; known = tt })
   loaded_stands chunk.U8 (Block k o) z st l e = absurd (cc)
   loaded_stands chunk.I8 (Block k o) z st l e = absurd (cc)

@@ -40,7 +40,7 @@ use Rattle.linear_machine.specs.Straight.{Changes, Comes}
 use Rattle.linear_machine.specs.View.{Fixed, View, HasCode, IsCode}
 use Rattle.linear_machine.proofs.Following.{PassesSpare, result_follows, same_loc-true}
 use Rattle.linear_machine.proofs.Formats.{sets_imm, sets_lui}
-use Rattle.linear_machine.proofs.Immediates.{low_12, up}
+use Rattle.machine_laws.proofs.Immediates.{low_12, up}
 use Rattle.linear_machine.proofs.Locations.{read_far, read_near, read_register}
 use Rattle.linear_machine.proofs.Operating.{worked}
 use Rattle.linear_machine.proofs.Pure.{Reads, constant_follows, copy_follows, copy_nothing}

@@ -10,7 +10,7 @@ use Rattle.lin_ir.specs.declared.lin.Lin.{Lin}
 use Rattle.mach_ir.specs.Placed.{colours}
 use Rattle.rv_isa.specs.Registers.{number}
 use Rattle.linear_machine.specs.Relation as relation
-use Rattle.linear_machine.proofs.Standing.{same_machine}
+use Rattle.lin_laws.proofs.Forms.{same_machine}
 
 -- a register that holds values, with the number that its name has
 pub record IsUsual (r : ℕ) : Type 0 where

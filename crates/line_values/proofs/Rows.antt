@@ -30,7 +30,7 @@ use Rattle.machine_laws.proofs.Values.{alu-below, alu_imm-below}
 use Rattle.linear_machine.specs.Straight.{Changes}
 use Rattle.linear_machine.specs.View.{Fixed, View, IsCode}
 use Rattle.linear_machine.proofs.Formats.{sets_imm, sets_op}
-use Rattle.linear_machine.proofs.Immediates.{by_12}
+use Rattle.machine_laws.proofs.Immediates.{by_12}
 use Rattle.linear_machine.proofs.Rows.{IsImmediateRow, adds, less, less_unsigned, and_bits, or_bits, xor_bits, immediate_sets, immediate_small, shift_sets}
 use Rattle.linear_machine.proofs.Sequences.{set_changes, set_then, sets_as, then_changes, widened}
 use Rattle.linear_machine.proofs.Steps.{SetsRegister}

@@ -1,6 +1,7 @@
 -- A cell of static data is written: what the heap and the data stand for then.
 use Rattle.std.proofs.Common.{◌≡◌, ◌≢◌, ℕ, zero, suc, ◌+◌, ◌-◌, ◌*◌, ◌/◌, ◌%◌, ◌^◌, ◌<◌, ◌≤◌, ◌⊎◌, inl, inr, Bool, true, false, cond, ◌&&◌, ◌==◌, nat_le, List, [], ◌∷◌, length, Option, Some, None, slice_get, slice_set, slice_index_or, refl, ap, arith, ◌∙◌, sym, subst, ⊎_elim, get_or-set_same, get_or-set_other, length-set}
 use Rattle.std.proofs.lemmas.Bool.{and_parts, eqb-true, leb-true, or_cases}
+use Rattle.std.proofs.lemmas.Option.{same_Some, slice_get_within, get_or_from_slice_get}
 use Rattle.bs_words.specs.Fits.{data_start, fits}
 use Rattle.bs_words.specs.Memory.{Cell, InStatic, Memory, StaticList, end_of_data, end_of_statics, in_statics, is_root, type_in, type_of_static, value_in, with_value}
 use Rattle.bs_words.specs.declared.types.Ty.TheVariants as ty
@@ -18,14 +19,12 @@ use Rattle.moving_laws.specs.Words.{held_word}
 use Rattle.moving_laws.proofs.Held.{IsHeld, hold, hold_other, hold_same, readable_hold, word_hold}
 use Rattle.moving_laws.proofs.Rewriting.{start_inside}
 use Rattle.moving_laws.proofs.Words.{same_or_not}
+use Rattle.moving_laws.proofs.Fitting.{int_still}
 use Rattle.linear_machine.specs.Contents.{static_in, statics_of}
 use Rattle.linear_machine.specs.Relation.{HeapStands, StandsFor}
 use Rattle.linear_machine.specs.Statics.{AreBehind, IsCellList, StaticsLie}
 use Rattle.linear_machine.specs.View.{Fixed}
 use Rattle.linear_machine.proofs.Statics.{data_held, static_at}
-
-some_same : {X : Type 0} {x y : X} → Some x ≡ Some y → x ≡ y
-some_same e = cc
 
 -- ---- what fits
 
@@ -41,11 +40,6 @@ val_of image count end (Word w) l known e =
     (or_cases (w % 2 == 1) (nat_le data_start w && nat_le w end) e)
 val_of image count end (Block k o) l known e = (eqb-true o 0 e, known.0)
 val_of image count end (Function f) l known e = known
-
-pub still_of : (end : ℕ) (v : Value) → fits end ty.Int v ≡ true → IsStill v
-still_of end (Word w) e = tt
-still_of end (Block k o) e = absurd (cc)
-still_of end (Function f) e = tt
 
 -- ---- lists of cells
 
@@ -74,7 +68,7 @@ is_in k (l ∷ lists) x cell e = by_test (nat_le l.start x && nat_le (x + 1) (l.
           there = refl;
           low = leb-true l.start x p.0;
           high = leb-true (x + 1) (l.start + l.size) p.1;
-          is = sym (some_same e) ∙ ap (λ z. InStatic z ((x - l.start) / 8)) zero;
+          is = sym (same_Some _ _ e) ∙ ap (λ z. InStatic z ((x - l.start) / 8)) zero;
         }
     by_test false t later e =
         let r = later e in
@@ -93,7 +87,7 @@ in_same : (k : ℕ) (lists : List StaticList) (j : ℕ) (cells : List Value) (l 
     in_statics k (slice_set lists j (record l { cells = cells })) x 1 ≡ in_statics k lists x 1
 in_same k [] j cells l x e = absurd (cc)
 in_same k (o ∷ lists) zero cells l x e =
-    let same : o ≡ l = some_same e in
+    let same : o ≡ l = same_Some _ _ e in
     ap (λ (z : StaticList). cond (nat_le z.start x && nat_le (x + 1) (z.start + z.size)) (Some (InStatic k ((x - z.start) / 8))) (in_statics (suc k) lists x 1))
     (sym same)
 in_same k (o ∷ lists) (suc j) cells l x e =
@@ -104,7 +98,7 @@ behind_same : (from : ℕ) (lists : List StaticList) (j : ℕ) (cells : List Val
     length cells ≡ length l.cells → AreBehind from lists → AreBehind from (slice_set lists j (record l { cells = cells }))
 behind_same from [] j cells l e n are = absurd (cc)
 behind_same from (o ∷ lists) zero cells l e n are =
-    let same : o ≡ l = some_same e in
+    let same : o ≡ l = same_Some _ _ e in
     let is = subst (λ (z : StaticList). (from ≤ z.start) × IsCellList z × AreBehind (z.start + z.size) lists) same are in
     let size = is.1 in
     (is.0, (size.0, omega (arith, size, n), omega (arith, size, n)), is.2)
@@ -114,22 +108,12 @@ end_same : (from : ℕ) (lists : List StaticList) (j : ℕ) (cells : List Value)
     end_of_statics from (slice_set lists j (record l { cells = cells })) ≡ end_of_statics from lists
 end_same from [] j cells l e = absurd (cc)
 end_same from (o ∷ lists) zero cells l e =
-    let same : o ≡ l = some_same e in ap (λ (z : StaticList). end_of_statics (z.start + z.size) lists) (sym same)
+    let same : o ≡ l = same_Some _ _ e in ap (λ (z : StaticList). end_of_statics (z.start + z.size) lists) (sym same)
 end_same from (o ∷ lists) (suc j) cells l e = end_same (o.start + o.size) lists j cells l e
-
-get_within : {X : Type 0} (xs : List X) (k : ℕ) (x : X) → slice_get xs k ≡ Some x → k < length xs
-get_within [] k x e = absurd (cc)
-get_within (y ∷ xs) zero x e = omega arith
-get_within (y ∷ xs) (suc k) x e = let l = get_within xs k x e in omega (arith, l)
-
-get_or : {X : Type 0} (xs : List X) (k : ℕ) (x d : X) → slice_get xs k ≡ Some x → slice_index_or xs k d ≡ x
-get_or [] k x d e = absurd (cc)
-get_or (y ∷ xs) zero x d e = some_same e
-get_or (y ∷ xs) (suc k) x d e = get_or xs k x d e
 
 list_at : (from : ℕ) (lists : List StaticList) (k : ℕ) (l : StaticList) → AreBehind from lists → slice_get lists k ≡ Some l → IsCellList l
 list_at from [] k l are e = absurd (cc)
-list_at from (o ∷ lists) zero l are e = subst IsCellList (some_same e) are.1
+list_at from (o ∷ lists) zero l are e = subst IsCellList (same_Some _ _ e) are.1
 list_at from (o ∷ lists) (suc k) l are e = list_at (o.start + o.size) lists k l are.2 e
 
 one_static : (j k i n : ℕ) → InStatic j i ≡ InStatic k n → (j ≡ k) × (i ≡ n)
@@ -149,7 +133,7 @@ first_at memory y v e = by_even (y % 8 == 0) refl e
   where
     by_cell : (o : Option Cell) → in_statics 0 memory.statics y 1 ≡ o → (y % 8 == 0) ≡ true → static_in memory o ≡ Some v → IsFirst memory y v
     by_cell None f t e = absurd (cc)
-    by_cell (Some cell) f t e = record { even = eqb-true (y % 8) 0 t; cell = cell; there = f; is = sym (some_same e) }
+    by_cell (Some cell) f t e = record { even = eqb-true (y % 8) 0 t; cell = cell; there = f; is = sym (same_Some _ _ e) }
 
     by_byte : (t : Bool) → (y % 8 == 0) ≡ true → static_in memory (cond t (in_statics 0 memory.statics y 1) None) ≡ Some v → IsFirst memory y v
     by_byte true t e = by_cell (in_statics 0 memory.statics y 1) refl t e
@@ -187,7 +171,7 @@ module _ (s : Fixed) (placed : List Placed) (m : List Region) (regions : HasRegi
   own_there = let e = same_cell.0 in subst (λ z. slice_get a.memory.statics z ≡ Some inside.list) (sym e) inside.there
 
   own_is : slice_index_or a.memory.statics list no_list ≡ inside.list
-  own_is = get_or a.memory.statics list inside.list no_list own_there
+  own_is = get_or_from_slice_get a.memory.statics list inside.list no_list own_there
 
   own_cells : IsCellList inside.list
   own_cells = list_at data_start a.memory.statics list inside.list h.lie.lists own_there
@@ -215,7 +199,7 @@ module _ (s : Fixed) (placed : List Placed) (m : List Region) (regions : HasRegi
   value_here : value_in (with_value a.memory (InStatic list index) x) (InStatic list index) ≡ x
   value_here =
       ap (λ (l : StaticList). slice_index_or l.cells index (Word 0))
-      (get_or-set_same a.memory.statics list _ no_list (get_within a.memory.statics list inside.list own_there))
+      (get_or-set_same a.memory.statics list _ no_list (slice_get_within a.memory.statics list inside.list own_there))
       ∙ ap (λ (l : StaticList). slice_index_or (slice_set l.cells index x) index (Word 0)) own_is
       ∙ get_or-set_same inside.list.cells index x (Word 0) in_cells
 
@@ -226,7 +210,7 @@ module _ (s : Fixed) (placed : List Placed) (m : List Region) (regions : HasRegi
       (λ (e : j ≡ list).
       subst (λ z. value_in (with_value a.memory (InStatic list index) x) (InStatic z i) ≡ value_in a.memory (InStatic z i)) (sym e)
       (ap (λ (l : StaticList). slice_index_or l.cells i (Word 0))
-      (get_or-set_same a.memory.statics list _ no_list (get_within a.memory.statics list inside.list own_there))
+      (get_or-set_same a.memory.statics list _ no_list (slice_get_within a.memory.statics list inside.list own_there))
       ∙ get_or-set_other (slice_index_or a.memory.statics list no_list).cells index i x (Word 0) (d e)))
       (λ n. ap (λ (l : StaticList). slice_index_or l.cells i (Word 0)) (get_or-set_other a.memory.statics list j _ no_list n))
       (same_or_not j list)
@@ -255,14 +239,14 @@ module _ (s : Fixed) (placed : List Placed) (m : List Region) (regions : HasRegi
       (same_or_not y at)
     where
       same_static : {X : Type 0} {o : Option X} {c d : X} → o ≡ Some c → o ≡ Some d → c ≡ d
-      same_static e f = some_same (sym e ∙ f)
+      same_static e f = same_Some _ _ (sym e ∙ f)
 
   kind_by : (t : Bool) → is_root a.memory.roots at ≡ t → fits (end_of_data a.memory) (type_of_static t) x ≡ true →
       (IsVal s.image (length placed) x × Among at (root_cells s.image)) ⊎ (IsStill x × (Among at (root_cells s.image) → ⊥))
   kind_by true r e =
       let ends = h.lie.ends in
       inl (val_of s.image (length placed) (end_of_data a.memory) x (omega (arith, ends)) stands.known e, h.lie.root at r)
-  kind_by false r e = inr (still_of (end_of_data a.memory) x e, λ i. let f = h.lie.roots at i in absurd (cc))
+  kind_by false r e = inr (int_still (end_of_data a.memory) x e, λ i. let f = h.lie.roots at i in absurd (cc))
 
   kind_here : (IsVal s.image (length placed) x × Among at (root_cells s.image)) ⊎ (IsStill x × (Among at (root_cells s.image) → ⊥))
   kind_here =

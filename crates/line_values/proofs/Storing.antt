@@ -10,6 +10,7 @@ use Rattle.bs_words.specs.declared.types.Ty.TheVariants as ty
 use Rattle.bs_words.specs.declared.values.Kind.{Kind}
 use Rattle.bs_words.specs.declared.values.Value.{Value}
 use Rattle.bs_words.specs.declared.values.Value.TheVariants.{Word, Block, Function}
+use Rattle.bs_words.proofs.Truths.{bool_same}
 use Rattle.mach_ir.specs.Acts.{Act, Around, Goes, On, Stuck, is_among, after_store, first_written, only_if, stored_act, without}
 use Rattle.rv_machine.specs.Hart.{Placed}
 use Rattle.rv_machine.specs.Memory.{Region, write}
@@ -26,9 +27,9 @@ use Rattle.linear_machine.proofs.Storing.{heap_stored, without_is}
 use Rattle.linear_machine.proofs.Writing.{heap_headed}
 use Rattle.moving_laws.specs.Words.{IsReadable, held_word}
 use Rattle.moving_laws.proofs.Held.{held_below, hold}
+use Rattle.moving_laws.proofs.Fitting.{int_still}
 use Rattle.linear_machine.proofs.Statics.{hold_readable}
-use Rattle.line_values.proofs.Bytes.{bool_same}
-use Rattle.line_values.proofs.Statics.{static_stored, still_of, val_of}
+use Rattle.line_values.proofs.Statics.{static_stored, val_of}
 
 -- ---- the value of a cell after a store
 
@@ -122,7 +123,7 @@ scan_same h =
 fits_by : (s : Fixed) (count end : ℕ) (t : Bool) (v : Value) → end ≤ data_start + length s.image.bytes → IsKnown s.image count v →
     fits end (cond t ty.Val ty.Int) v ≡ true → FitsCell s.image count t v
 fits_by s count end true v l known e = val_of s.image count end v l known e
-fits_by s count end false v l known e = still_of end v e
+fits_by s count end false v l known e = int_still end v e
 
 module _ (s : Fixed) (placed : List Placed) (m : List Region) (regions : HasRegions (extents s.image s.heap s.base) m) (a : Around)
     (h : HeapStands s placed m a) (at value : ℕ) (small : value < 2 ^ 64) where

@@ -6,8 +6,7 @@ use Rattle.bs_words.specs.Word.{add_word, shl_word}
 use Rattle.bs_words.specs.declared.types.Loc.{Loc}
 use Rattle.bs_words.specs.declared.types.Loc.TheVariants as loc
 use Rattle.bs_words.specs.declared.values.Kind.{Kind}
-use Rattle.bs_words.specs.declared.values.Value.{Value}
-use Rattle.bs_words.specs.declared.values.Value.TheVariants.{Word, Block, Function}
+use Rattle.bs_words.specs.declared.values.Value.TheVariants.{Word}
 use Rattle.emit_rules.specs.Instructions.{addi, register_at}
 use Rattle.emit_rules.specs.Tests.{switch_part, table_of_jumps, tests_in_turn, value_words}
 use Rattle.layout_rules.specs.Laid.{address_of_place}
@@ -38,7 +37,7 @@ use Rattle.linear_machine.specs.Relation.{Below, Laid, Within}
 use Rattle.linear_machine.specs.Straight.{Changes, Comes, Differs}
 use Rattle.linear_machine.specs.View.{Fixed, View, HasCode, IsCode, Leads}
 use Rattle.linear_machine.proofs.Formats.{sets_auipc, sets_imm, sets_jalr, sets_op, sets_shift}
-use Rattle.linear_machine.proofs.Immediates.{by_20, down, high_12, low_12, up}
+use Rattle.machine_laws.proofs.Immediates.{by_20, down, high_12, low_12, up}
 use Rattle.linear_machine.proofs.Locations.{read_register}
 use Rattle.linear_machine.proofs.Parts.{changes_come}
 use Rattle.linear_machine.proofs.Pure.{Reads, reads_held}
@@ -52,6 +51,7 @@ use Rattle.line_values.proofs.Jumping.{Goes, code_near, far_goes}
 use Rattle.line_values.proofs.Landing.{Lies, jump_lands, lands, lies_near, within_gone}
 use Rattle.line_values.proofs.Places.{no_unset, usual_of}
 use Rattle.line_values.proofs.Testing.{branch_lands, first_comes}
+use Rattle.line_values.proofs.Checking.{word_of}
 
 -- instructions that change t1 and t2 alone, and then some that lead to a place
 goes_more : (s : Fixed) (u w : View) (k1 k2 to : ℕ) → Leads s k1 u w → Differs (6 ∷ 7 ∷ []) u.memory u w → Goes s w k2 to → Goes s u (k1 + k2) to
@@ -264,14 +264,6 @@ module _ (s : Fixed) (laid : Laid) (n : Named) (m : Lin) where
   cases_go labels lie u are j l e i k true part = tests_go labels lie u are j l e i k part
   cases_go labels lie u are j l e i k false part = table_go labels lie u are j l e i k part
 
-word_of_index : (v : Value) (j : ℕ) → word_in v ≡ Ok j → v ≡ Word j
-word_of_index (Word w) j e = let same : w ≡ j = ok_is e in ap Word same
-  where
-    ok_is : {X : Type 0} {x y : X} → ◌≡◌ {A = Result X Kind} (Ok x) (Ok y) → x ≡ y
-    ok_is e = cc
-word_of_index (Block k o) j e = absurd (cc)
-word_of_index (Function f) j e = absurd (cc)
-
 module _ (s : Fixed) (n : Named) (laid : Laid) (m : Lin) (slots : m.slots ≡ laid.slots) (live : List Line → Type 0) (entry : ℕ → ℕ) (c : Below)
     (place : Place) (named : NamedAt) (next : List Line) (v : View) (young : List Placed) (held file : Locations) (a : Around) (none : a.raised ≡ None)
     (within : Within s laid v young 0 held a c) (before : Type 0) (agrees : Agrees before held file) (k : ℕ) where
@@ -332,7 +324,7 @@ module _ (s : Fixed) (n : Named) (laid : Laid) (m : Lin) (slots : m.slots ≡ la
       (λ j l o get.
       let t : Bool = nat_le (length labels) 4 in
       let g = counts s n v.place k (value_words (length a.tries) p.loc) (cond (nat_le (length labels) 4) (tests_in_turn labels) (table_of_jumps labels)) part in
-      let is : held p.loc ≡ Some (Word j) = reads_held before held file p.loc agrees reads ∙ h ∙ ap Some (word_of_index x j o) in
+      let is : held p.loc ≡ Some (Word j) = reads_held before held file p.loc agrees reads ∙ h ∙ ap Some (word_of x j o) in
       let comes = index_comes p.loc at_p g.own g.first j is in
       let u = comes.view in
       let at = comes.place in

@@ -2,6 +2,7 @@
 use Rattle.std.proofs.Common.{◌≡◌, ℕ, suc, ◌+◌, ◌^◌, ◌<◌, ◌≤◌, inl, inr, Bool, true, false, cond, not, ◌==◌, nat_eq, List, [], ◌∷◌, ◌++◌, length, Option, Some, None, Result, Ok, Err, slice_index, refl, ap, arith, ◌∙◌, sym, subst, ⊎_elim, append_assoc, append-nil}
 use Rattle.std.specs.List.{AllByRecursion}
 use Rattle.std.proofs.lemmas.Bool.{eqb-true}
+use Rattle.std.proofs.lemmas.Option.{same_Some}
 use Rattle.bs_words.specs.Memory.{sizes}
 use Rattle.bs_words.specs.Operators.{apply, condition_of, signed_holds, truth, unsigned_holds}
 use Rattle.bs_words.specs.Word.{signed_of}
@@ -244,15 +245,12 @@ known_truth : (ns : List ℕ) (b : Bool) → as_condition ns (Ok (truth b)) ≡ 
 known_truth ns true = refl
 known_truth ns false = refl
 
-some_same : {X : Type 0} {x y : X} → Some x ≡ Some y → x ≡ y
-some_same e = cc
-
 proper_ok : (r : Result Bool Kind) (b : Bool) → proper r ≡ Some b → r ≡ Ok b
-proper_ok (Ok d) b e = ap Ok (some_same e)
+proper_ok (Ok d) b e = ap Ok (same_Some _ _ e)
 proper_ok (Err kind) b e = absurd (cc)
 
 opposite_ok : (r : Result Bool Kind) (b : Bool) → opposite (proper r) ≡ Some b → (d : Bool) × (r ≡ Ok d) × (not d ≡ b)
-opposite_ok (Ok d) b e = (d, refl, some_same e)
+opposite_ok (Ok d) b e = (d, refl, same_Some _ _ e)
 opposite_ok (Err kind) b e = absurd (cc)
 
 condition_ok : (ns : List ℕ) (r : Result Value Kind) (b : Bool) → as_condition ns r ≡ Some b → (z : Value) × (r ≡ Ok z) × (as_condition ns (Ok z) ≡ Some b)
@@ -303,7 +301,7 @@ module _ (s : Fixed) (laid : Laid) (u : View) (young : List Placed) (held : Loca
         let z = compared_words s (all_of u young) within.heap.old ns are signed_holds (signed_agrees s (all_of u young) within.heap.old ns are)
         (reg u.registers (number left)) (reg u.registers (number right)) f x y g.0 sx sy g.1 in
         signed_tests left right l u.registers b f
-        (some_same (sym (known_truth ns (signed_holds f (reg u.registers (number left)) (reg u.registers (number right))))
+        (same_Some _ _ (sym (known_truth ns (signed_holds f (reg u.registers (number left)) (reg u.registers (number right))))
         ∙ ap (λ q. as_condition ns (Ok q)) (sym z) ∙ g.2))
 
     unsigned_says : as_condition (sizes a.memory) (apply (operator.CmpU f) (sizes a.memory) x y) ≡ Some b →
@@ -315,7 +313,7 @@ module _ (s : Fixed) (laid : Laid) (u : View) (young : List Placed) (held : Loca
         let z = compared_words s (all_of u young) within.heap.old ns are unsigned_holds (unsigned_agrees s (all_of u young) within.heap.old ns are)
         (reg u.registers (number left)) (reg u.registers (number right)) f x y g.0 sx sy g.1 in
         unsigned_tests left right l u.registers b f
-        (some_same (sym (known_truth ns (unsigned_holds f (reg u.registers (number left)) (reg u.registers (number right))))
+        (same_Some _ _ (sym (known_truth ns (unsigned_holds f (reg u.registers (number left)) (reg u.registers (number right))))
         ∙ ap (λ q. as_condition ns (Ok q)) (sym z) ∙ g.2))
 
 -- ---- lines

@@ -13,7 +13,7 @@ use Rattle.rv_machine.specs.Relocation.{root_cells}
 use Rattle.rv_machine.specs.Run.{Schedule}
 use Rattle.rv_machine.specs.Sound.{AllWords, IsSound}
 use Rattle.rv_machine.specs.Start.{padded, start, start_memory, start_registers}
-use Rattle.machine_laws.proofs.Starting.{start_sound}
+use Rattle.machine_laws.proofs.Starting.{start_sound, length-padded}
 use Rattle.moving_laws.specs.Stands.{StaticsStand}
 use Rattle.moving_laws.specs.Values.{HasFunctions, IsKnown, value_word}
 use Rattle.moving_laws.proofs.Bottom.{bottom_start}
@@ -34,13 +34,8 @@ last_six = young_top ∷ domain_start ∷ 0 ∷ 0 ∷ 0 ∷ 0 ∷ []
 behind_ten : (args : List ℕ) (k : ℕ) → slice_index (start_registers args) (10 + k) ≡ slice_index (padded 16 args ++ last_six) k
 behind_ten args k = get_or-append-add first_ten (padded 16 args ++ last_six) k 0
 
-length_padded : (n : ℕ) (xs : List ℕ) → length (padded n xs) ≡ n
-length_padded zero xs = refl
-length_padded (suc n) [] = ap suc (length_padded n [])
-length_padded (suc n) (x ∷ xs) = ap suc (length_padded n xs)
-
 behind_arguments : (n : ℕ) (args rest : List ℕ) (k : ℕ) → slice_index (padded n args ++ rest) (n + k) ≡ slice_index rest k
-behind_arguments n args rest k = let h = length_padded n args in ap (λ z. slice_index (padded n args ++ rest) (z + k)) (sym h)
+behind_arguments n args rest k = let h = length-padded n args in ap (λ z. slice_index (padded n args ++ rest) (z + k)) (sym h)
     ∙ get_or-append-add (padded n args) rest k 0
 
 -- each argument is a word of its place

@@ -1,5 +1,6 @@
 -- A callee begins above its caller, and comes back to it.
 use Rattle.std.proofs.Common.{◌≡◌, ◌≢◌, ℕ, suc, ◌+◌, ◌-◌, ◌*◌, ◌%◌, ◌<◌, ◌≤◌, inr, true, false, cond, List, [], ◌∷◌, ◌++◌, length, map, Option, Some, None, slice_get, slice_index, slice_set, refl, ap, arith, ◌∙◌, sym, subst, get_or-set_same, get_or-set_other}
+use Rattle.std.proofs.lemmas.List.{length-map}
 use Rattle.bs_words.specs.Memory.{Memory}
 use Rattle.bs_words.specs.declared.types.Loc.{Loc}
 use Rattle.bs_words.specs.declared.types.Loc.TheVariants as loc
@@ -18,7 +19,6 @@ use Rattle.linear_machine.specs.Moments.{AtEntry, AtReturn, AtThrow, IsThrown}
 use Rattle.linear_machine.specs.Relation.{Below, IsDescribed, IsLocation, Laid, ReturnStands, StandsFor, Waits, Within, all_of, pushed, traps_of, waiting_of}
 use Rattle.linear_machine.specs.View.{Fixed, View}
 use Rattle.linear_machine.proofs.Frames.{heap_around, heap_whole, own_chain, own_waits}
-use Rattle.linear_machine.proofs.Keeping.{length_map}
 use Rattle.linear_machine.proofs.Standing.{own_past}
 
 -- ---- the callee is about to begin
@@ -113,7 +113,7 @@ module _ (s : Fixed) (laid : Laid) (slots : Locations) (tries : List ℕ) (c : B
       (k : ℕ) (x : Value) → slots (loc.Slot k) ≡ Some x → (k < laid.slots) × StandsFor s (all_of w young) (word m (sp + (8 * k + 16 * n))) x
   slot_of m sp own n e k x h =
       let i = caller.bound k x h in
-      let t = length_map laid.handler tries in
+      let t = length-map tries laid.handler in
       let there : at + (16 * length (map laid.handler tries) + 8 * k) ≡ sp + (8 * k + 16 * n) = omega (arith, e, t) in
       (i, record { is = ap (word m) (sym there) ∙ own.slot k x i h; known = own.known k x i h })
 

@@ -18,6 +18,7 @@ use Rattle.lin_ir.specs.declared.lin.LinOp.TheVariants as lin
 use Rattle.lin_ir.specs.declared.lin.Lin.{Lin}
 use Rattle.lin_ir.specs.declared.lin.Line.{Line}
 use Rattle.lin_ir.specs.declared.lin.Spot.{Spot}
+use Rattle.lin_laws.proofs.Forms.{same_machine}
 use Rattle.linear_machine.specs.Arrival.{ArrivesIn}
 use Rattle.linear_machine.specs.Follows.{Agrees, FollowsStep, IsAt, IsDone, needs_of}
 use Rattle.linear_machine.specs.Moments.{AtReturn, AtThrow}
@@ -26,7 +27,6 @@ use Rattle.linear_machine.specs.View.{Fixed, View, Leads}
 use Rattle.linear_machine.proofs.Arriving.{leads_in}
 use Rattle.linear_machine.proofs.Pure.{reads_held}
 use Rattle.linear_machine.proofs.Reading.{reads_one}
-use Rattle.linear_machine.proofs.Standing.{same_machine}
 
 module _ (s : Fixed) (laid : Laid) (live : List Line → Type 0) (entry : ℕ → ℕ) (c : Below) (place : Place) (named : NamedAt) (code : Lin) (next : List Line)
     (v : View) (young : List Placed) (held file : Locations) (a : Around) (before : Type 0) (agrees : Agrees before held file) where

@@ -26,7 +26,7 @@ use Rattle.linear_machine.specs.Relation.{Below, IsLocation, Laid, Within}
 use Rattle.linear_machine.specs.View.{Fixed, View, IsCode}
 use Rattle.linear_machine.proofs.Endings.{return_value}
 use Rattle.linear_machine.proofs.Formats.{sets_imm, sets_jalr}
-use Rattle.linear_machine.proofs.Immediates.{low_12, up}
+use Rattle.machine_laws.proofs.Immediates.{low_12, up}
 use Rattle.linear_machine.proofs.Jumps.{back_place}
 use Rattle.linear_machine.proofs.Operating.{dropped, target_put, target_register}
 use Rattle.linear_machine.proofs.Parts.{keep_register}

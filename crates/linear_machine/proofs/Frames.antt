@@ -1,6 +1,7 @@
 -- The frame of a function that waits at a frame point.
 use Rattle.std.proofs.Common.{◌≡◌, ◌≢◌, ℕ, ◌+◌, ◌-◌, ◌*◌, ◌≤◌, ◌⊎◌, inl, inr, Bool, true, false, cond, nat_eq, List, [], ◌∷◌, length, map, Option, Some, None, slice_index, refl, ap, arith, ◌∙◌, sym, subst, ⊎_elim}
 use Rattle.std.proofs.lemmas.Bool.{and_parts, eqb-true, or_cases}
+use Rattle.std.proofs.lemmas.List.{length-map}
 use Rattle.bs_words.specs.Fits.{fits}
 use Rattle.bs_words.specs.Memory.{Cell}
 use Rattle.bs_words.specs.declared.types.Loc.{Loc}
@@ -23,7 +24,6 @@ use Rattle.moving_laws.proofs.Fitting.{val_fits}
 use Rattle.linear_machine.specs.Relation.{Below, HeapStands, IsDescribed, Laid, ReturnStands, Within, all_of, waiting_of}
 use Rattle.linear_machine.specs.View.{Fixed, View}
 use Rattle.linear_machine.proofs.Following.{same_loc-true}
-use Rattle.linear_machine.proofs.Keeping.{length_map}
 
 -- ---- poison
 
@@ -65,7 +65,7 @@ heap_as s placed m a unwritten tries raised e h =
     subst (λ u. HeapStands s placed m (record { memory = a.memory; unwritten = u; tries = tries; raised = raised })) e
     (record { old = h.old; readable = h.readable; stand = h.stand; heads = h.heads; fits = h.fits; statics = h.statics; lie = h.lie })
 
-none_left : (cells : List Cell) → nat_eq (length cells) 0 ≡ true → cells ≡ []
+pub none_left : (cells : List Cell) → nat_eq (length cells) 0 ≡ true → cells ≡ []
 none_left [] e = refl
 none_left (x ∷ xs) e = let n = eqb-true (length (x ∷ xs)) 0 e in absurd (omega (arith, n))
 
@@ -109,7 +109,7 @@ module _ (s : Fixed) (laid : Laid) (v : View) (young : List Placed) (taken : ℕ
   pub own_waits : IsWaiting s.image (all_of v young) v.memory (waiting_of laid (poisoned named held) a.tries c)
       (record { at = slice_index v.registers 2; desc = d })
   own_waits =
-      let n = length_map laid.handler a.tries in
+      let n = length-map a.tries laid.handler in
       record {
         room = let z = is.size in let b = room in omega (arith, z, b, n);
         back = back_word;

@@ -60,7 +60,7 @@ among_cells s i (suc n) j l h =
     after : i ≤ j → i ≢ j → suc i ≤ j
     after l d = ⊎_elim (λ k. k) (λ k. absurd (d (omega (arith, l, k)))) (cases_lt i j)
 
-get_front : {X : Type 0} (xs ys : List X) (k : ℕ) → k < length xs → slice_get (xs ++ ys) k ≡ slice_get xs k
+pub get_front : {X : Type 0} (xs ys : List X) (k : ℕ) → k < length xs → slice_get (xs ++ ys) k ≡ slice_get xs k
 get_front [] ys k l = absurd (omega (arith, l))
 get_front (x ∷ xs) ys zero l = refl
 get_front (x ∷ xs) ys (suc k) l = get_front xs ys k (omega (arith, l))

@@ -15,7 +15,7 @@ use Rattle.moving_laws.specs.Words.{IsReadable}
 use Rattle.linear_machine.specs.Straight.{Changes, Differs, IsPast}
 use Rattle.linear_machine.specs.View.{Fixed, View, Ends, HasCode, IsCode, Leads}
 use Rattle.linear_machine.proofs.Formats.{sets_imm, sets_jalr}
-use Rattle.linear_machine.proofs.Immediates.{high_12, low_12, up}
+use Rattle.machine_laws.proofs.Immediates.{high_12, low_12, up}
 use Rattle.linear_machine.proofs.Sequences.{code_past, load_there, set_changes, set_more, sets_as, widened}
 use Rattle.linear_machine.proofs.Slots.{IsStackWord, load_near}
 use Rattle.linear_machine.proofs.Steps.{SetsRegister, at_place, out_step, reg, set_to_step, then_leads}

@@ -3,7 +3,6 @@ pub mod Steps
 pub mod Formats
 pub mod Statics
 pub mod Arriving
-pub mod Immediates
 pub mod Keeping
 pub mod Sequences
 pub mod Slots

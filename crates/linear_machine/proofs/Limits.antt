@@ -20,7 +20,7 @@ use Rattle.moving_laws.proofs.Young.{read_is}
 use Rattle.linear_machine.specs.Arrival.{ArrivalIn, Arrives, Needs}
 use Rattle.linear_machine.specs.Straight.{IsPast}
 use Rattle.linear_machine.specs.View.{Fixed, IsCode, KnownLimit, Stands, View}
-use Rattle.linear_machine.proofs.Immediates.{low_12, up}
+use Rattle.machine_laws.proofs.Immediates.{low_12, up}
 use Rattle.linear_machine.proofs.Likes.{known_either}
 use Rattle.linear_machine.proofs.Steps.{one_step, ready, ready_stands, register_reg, set_in, unserved_step, with_hart}
 

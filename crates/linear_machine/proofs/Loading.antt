@@ -2,11 +2,12 @@
 use Rattle.std.proofs.Common.{◌≡◌, ◌≢◌, ℕ, zero, suc, ◌+◌, ◌-◌, ◌*◌, ◌/◌, ◌%◌, ◌^◌, ◌<◌, ◌≤◌, Bool, true, false, cond, ◌==◌, nat_le, List, [], ◌∷◌, length, Option, Some, None, option_map, slice_get, slice_index_or, refl, ap, arith, ◌∙◌, sym, subst, mod-eq_of_lt}
 use Rattle.std.specs.List.{AllByRecursion}
 use Rattle.std.proofs.lemmas.Bool.{eqb-true, leb-true}
-use Rattle.std.proofs.lemmas.Option.{slice_get-map, slice_get_within}
+use Rattle.std.proofs.lemmas.Option.{slice_get-map, slice_get_within, get_or_from_slice_get}
 use Rattle.bs_words.specs.Memory.{Cell, HeapBlock, InBlock, InHeader, Memory, cell_at, cell_of_block, in_block, sizes, value_in}
 use Rattle.bs_words.specs.Word.{add_word}
 use Rattle.bs_words.specs.declared.values.Value.{Value}
 use Rattle.bs_words.specs.declared.values.Value.TheVariants.{Word, Block, Function}
+use Rattle.bs_words.proofs.Lists.{got}
 use Rattle.mach_ir.specs.Acts.{Around, is_among, moved_by}
 use Rattle.rv_machine.specs.Hart.{Placed}
 use Rattle.rv_machine.specs.Memory.{Region, word}
@@ -23,11 +24,6 @@ use Rattle.linear_machine.proofs.Statics.{held_readable, static_whole}
 
 -- ---- lists
 
-get_or : {X : Type 0} (xs : List X) (k : ℕ) (x d : X) → slice_get xs k ≡ Some x → slice_index_or xs k d ≡ x
-get_or [] k x d e = absurd (cc)
-get_or (y ∷ ys) zero x d e = cc
-get_or (y ∷ ys) (suc k) x d e = get_or ys k x d e
-
 -- a block of this size is there
 pub block_there : (memory : Memory) (k n : ℕ) → slice_get (sizes memory) k ≡ Some n → (b : HeapBlock) × (slice_get memory.blocks k ≡ Some b)
     × (length b.cells ≡ n)
@@ -37,11 +33,6 @@ block_there memory k n e = by_case (slice_get memory.blocks k) refl (sym (slice_
         × (slice_get memory.blocks k ≡ Some b) × (length b.cells ≡ n)
     by_case None h f = absurd (cc)
     by_case (Some b) h f = (b, h, let same : Some (length b.cells) ≡ Some n = f in cc)
-
-get_within : {X : Type 0} (xs : List X) (k : ℕ) → k < length xs → (x : X) × (slice_get xs k ≡ Some x)
-get_within [] k l = absurd (omega (arith, l))
-get_within (x ∷ xs) zero l = (x, refl)
-get_within (x ∷ xs) (suc k) l = get_within xs k (omega (arith, l))
 
 -- ---- addresses
 
@@ -63,7 +54,7 @@ unfolding add_word
 block_address start o low high most = omega (arith, low, high, most)
 
 -- a block ends below the young area's top
-words_end : (bs : List Placed) (k : ℕ) → AllByRecursion IsInHeap bs → k < length bs → start_of bs k + 8 * words_of bs k ≤ 0x38010000
+pub words_end : (bs : List Placed) (k : ℕ) → AllByRecursion IsInHeap bs → k < length bs → start_of bs k + 8 * words_of bs k ≤ 0x38010000
 words_end [] k all l = absurd (omega (arith, l))
 words_end (b ∷ bs) zero all l = all.0.high
 words_end (b ∷ bs) (suc k) all l = words_end bs k all.1 (omega (arith, l))
@@ -115,19 +106,19 @@ module _ (s : Fixed) (placed : List Placed) (m : List Region) (regions : HasRegi
           let head = h.stand.header k b.header i (unheaded_by (is_among (InHeader k) a.unwritten)
           (header_in (slice_get a.memory.blocks k)) b.header written (ap header_in there)) in
           record {
-            is = ap (word m) here ∙ head ∙ sym (ap (λ (c : HeapBlock). c.header) (get_or a.memory.blocks k b (record { header = 0; cells = [] }) there));
+            is = ap (word m) here ∙ head ∙ sym (ap (λ (c : HeapBlock). c.header) (get_or_from_slice_get a.memory.blocks k b (record { header = 0; cells = [] }) there));
             known = tt;
           }
       by_place (suc j) q i near written =
           let here : at ≡ start_of placed k + 8 * j = omega (arith, e, q, even) in
           let within : j < length b.cells = omega (arith, inside, q) in
-          let v = get_within b.cells j within in
+          let v = got b.cells j within in
           let held : (blocks_of a).cell k j ≡ Some v.0 = unwritten_by (is_among (InBlock k j) a.unwritten)
           (cell_in (slice_get a.memory.blocks k) j) v.0 written (ap (λ o. cell_in o j) there ∙ v.1) in
           let size : words_of placed k ≡ length b.cells = h.stand.sizes k i ∙ ap size_in there in
           let value : value_in a.memory (InBlock k j) ≡ v.0 =
-          ap (λ (c : HeapBlock). slice_index_or c.cells j (Word 0)) (get_or a.memory.blocks k b (record { header = 0; cells = [] }) there)
-          ∙ get_or b.cells j v.0 (Word 0) v.1 in
+          ap (λ (c : HeapBlock). slice_index_or c.cells j (Word 0)) (get_or_from_slice_get a.memory.blocks k b (record { header = 0; cells = [] }) there)
+          ∙ get_or_from_slice_get b.cells j v.0 (Word 0) v.1 in
           subst (StandsFor s placed (word m at)) (sym value)
           (record { is = ap (word m) here ∙ h.stand.cell k j v.0 i (omega (arith, within, size)) held; known = h.stand.known k j v.0 i held })
 

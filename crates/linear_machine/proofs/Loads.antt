@@ -50,7 +50,7 @@ whole_width : {k : Chunk} → IsWhole k → width k ≡ 8
 whole_width whole_int = refl
 whole_width whole_val = refl
 
-fit_is : (end : ℕ) (t : Ty) (v z : Value) → of_type end t v ≡ Ok z → v ≡ z
+pub fit_is : (end : ℕ) (t : Ty) (v z : Value) → of_type end t v ≡ Ok z → v ≡ z
 fit_is end t v z e = by_test (fits end t v) e
   where
     by_test : (b : Bool) → cond b (Ok v) (Err (misfit t)) ≡ Ok z → v ≡ z

@@ -1,11 +1,11 @@
 -- The state of a function over a service that moves the blocks.
-use Rattle.std.proofs.Common.{◌≡◌, ℕ, zero, suc, ◌+◌, ◌-◌, ◌*◌, ◌%◌, ◌<◌, ◌≤◌, inl, inr, Bool, true, false, cond, nat_eq, List, [], ◌∷◌, ◌++◌, length, map, reverse, Option, Some, None, slice_get, slice_index, refl, ap, arith, ◌∙◌, sym, subst, ⊎_elim, append-nil}
-use Rattle.std.proofs.lemmas.Bool.{eqb-true}
-use Rattle.std.proofs.lemmas.List.{reverse-append, reverse-reverse}
-use Rattle.bs_words.specs.Memory.{Cell, HeapBlock, InHeader}
+use Rattle.std.proofs.Common.{◌≡◌, ℕ, suc, ◌+◌, ◌-◌, ◌*◌, ◌%◌, ◌<◌, ◌≤◌, inl, inr, Bool, true, false, cond, List, [], ◌∷◌, ◌++◌, length, map, reverse, Option, Some, None, slice_get, slice_index, refl, ap, arith, ◌∙◌, sym, subst, ⊎_elim, append-nil}
+use Rattle.std.proofs.lemmas.List.{reverse-append, reverse-reverse, length-map}
+use Rattle.bs_words.specs.Memory.{HeapBlock, InHeader}
 use Rattle.bs_words.specs.declared.types.Loc.{Loc}
 use Rattle.bs_words.specs.declared.types.Loc.TheVariants as loc
 use Rattle.bs_words.specs.declared.values.Value.{Value}
+use Rattle.bs_words.proofs.Lists.{got}
 use Rattle.image_form.specs.Tables.{Desc}
 use Rattle.lin_ir.specs.Meaning.{Locations, are_vals, poisoned}
 use Rattle.mach_ir.specs.Acts.{Around, is_among, is_complete}
@@ -26,8 +26,8 @@ use Rattle.moving_laws.proofs.Fitting.{val_fits}
 use Rattle.linear_machine.specs.Contents.{blocks_of, header_in, size_in, statics_of}
 use Rattle.linear_machine.specs.Relation.{AreCarried, Below, HeapStands, IsDescribed, IsLocation, Laid, RegistersHold, ReturnStands, StandsFor, Waits, Within, all_of, traps_of, waiting_of}
 use Rattle.linear_machine.specs.View.{Fixed, IsLike, View}
-use Rattle.linear_machine.proofs.Frames.{named_val, own_chain, own_waits, poisoned_named, poisoned_some, val_held}
-use Rattle.linear_machine.proofs.Keeping.{heap_kept, length_map, traps_at_all, traps_kept, waits_kept}
+use Rattle.linear_machine.proofs.Frames.{named_val, own_chain, own_waits, poisoned_named, poisoned_some, val_held, none_left}
+use Rattle.linear_machine.proofs.Keeping.{heap_kept, traps_at_all, traps_kept, waits_kept}
 use Rattle.linear_machine.proofs.Likes.{like_readable, like_regions}
 
 -- ---- the limit word does not matter
@@ -115,18 +115,9 @@ rises_top a (b ∷ bs) r = let q = rises_top (end_of b) bs r.3 in let e = r.0 in
 
 -- ---- a memory in which every block is whole
 
-none_unwritten : (cells : List Cell) → nat_eq (length cells) 0 ≡ true → cells ≡ []
-none_unwritten [] e = refl
-none_unwritten (x ∷ xs) e = let n = eqb-true (length (x ∷ xs)) 0 e in absurd (omega (arith, n))
-
 header_whole : (a : Around) (k : ℕ) (b : HeapBlock) → is_complete a ≡ true → slice_get a.memory.blocks k ≡ Some b → (blocks_of a).header k ≡ Some b.header
-header_whole a k b whole there = ap (λ u. cond (is_among (InHeader k) u) None (header_in (slice_get a.memory.blocks k))) (none_unwritten a.unwritten whole)
+header_whole a k b whole there = ap (λ u. cond (is_among (InHeader k) u) None (header_in (slice_get a.memory.blocks k))) (none_left a.unwritten whole)
     ∙ ap header_in there
-
-block_at : {X : Type 0} (xs : List X) (k : ℕ) → k < length xs → (x : X) × (slice_get xs k ≡ Some x)
-block_at [] k l = absurd (omega (arith, l))
-block_at (x ∷ xs) zero l = (x, refl)
-block_at (x ∷ xs) (suc k) l = block_at xs k (omega (arith, l))
 
 header_one : (b : Bool) (o : Option HeapBlock) (w : ℕ) → cond b None (header_in o) ≡ Some w → (x : HeapBlock) × (o ≡ Some x) × (x.header ≡ w)
 header_one true o w e = absurd (cc)
@@ -139,7 +130,7 @@ pub heads_of : (s : Fixed) (v : View) (young : List Placed) (m : List Region) (a
 heads_of s v young m a whole h =
     heads_young m v.blocks young (heads_by m (v.blocks ++ reverse young)
     (λ k l. let n = h.stand.count in
-    let b = block_at a.memory.blocks k (omega (arith, l, n)) in
+    let b = got a.memory.blocks k (omega (arith, l, n)) in
     ap cells_of (h.stand.header k b.0.header l (header_whole a k b.0 whole b.1)) ∙ h.heads k b.0 b.1 ∙ sym (h.stand.sizes k l ∙ ap size_in b.1)))
 
 -- ---- before the service
@@ -175,7 +166,7 @@ module _ (s : Fixed) (laid : Laid) (v : View) (young : List Placed) (taken : ℕ
   count_is = within.heap.stand.count
 
   header_there : (k : ℕ) → k < length (all_of v young) → (b : HeapBlock) × (slice_get a.memory.blocks k ≡ Some b)
-  header_there k l = let n = count_is in block_at a.memory.blocks k (omega (arith, l, n))
+  header_there k l = let n = count_is in got a.memory.blocks k (omega (arith, l, n))
 
   pub knows_of : (h : Hart) → Knows (v.blocks ++ reverse young) (hart_of s v h) (own_frame_of ∷ c.frames) contents (code_start + 4 * v.place + 4)
   knows_of h =
@@ -258,7 +249,7 @@ module _ (s : Fixed) (laid : Laid) (v : View) (young : List Placed) (taken : ℕ
     pub within_after : Within s laid view_after [] taken (poisoned named held) a c
     within_after =
         let k = again.knows in
-        let n = length_map laid.handler a.tries in
+        let n = length-map a.tries laid.handler in
         let e2 : slice_index new.registers 2 ≡ slice_index v.registers 2 = again.others 2 (λ q. omega (arith, q))
         (λ i. let p = (named_location 2 i).some in omega (arith, p)) in
         let e9 : slice_index new.registers 9 ≡ slice_index v.registers 9 = again.others 9 (λ q. omega (arith, q)) (λ i. (named_location 9 i).no_trap refl) in

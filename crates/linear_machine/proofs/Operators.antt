@@ -24,7 +24,7 @@ use Rattle.moving_laws.proofs.Rewriting.{start_inside}
 use Rattle.linear_machine.specs.Relation.{StandsFor}
 use Rattle.linear_machine.specs.View.{Fixed}
 
-ok_is : (x z : Value) → ◌≡◌ {A = Result Value Kind} (Ok x) (Ok z) → x ≡ z
+pub ok_is : (x z : Value) → ◌≡◌ {A = Result Value Kind} (Ok x) (Ok z) → x ≡ z
 ok_is x z e = cc
 
 -- the row does what the operator does, wherever the blocks lie

@@ -22,6 +22,7 @@ use Rattle.lin_ir.specs.declared.lin.Lin.{Lin}
 use Rattle.lin_ir.specs.declared.lin.Line.{Line}
 use Rattle.lin_ir.specs.declared.lin.Spot.{Spot}
 use Rattle.moving_laws.specs.Stands.{Among}
+use Rattle.lin_laws.proofs.Forms.{same_machine}
 use Rattle.linear_machine.specs.Follows.{Agrees, FollowsStep}
 use Rattle.linear_machine.specs.Relation.{Below, Laid, StandsFor, Within, all_of}
 use Rattle.linear_machine.specs.Straight.{Changes, Comes}
@@ -31,7 +32,7 @@ use Rattle.linear_machine.proofs.Operating.{IsTarget, binary, unary, worked}
 use Rattle.linear_machine.proofs.Parts.{Fetches, Keeps, comes_here}
 use Rattle.linear_machine.proofs.Reading.{reads_one, reads_two}
 use Rattle.linear_machine.proofs.Sequences.{widened}
-use Rattle.linear_machine.proofs.Standing.{IsScratch, same_machine, within_less}
+use Rattle.linear_machine.proofs.Standing.{IsScratch, within_less}
 use Rattle.moving_laws.proofs.Words.{same_or_not}
 
 -- a location that is read holds in the machine what it holds in the file

@@ -23,7 +23,7 @@ use Rattle.linear_machine.specs.Relation.{StandsFor}
 use Rattle.linear_machine.specs.Straight.{Changes}
 use Rattle.linear_machine.specs.View.{Fixed, View, IsCode}
 use Rattle.linear_machine.proofs.Formats.{sets_imm, sets_op, sets_shift}
-use Rattle.linear_machine.proofs.Immediates.{high_12, low_12}
+use Rattle.machine_laws.proofs.Immediates.{high_12, low_12}
 use Rattle.linear_machine.proofs.Operators.{IsRowOf}
 use Rattle.linear_machine.proofs.Sequences.{set_changes, sets_as, widened}
 use Rattle.linear_machine.proofs.Steps.{SetsRegister}

@@ -1,5 +1,5 @@
 -- The services that move the blocks, from their ECALL on, under every schedule.
-use Rattle.std.proofs.Common.{◌≡◌, ℕ, ◌+◌, ◌*◌, ◌^◌, ◌<◌, ◌≤◌, inl, inr, true, List, [], ◌++◌, length, reverse, Some, None, slice_index, refl, ap, arith, ◌∙◌, subst, ⊎_elim, mod-eq_of_lt}
+use Rattle.std.proofs.Common.{◌≡◌, ℕ, ◌+◌, ◌*◌, ◌<◌, ◌≤◌, inl, inr, true, List, [], ◌++◌, length, reverse, Some, None, slice_index, refl, ap, arith, ◌∙◌, subst, ⊎_elim, mod-eq_of_lt}
 use Rattle.std.proofs.lemmas.Bool.{cases_lt}
 use Rattle.bs_words.specs.Word.{add_word}
 use Rattle.bs_words.specs.declared.types.Loc.{Loc}
@@ -20,6 +20,7 @@ use Rattle.rv_machine.specs.Relocation.{Goes, NoHeap}
 use Rattle.rv_machine.specs.Services.{Going, HeapOut, Machine, Over, after_allocation, served}
 use Rattle.moving_laws.specs.Service.{IsAllocated, IsCollected, IsRestored}
 use Rattle.moving_laws.proofs.Moving.{allocates, allocates_not, collects, collects_not}
+use Rattle.moving_laws.proofs.Walk.{sum_small}
 use Rattle.linear_machine.specs.Arrival.{Arrives, Needs}
 use Rattle.linear_machine.specs.Relation.{Below, IsDescribed, Laid, Within}
 use Rattle.linear_machine.specs.View.{Ends, Fixed, IsCode, Stands, View}
@@ -65,9 +66,8 @@ hart_is s a v st =
     ap (λ x. record h { image = s.image; registers = v.registers; pc = code_start + 4 * v.place; stack_base = s.base; heap = s.heap; blocks = x }) st.blocks in
     e1 ∙ e2 ∙ e3 ∙ e4 ∙ e5 ∙ e6
 
-taken_back : (a t : ℕ) → a + t < 2 ^ 64 → add_word a t ≡ a + t
 unfolding add_word
-taken_back a t l = mod-eq_of_lt l
+sum_small a t l = mod-eq_of_lt l
 
 module _ (s : Fixed) (laid : Laid) (v : View) (young : List Placed) (taken : ℕ) (held : Locations) (a : Around) (c : Below)
     (within : Within s laid v young taken held a c)
@@ -95,7 +95,7 @@ module _ (s : Fixed) (laid : Laid) (v : View) (young : List Placed) (taken : ℕ
     from_is : (h : Hart) → young_from (hart_of s v h) ≡ slice_index v.registers 26 + taken
     from_is h =
         let top = rises_top (slice_index v.registers 26 + taken) young within.own.rises in
-        ap (add_word (slice_index v.registers 26)) asked ∙ taken_back (slice_index v.registers 26) taken (omega (arith, top))
+        ap (add_word (slice_index v.registers 26)) asked ∙ sum_small (slice_index v.registers 26) taken (omega (arith, top))
 
     allocation : (b : Machine) (st : Stands s b v) → bytes_used (v.blocks ++ reverse young) ≤ s.heap →
         IsAllocated (s.schedule.plan b.hart.services) (hart_of s (with_memory v b.hart) b.hart) (record { at = slice_index v.registers 2; desc = d }) c.frames

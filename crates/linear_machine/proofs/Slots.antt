@@ -16,7 +16,7 @@ use Rattle.moving_laws.specs.Words.{IsReadable}
 use Rattle.linear_machine.specs.Straight.{Changes, IsPast}
 use Rattle.linear_machine.specs.View.{Fixed, View, HasCode, IsCode}
 use Rattle.linear_machine.proofs.Formats.{sets_load, sets_lui, sets_op}
-use Rattle.linear_machine.proofs.Immediates.{Extended, by_12, by_20, low_12, up}
+use Rattle.machine_laws.proofs.Immediates.{Extended, by_12, by_20, low_12, up}
 use Rattle.linear_machine.proofs.Sequences.{code_past, set_changes, set_then, sets_as, store_changes, then_changes, widened}
 use Rattle.linear_machine.proofs.Steps.{SetsRegister, reg}
 

@@ -1,5 +1,6 @@
 -- A slot is written.
 use Rattle.std.proofs.Common.{◌≡◌, ℕ, ◌+◌, ◌-◌, ◌*◌, ◌%◌, ◌^◌, ◌<◌, ◌≤◌, Bool, true, false, cond, List, length, map, Option, Some, None, slice_index, refl, ap, arith, ◌∙◌, sym, subst, ⊎_elim}
+use Rattle.std.proofs.lemmas.List.{length-map}
 use Rattle.bs_words.specs.declared.types.Loc.{Loc}
 use Rattle.bs_words.specs.declared.types.Loc.TheVariants as loc
 use Rattle.bs_words.specs.declared.values.Value.{Value}
@@ -13,12 +14,13 @@ use Rattle.moving_laws.specs.Words.{IsReadable}
 use Rattle.moving_laws.proofs.Held.{held_other}
 use Rattle.moving_laws.proofs.Usable.{formed_regions, stack_readable}
 use Rattle.moving_laws.proofs.Words.{readable_write, word_same}
+use Rattle.lin_laws.proofs.Forms.{same_slot}
 use Rattle.linear_machine.specs.Files.{IsPut}
 use Rattle.linear_machine.specs.Relation.{AreCarried, Below, Laid, ReturnStands, StandsFor, Within, all_of}
 use Rattle.linear_machine.specs.Straight.{IsPast}
 use Rattle.linear_machine.specs.View.{Fixed, View}
-use Rattle.linear_machine.proofs.Keeping.{heap_kept, length_map, traps_at_all, traps_kept, waits_kept}
-use Rattle.linear_machine.proofs.Standing.{AreScratch, same_slot, within_past}
+use Rattle.linear_machine.proofs.Keeping.{heap_kept, traps_at_all, traps_kept, waits_kept}
+use Rattle.linear_machine.proofs.Standing.{AreScratch, within_past}
 
 module _ (s : Fixed) (laid : Laid) (v : View) (young : List Placed) (taken : ℕ) (file : Loc → Option Value) (a : Around) (c : Below)
     (within : Within s laid v young taken file a c) where
@@ -80,7 +82,7 @@ module _ (s : Fixed) (laid : Laid) (v : View) (young : List Placed) (taken : ℕ
       let hi = there.high in
       let above = there.above in
       let bh = base_high in
-      let n = length_map laid.handler a.tries in
+      let n = length-map a.tries laid.handler in
       record {
         own = within.own;
         usable = record {

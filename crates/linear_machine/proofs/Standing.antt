@@ -12,6 +12,7 @@ use Rattle.rv_machine.specs.Sound.{AreRegisters, HasRegions, extents}
 use Rattle.moving_laws.specs.Stands.{Among}
 use Rattle.moving_laws.specs.Waiting.{traps_at}
 use Rattle.moving_laws.specs.Young.{Rises}
+use Rattle.lin_laws.proofs.Forms.{same_machine}
 use Rattle.linear_machine.specs.Files.{HoldsLess, IsPut}
 use Rattle.linear_machine.specs.Relation.{AreCarried, Below, HeapStands, IsLocation, Laid, OwnRegisters, RegistersHold, ReturnStands, SlotsHold, StandsFor, TrapsStand, Waits, Within, all_of}
 use Rattle.linear_machine.specs.Straight.{IsPast}
@@ -160,12 +161,6 @@ within_less s laid v young taken file file' a c less w = record {
 }
 
 -- ---- with one more register in it
-
-pub same_machine : (q r : ℕ) → loc.Machine q ≡ loc.Machine r → q ≡ r
-same_machine q r e = cc
-
-pub same_slot : (j k : ℕ) → loc.Slot j ≡ loc.Slot k → j ≡ k
-same_slot j k e = cc
 
 module _ (s : Fixed) (laid : Laid) (v : View) (young : List Placed) (taken : ℕ) (held held' : Loc → Option Value) (a : Around) (c : Below)
     (r : ℕ) (x : Value) (is : IsLocation r) (none : a.raised ≡ None) (stands : StandsFor s (all_of v young) (slice_index v.registers r) x)

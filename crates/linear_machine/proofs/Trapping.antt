@@ -1,6 +1,7 @@
 -- A try is pushed and popped, and a raise takes the innermost one, as far as registers and memory
 -- say.
 use Rattle.std.proofs.Common.{◌≡◌, ◌≢◌, ℕ, suc, ◌+◌, ◌-◌, ◌*◌, ◌%◌, ◌<◌, ◌≤◌, Bool, true, false, cond, List, [], ◌∷◌, ◌++◌, length, map, Option, Some, None, slice_index, refl, ap, arith, ◌∙◌, sym, subst, ⊎_elim}
+use Rattle.std.proofs.lemmas.List.{length-map}
 use Rattle.bs_words.specs.declared.types.Loc.TheVariants as loc
 use Rattle.bs_words.specs.declared.values.Value.{Value}
 use Rattle.lin_ir.specs.Meaning.{Locations}
@@ -21,7 +22,7 @@ use Rattle.linear_machine.specs.Relation.{AreCarried, Below, HeapStands, Laid, R
 use Rattle.linear_machine.specs.Straight.{Differs}
 use Rattle.linear_machine.specs.View.{Fixed, View}
 use Rattle.linear_machine.proofs.Frames.{heap_around, heap_whole}
-use Rattle.linear_machine.proofs.Keeping.{heap_kept, length_map, traps_at_all, traps_kept, waits_kept}
+use Rattle.linear_machine.proofs.Keeping.{heap_kept, traps_at_all, traps_kept, waits_kept}
 use Rattle.linear_machine.proofs.Standing.{own_past}
 use Rattle.linear_machine.proofs.Turning.{placed_past, usable_past}
 
@@ -134,7 +135,7 @@ module _ (s : Fixed) (laid : Laid) (v w : View) (young : List Placed) (held : Lo
         let f = within.frame in
         let hi = sp_high in
         let ev = sp_even in
-        let n = length_map laid.handler a.tries in
+        let n = length-map a.tries laid.handler in
         let back16 : slice_index v.registers 2 - 16 + 16 ≡ slice_index v.registers 2 = omega (arith, fits) in
         let s1_low : s.base ≤ slice_index v.registers 9 =
         trap_low s.base v.memory (slice_index v.registers 9)

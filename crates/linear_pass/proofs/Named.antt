@@ -1,5 +1,5 @@
 -- What descriptors can name: colours and slots, each once.
-use Rattle.std.proofs.Common.{◌≡◌, ℕ, zero, suc, ◌+◌, ◌*◌, ◌%◌, ◌<◌, ◌≤◌, ⊎_elim, List, [], ◌∷◌, ◌++◌, map, length, All, refl, ap, ◌∙◌, subst, arith}
+use Rattle.std.proofs.Common.{◌≡◌, ℕ, zero, suc, ◌+◌, ◌*◌, ◌<◌, ◌≤◌, ⊎_elim, List, [], ◌∷◌, ◌++◌, map, length, All, refl, ap, ◌∙◌, subst, arith}
 use Rattle.std.proofs.lemmas.Bool.{cases_lt}
 use Rattle.std.proofs.lemmas.List.{length-append}
 use Rattle.std.specs.List.{AllPairs}
@@ -7,18 +7,20 @@ use Rattle.std.specs.Prelude.{slice_index_or}
 use Rattle.bs_words.specs.declared.types.Comp.{Comp}
 use Rattle.bs_words.specs.declared.types.Loc.{Loc}
 use Rattle.bs_words.specs.declared.types.Loc.TheVariants as loc
+use Rattle.bs_words.proofs.Lists.{pairs_here, pairs_later}
 use Rattle.mach_ir.specs.Placed.{colours}
-use Rattle.lin_ir.specs.Descriptors.{IsEntry, of_register, of_slot, ComesBefore, register_first, rising, Describes, AreExact}
+use Rattle.lin_ir.specs.Descriptors.{IsEntry, of_register, of_slot, ComesBefore, Describes, AreExact}
 use Rattle.lin_ir.specs.Formed.{IsHome, is_colour, is_slot, spare}
 use Rattle.lin_ir.specs.Walks.{Stands, LiveAt}
 use Rattle.lin_ir.specs.declared.descr.Descr.{Descr}
 use Rattle.lin_ir.specs.declared.lin.Line.{Line}
 use Rattle.lin_ir.specs.declared.lin.Lin.{Lin}
 use Rattle.linear_rules.proofs.Homes.{IsIn, is_first, is_later, in_of, contains_of}
-use Rattle.linear_rules.proofs.Marks.{all_in, pairs_here, pairs_later}
+use Rattle.linear_rules.proofs.Marks.{all_in}
 use Rattle.linear_rules.proofs.Walked.{not_spare}
 use Rattle.tidy_rules.specs.Regular.{AtHomes}
 use Rattle.tidy_rules.proofs.Living.{live_home}
+use Rattle.lin_laws.proofs.Forms.{not_before}
 use Rattle.linear_pass.specs.Linear.{NamesHomes}
 
 -- ---- a list that rises within another is no longer
@@ -41,13 +43,6 @@ without_one : {x : ℕ} {ys : List ℕ} → IsIn x ys → Without x ys
 without_one {x} (is_first {xs = xs}) = record { others = xs; len = refl; left = first_left x xs }
 without_one {x} (is_later {y = y} {xs = xs} i) =
     let w = without_one i in record { others = y ∷ w.others; len = ap suc w.len; left = later_left x y xs w.others w.left }
-
-not_before : (a : ℕ) → ComesBefore a a → ⊥
-not_before a (register_first one two) = apart (a % 2) one two
-  where
-    apart : (k : ℕ) → k ≡ 1 → k ≡ 0 → ⊥
-    apart k e f = omega (arith, e, f)
-not_before a (rising same lt) = omega (arith, lt)
 
 no_longer : (xs ys : List ℕ) → AllPairs ComesBefore xs → ((x : ℕ) → IsIn x xs → IsIn x ys) → length xs ≤ length ys
 no_longer [] ys order all = omega arith

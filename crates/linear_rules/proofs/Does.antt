@@ -1,7 +1,8 @@
 -- The lines do what the Mach code does, and read no poison.
 use Rattle.std.proofs.Common.{◌≡◌, ◌≢◌, ℕ, zero, suc, Bool, true, false, cond, ◌⊎◌, inl, inr, ⊎_elim, List, [], ◌∷◌, map, Option, Some, None, nat_eq, refl, sym, ap, ◌∙◌, subst}
-use Rattle.std.proofs.lemmas.Bool.{true≢false, eq-eqb, eqb-true}
+use Rattle.std.proofs.lemmas.Bool.{true≢false, eq-eqb, eqb-true, eqb-false}
 use Rattle.std.specs.List.{Contains}
+use Rattle.std.proofs.lemmas.Option.{none-some, same_Some}
 use Rattle.bs_words.specs.Fits.{fits, type_of_comp}
 use Rattle.bs_words.specs.Memory.{Memory, sizes}
 use Rattle.bs_words.specs.declared.types.Comp.{Comp}
@@ -9,6 +10,7 @@ use Rattle.bs_words.specs.declared.types.Comp.TheVariants as comp
 use Rattle.bs_words.specs.declared.types.Loc.{Loc}
 use Rattle.bs_words.specs.declared.types.Loc.TheVariants as loc
 use Rattle.bs_words.specs.declared.values.Value.{Value}
+use Rattle.bs_words.proofs.Lists.{none_in, pairs_here, pairs_later, head_same, tail_same}
 use Rattle.cmm_meaning.specs.Setting.{Setting}
 use Rattle.cmm_meaning.specs.State.{Doing, Callee}
 use Rattle.mach_ir.specs.Acts.{Around, Target, On, At, AtLabel, AtHandler, Act, Goes, Pushes, Jumps, Unwinds, Asks, Replaces, Ends, EndsRaising, Stuck, drop_tries, truth_of, branches}
@@ -30,9 +32,12 @@ use Rattle.mach_ir.specs.declared.mach.Instr.{Instr}
 use Rattle.mach_ir.specs.declared.mach.Mach.{Mach}
 use Rattle.mach_ir.proofs.Keeping.{level, level_trail}
 use Rattle.mach_laws.specs.Expand.{Ending, all}
-use Rattle.mach_laws.proofs.Places.{ending_next, ending_from_handler}
+use Rattle.mach_laws.proofs.Places.{ending_next, ending_from_handler, stands_of}
 use Rattle.mach_laws.proofs.Simulate.{Agrees}
-use Rattle.mach_laws.proofs.Walking.{ending_at, none_in}
+use Rattle.mach_laws.proofs.Walking.{ending_at}
+use Rattle.mach_laws.proofs.Among.{left_among, right_among, split_among}
+use Rattle.mach_laws.proofs.Instructions.{instr}
+use Rattle.mach_laws.proofs.Files.{put_of, PutAll, nil, cons}
 use Rattle.lin_ir.specs.Meaning as lines
 use Rattle.lin_ir.specs.Meaning.{Locations, is_val}
 use Rattle.lin_ir.specs.Walks as walks
@@ -42,23 +47,18 @@ use Rattle.lin_ir.specs.declared.lin.LinOp.TheVariants as lin
 use Rattle.lin_ir.specs.declared.lin.Line.{Line}
 use Rattle.lin_ir.specs.declared.lin.Lin.{Lin}
 use Rattle.lin_ir.specs.declared.lin.Spot.{Spot}
+use Rattle.lin_laws.proofs.Forms.{not_slot}
 use Rattle.linear_rules.specs.Kept as kept
 use Rattle.linear_rules.specs.Kept.{ValsHeld, Begins}
 use Rattle.linear_rules.specs.Lowered.{home, spots, is_idle, line_of, bare, pops, lines_of, lowered_code}
-use Rattle.linear_rules.proofs.Homes.{IsIn, is_first, is_later, in_of, contains_of, in_among, number_in, left_among, right_among, PutAll, nil, cons, put_of, Pair, pair_in, Once, once_none, once_more, held_none, held_same, values_none, pair_held, single, clear_keeps, past_some, machine_of, one_at, killed_has, in_spots, spot_of, Typed, puts_at, typed_put, reads_all}
-use Rattle.linear_rules.proofs.Marks.{all_in, pairs_here, pairs_later, in_ending, stands_of, args_in_code, results_in_code, instr, AsLine, op_line, if_line, switch_line, try_line, handler_line, is_bare, IsIdle, idles, idle_of, bare_empty, EntryOf, entry_of}
+use Rattle.linear_rules.proofs.Homes.{IsIn, is_first, is_later, in_of, contains_of, in_among, number_in, Pair, pair_in, Once, once_none, once_more, values_none, pair_held, single, clear_keeps, past_some, machine_of, one_at, killed_has, in_spots, spot_of, Typed, puts_at, typed_put, reads_all, in_map}
+use Rattle.linear_rules.proofs.Marks.{all_in, in_ending, args_in_code, results_in_code, AsLine, op_line, if_line, switch_line, try_line, handler_line, is_bare, IsIdle, idles, idle_of, bare_empty, EntryOf, entry_of}
 use Rattle.linear_rules.proofs.Places.{drop_more}
 use Rattle.linear_rules.proofs.Opposite.{truth_opposite, branch_opposite}
-use Rattle.linear_rules.proofs.Standing.{split_among, same_targets, same_raises, same_destroyed, q, formed_at, label_of, label_q, at_target, handler_of, marked}
+use Rattle.linear_rules.proofs.Standing.{same_targets, same_raises, same_destroyed, q, formed_at, label_of, label_q, at_target, handler_of, marked}
 use Rattle.linear_rules.proofs.Meeting.{bare_writes, traps_to, traps_on, IsMetAcross, met_across}
 use Rattle.linear_rules.proofs.Simulate.{Arrives, both_continue, both_pay, both_deepen, both_wait, both_finish_by, both_finish, both_finish_raising, first_stuck, goes_alone, Closed, simulates}
-use Rattle.linear_rules.proofs.Turns.{Turns, goes_in, exits_in, jumps_in, unwinds_in, pushes_in, asks_in, tries_on, raised_on, IsTry, is_try, IsExit, turns}
-
-first_same : (i j : Line) (is js : List Line) → i ∷ is ≡ j ∷ js → i ≡ j
-first_same i j is js e = cc
-
-rest_same : (i j : Line) (is js : List Line) → i ∷ is ≡ j ∷ js → is ≡ js
-rest_same i j is js e = cc
+use Rattle.mach_laws.proofs.Turns.{Turns, goes_in, exits_in, jumps_in, unwinds_in, pushes_in, asks_in, tries_on, raised_on, IsTry, is_try, IsExit, turns}
 
 -- no value is asked for where a line is no frame point
 calm_at : (c : Place) (m : Lin) (j : Line) (ys : List Line) (b : Locations) (around : Around) → lines.passes_frame j.op ≡ false →
@@ -66,7 +66,7 @@ calm_at : (c : Place) (m : Lin) (j : Line) (ys : List Line) (b : Locations) (aro
 calm_at c m j ys b around e =
     record {
       held = λ k ks same frame l w.
-          absurd (true≢false (sym frame ∙ ap (λ (x : Line). lines.passes_frame x.op) (sym (first_same j k ys ks same)) ∙ e));
+          absurd (true≢false (sym frame ∙ ap (λ (x : Line). lines.passes_frame x.op) (sym (head_same same)) ∙ e));
     }
 
 -- ---- what is the same of a line of its own
@@ -177,16 +177,6 @@ not_unset r (in_slot e) u = out r.origin (sym e ∙ u)
     out : (n : ℕ) → loc.Slot n ≡ loc.Unset → ⊥
     out n e = cc
 
-not_slot : (m k : ℕ) → loc.Machine m ≡ loc.Slot k → ⊥
-not_slot m k e = cc
-
-differ_of : (k n : ℕ) → nat_eq k n ≡ false → k ≢ n
-differ_of k n e u = true≢false (sym (eq-eqb k n u) ∙ e)
-
-in_map : {A B : Type 0} (f : A → B) {x : A} {xs : List A} → IsIn x xs → IsIn (f x) (map f xs)
-in_map f is_first = is_first
-in_map f (is_later i) = is_later (in_map f i)
-
 record FromMap {A B : Type 0} (f : A → B) (y : B) (xs : List A) : Type 0 where
   from : A
   inside : IsIn from xs
@@ -265,7 +255,7 @@ module _ (c : Place) (number : ℕ → ℕ) (slots : ℕ) (p : Mach) (well : Wel
       joined : (IsMove k.number r.number i → ⊥) → Shares i k r
       joined out =
           let at : r.loc ≡ k.loc = apart r k ri ki same in
-          let y = full.well.agree.apart r k ri ki (one_way (differ_of r.number k.number ne) (at_write i next (stands_of e) w (after_step (goes t o) v) out)) (not_unset r (placed r ri)) at in
+          let y = full.well.agree.apart r k ri ki (one_way (eqb-false r.number k.number ne) (at_write i next (stands_of e) w (after_step (goes t o) v) out)) (not_unset r (placed r ri)) at in
           one_slot y.0 (sym at ∙ y.1)
 
   -- ---- one line with the operands and results of its instruction
@@ -315,8 +305,8 @@ module _ (c : Place) (number : ℕ → ℕ) (slots : ℕ) (p : Mach) (well : Wel
 
           first_line : (k : Line) (ks : List Line) → j ∷ ys ≡ k ∷ ks → lines.passes_frame k.op ≡ true → (l : Loc) → walks.LiveAcross Q l comp.Val k ks around.tries → is_val end (b l) ≡ true
           first_line k ks same frame l w =
-              let head : j ≡ k = first_same j k ys ks same in
-              let tail : ys ≡ ks = rest_same j k ys ks same in
+              let head : j ≡ k = head_same same in
+              let tail : ys ≡ ks = tail_same same in
               let w' : walks.LiveAcross Q l comp.Val j ys around.tries =
               subst (λ x. walks.LiveAcross Q l comp.Val x ys around.tries) (sym head) (subst (λ xs. walks.LiveAcross Q l comp.Val k xs around.tries) (sym tail) w) in
               by (ap (λ (x : Line). lines.passes_frame x.op) head ∙ frame) l w' (met_across number slots p well full f ending z tries w')
@@ -349,7 +339,7 @@ module _ (c : Place) (number : ℕ → ℕ) (slots : ℕ) (p : Mach) (well : Wel
 
                   kill : Among r.number (killed p i) → (t' : Bool) → nat_eq r.number k.number ≡ t' → ⊥
                   kill w true s' = unkilled (subst (λ m. Among m (killed p i)) (eqb-true r.number k.number s') w)
-                  kill w false s' = shared (share_of ending t o r k (is_colour (contains_of inside)) ki (right_among i.results w) v s' (ap (home number) here))
+                  kill w false s' = shared (share_of ending t o r k (is_colour (contains_of inside)) ki (right_among i.results _ w) v s' (ap (home number) here))
 
                   three : (t' : Bool) → is_at_one_of r.loc i.results ≡ t' → ⊥
                   three true s' = let y = one_at r.loc i.results s' in nowhere y.reg y.inside (ap (home number) (sym y.same ∙ here))
@@ -378,7 +368,7 @@ module _ (c : Place) (number : ℕ → ℕ) (slots : ℕ) (p : Mach) (well : Wel
           (subst (walks.Reached Q (lines.code_at Q.code ys to)) (sym t) (walks.by_step reached (walks.goes to (subst (OneOf to) (sym (same_targets z)) o))))
           (typed_put number p end well.numbers placed puts (results_are ending) cleared)
           (λ k ki x v u e. y.at k ki x e
-          (λ r v' pair ne same. share k ki x r v' v e pair ne agree (share_of ending to o r k (results_are ending r (pair_in pair)) ki (left_among (killed p i) (in_among (pair_in pair))) v ne same))
+          (λ r v' pair ne same. share k ki x r v' v e pair ne agree (share_of ending to o r k (results_are ending r (pair_in pair)) ki (left_among _ (killed p i) (in_among (pair_in pair))) v ne same))
           (λ free nowhere e'. kept k ki x v (subst (walks.Live Q (home number k.loc) k.comp (lines.code_at Q.code ys to)) t u) free nowhere e'))
           (λ w. none)))
         where
@@ -396,7 +386,7 @@ module _ (c : Place) (number : ℕ → ℕ) (slots : ℕ) (p : Mach) (well : Wel
               Known (at_file (code_at p.code next to) d after) → Shares i k r → v ≡ x.value
           share k ki x r v live e pair ne agree (one_slot same slot) =
               agree.agree r k (results_are ending r (pair_in pair)) ki same
-              (inr (subst (λ o. Among r.number (wrote_unless o (written p i))) (sym none) (left_among (killed p i) (in_among (pair_in pair))))) (inl live)
+              (inr (subst (λ o. Among r.number (wrote_unless o (written p i))) (sym none) (left_among _ (killed p i) (in_among (pair_in pair))))) (inl live)
               (record { comp = r.comp; value = v }) x (pair_held puts (once_of i.results (all_in (λ (i : Instr). AreDistinct i.results) well.distinct (in_ending ending))) r v pair) e
           share k ki x r v live e pair ne agree (moved m) = by (copied k.number m)
             where
@@ -404,7 +394,7 @@ module _ (c : Place) (number : ℕ → ℕ) (slots : ℕ) (p : Mach) (well : Wel
               by h =
                   let s = single h.0.value puts h.2 r v pair k.number ne in
                   let old = (clear_keeps (killed p i) a' k.number x (sym s.1 ∙ e)).0 in
-                  s.0 ∙ ap (λ (k : Held). k.value) (held_same h.0 x (sym h.1 ∙ old))
+                  s.0 ∙ ap (λ (k : Held). k.value) (same_Some h.0 x (sym h.1 ∙ old))
 
           kept : (k : Reg) → IsRegister p k → (x : Held) → Live p k.number (code_at p.code next to) → walks.Live Q (home number k.loc) k.comp (lines.code_at Q.code ys to) (walks.tries_after f around.tries) →
               (Among k.number i.results → ⊥) → ((r : Reg) → IsIn r i.results → home number r.loc ≡ home number k.loc → ⊥) →
@@ -743,7 +733,7 @@ module _ (c : Place) (number : ℕ → ℕ) (slots : ℕ) (p : Mach) (well : Wel
             let comps : x.comp ≡ k.comp = type ∙ ap (λ (k : Reg). k.comp) m in
             ap b (sym place)
             ∙ rel x arg h (read (first refl)) (subst (λ l. walks.Live Q l x.comp (L next) around.tries) (sym place) (subst (λ t. walks.Live Q (home number k.loc) t (L next) around.tries) (sym comps) u)) s
-            ∙ ap (λ (z : Held). Some z.value) (held_same (record { comp = d.comp; value = h.value }) y e)
+            ∙ ap (λ (z : Held). Some z.value) (same_Some (record { comp = d.comp; value = h.value }) y e)
         kept h s k ki y v u false t e = rel k ki y (mach_walks.on (λ w. out w) (goes On this) v) u e
           where
             out : Among k.number (d ∷ []) → ⊥
@@ -814,7 +804,7 @@ module _ (c : Place) (number : ℕ → ℕ) (slots : ℕ) (p : Mach) (well : Wel
     trails_of x y e = subst (Trails x) e (level_trail x)
 
     begun_with : {rs : List Reg} {vs : List Value} {d : File} → PutAll end (λ n. None) rs vs d → (n : ℕ) (x : Held) → d n ≡ Some x → Among n rs
-    begun_with nil n x e = absurd (held_none x e)
+    begun_with nil n x e = absurd (none-some x e)
     begun_with (cons {r = r} {v = v} {rs = rs} {d = d} fit ps) n x e = by (nat_eq r.number n) refl e (λ u. begun_with ps n x u)
       where
         by : (t : Bool) → nat_eq r.number n ≡ t → cond t (Some (record { comp = r.comp; value = v })) (d n) ≡ Some x → (d n ≡ Some x → Among n rs) → Among n (r ∷ rs)
@@ -828,12 +818,12 @@ module _ (c : Place) (number : ℕ → ℕ) (slots : ℕ) (p : Mach) (well : Wel
     params_apart : (r k : Reg) → IsIn r p.params → IsRegister p k → Among k.number p.params → Live p k.number p.code → nat_eq r.number k.number ≡ false → home number r.loc ≡ home number k.loc → ⊥
     params_apart r k z ki w v ne same =
         let at : r.loc ≡ k.loc = apart r k (params_are r z) ki same in
-        let y = full.well.agree.apart r k (params_are r z) ki (one_way (differ_of r.number k.number ne) (at_params (in_among z) v)) (not_unset r (placed r (params_are r z))) at in
+        let y = full.well.agree.apart r k (params_are r z) ki (one_way (eqb-false r.number k.number ne) (at_params (in_among z) v)) (not_unset r (placed r (params_are r z))) at in
         let h = number_in w in
         let is_k : h.reg ≡ k = well.numbers h.reg k (params_are h.reg h.inside) ki h.same in
         let own : r.origin ≡ r.number = all_in (λ (r : Reg). r.origin ≡ r.number) well.params z in
         let own_k : h.reg.origin ≡ h.reg.number = all_in (λ (r : Reg). r.origin ≡ r.number) well.params h.inside in
-        differ_of r.number k.number ne (sym own ∙ y.0 ∙ ap (λ (k : Reg). k.origin) (sym is_k) ∙ own_k ∙ h.same)
+        eqb-false r.number k.number ne (sym own ∙ y.0 ∙ ap (λ (k : Reg). k.origin) (sym is_k) ∙ own_k ∙ h.same)
 
     pub begins : (arguments : List Value) (memory : Memory) (doings : List Doing) (s : State) → start c p arguments memory ≡ Some s → Begins c p Q arguments memory doings s
     begins arguments memory doings s is = by (put_all end p.params arguments (λ n. None)) refl is
@@ -850,9 +840,9 @@ module _ (c : Place) (number : ℕ → ℕ) (slots : ℕ) (p : Mach) (well : Wel
             let puts = put_of end p.params arguments (λ n. None) a e in
             let y = puts_at number p end well.numbers placed (λ l. None) puts params_are in
             let r : Related (at_file p.code a (entered memory)) (at_lines Q.code y.file (entered memory)) =
-            related all (whole refl) (sym well.nested.at_entry) walks.at_entry (typed_put number p end well.numbers placed puts params_are (λ r ri x e. absurd (held_none x e)))
+            related all (whole refl) (sym well.nested.at_entry) walks.at_entry (typed_put number p end well.numbers placed puts params_are (λ r ri x e. absurd (none-some x e)))
             (λ k ki x v w e. y.at k ki x e
-            (λ r v' pair ne same. absurd (params_apart r k (pair_in pair) ki (begun_with puts k.number x e) v ne same)) (λ free nowhere e. absurd (held_none x e)))
+            (λ r v' pair ne same. absurd (params_apart r k (pair_in pair) ki (begun_with puts k.number x e) v ne same)) (λ free nowhere e. absurd (none-some x e)))
             (λ w. refl) in
             subst (Begins c p Q arguments memory doings) (same_state (at_file p.code a (entered memory)) s g)
             (record {

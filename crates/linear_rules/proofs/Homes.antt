@@ -1,7 +1,8 @@
 -- Writes and reads of registers, and of the places where they stand.
-use Rattle.std.proofs.Common.{◌≡◌, ℕ, Bool, true, false, cond, not, ◌&&◌, ◌||◌, ⊎_elim, List, [], ◌∷◌, ◌++◌, Option, Some, None, nat_eq, refl, sym, ap, ◌∙◌, subst}
-use Rattle.std.proofs.lemmas.Bool.{true≢false, eq-eqb, eqb-true}
+use Rattle.std.proofs.Common.{◌≡◌, ℕ, Bool, true, false, cond, not, ◌&&◌, ◌||◌, ⊎_elim, List, [], ◌∷◌, Option, Some, None, nat_eq, refl, sym, ap, ◌∙◌, subst, map}
+use Rattle.std.proofs.lemmas.Bool.{true≢false, eq-eqb, eqb-true, and_parts}
 use Rattle.std.specs.List.{Contains}
+use Rattle.std.proofs.lemmas.Option.{none-some, same_Some}
 use Rattle.bs_words.specs.Fits.{fits, type_of_comp}
 use Rattle.bs_words.specs.declared.types.Comp.{Comp}
 use Rattle.bs_words.specs.declared.types.Comp.TheVariants as comp
@@ -9,15 +10,18 @@ use Rattle.bs_words.specs.declared.types.Loc.{Loc}
 use Rattle.bs_words.specs.declared.types.Loc.TheVariants as loc
 use Rattle.bs_words.specs.declared.values.Value.{Value}
 use Rattle.bs_words.specs.declared.values.Value.TheVariants as value
-use Rattle.mach_ir.specs.Meaning.{File, Held, put, put_if, put_all, clear, values, with_held, is_addr, unless_addr, Destroyed, Nothing, Temporaries, Everything, is_destroyed, is_at_one_of, same_colour, killed_by, killed_among}
+use Rattle.bs_words.proofs.Lists.{none_in, first_in, later_in, in_cons}
+use Rattle.mach_ir.specs.Meaning.{File, Held, put, clear, values, with_held, is_addr, unless_addr, Destroyed, Nothing, Temporaries, Everything, is_destroyed, is_at_one_of, same_colour, killed_by, killed_among}
 use Rattle.mach_ir.specs.Placed.{IsPlaced, in_colour, in_slot}
 use Rattle.mach_ir.specs.Walks.{Among, first, later, IsRegister}
 use Rattle.mach_ir.specs.declared.reg.Reg.{Reg}
 use Rattle.mach_ir.specs.declared.mach.Mach.{Mach}
-use Rattle.mach_laws.proofs.Walking.{none_in, first_in, later_in, in_cons}
 use Rattle.lin_ir.specs.Meaning as lin
 use Rattle.lin_ir.specs.Meaning.{Locations, same_loc, as_type, unless_pointer, is_val, are_vals, is_named}
 use Rattle.lin_ir.specs.declared.lin.Spot.{Spot}
+use Rattle.mach_laws.proofs.Among.{among_number}
+use Rattle.mach_laws.proofs.Files.{PutAll, nil, cons, put_other, put_same}
+use Rattle.lin_laws.proofs.Forms.{same_loc_is}
 use Rattle.linear_rules.specs.Lowered.{home, spot, spots}
 
 -- ---- members
@@ -47,24 +51,7 @@ pub number_in : {n : ℕ} {rs : List Reg} → Among n rs → HasNumber n rs
 number_in (first {r = r} e) = record { reg = r; inside = is_first; same = e }
 number_in (later a) = let h = number_in a in record { reg = h.reg; inside = is_later h.inside; same = h.same }
 
-pub left_among : {n : ℕ} {xs : List Reg} (ys : List Reg) → Among n xs → Among n (xs ++ ys)
-left_among ys (first e) = first e
-left_among ys (later z) = later (left_among ys z)
-
-pub right_among : {n : ℕ} (xs : List Reg) {ys : List Reg} → Among n ys → Among n (xs ++ ys)
-right_among [] z = z
-right_among (x ∷ xs) z = later (right_among xs z)
-
 -- ---- locations
-
-pub same_loc_is : (a b : Loc) → same_loc a b ≡ true → a ≡ b
-same_loc_is (loc.Machine a) (loc.Machine b) e = ap loc.Machine (eqb-true a b e)
-same_loc_is (loc.Slot a) (loc.Slot b) e = ap loc.Slot (eqb-true a b e)
-same_loc_is (loc.Machine a) (loc.Slot b) e = absurd (true≢false (sym e))
-same_loc_is (loc.Slot a) (loc.Machine b) e = absurd (true≢false (sym e))
-same_loc_is loc.Unset b e = absurd (true≢false (sym e))
-same_loc_is (loc.Machine a) loc.Unset e = absurd (true≢false (sym e))
-same_loc_is (loc.Slot a) loc.Unset e = absurd (true≢false (sym e))
 
 pub is_one_of : (l : Loc) (ls : List Loc) → is_named l ls ≡ true → IsIn l ls
 is_one_of l [] e = absurd (true≢false (sym e))
@@ -75,51 +62,6 @@ is_one_of l (k ∷ ls) e = by (same_loc k l) refl e (λ q. is_one_of l ls q)
     by false s e go = is_later (go e)
 
 -- ---- puts of registers
-
-pub data PutAll (end : ℕ) (a : File) : List Reg → List Value → File → Type 0 where
-  nil : PutAll end a [] [] a
-  cons : {r : Reg} {v : Value} {rs : List Reg} {vs : List Value} {d : File} → fits end (type_of_comp r.comp) v ≡ true →
-      PutAll end a rs vs d → PutAll end a (r ∷ rs) (v ∷ vs) (put r v d)
-
-data PutView (end : ℕ) (rs : List Reg) (vs : List Value) (a : File) : Option File → Type 0 where
-  is_stuck : PutView end rs vs a None
-  is_put : {d : File} → PutAll end a rs vs d → PutView end rs vs a (Some d)
-
-view_if : {end : ℕ} {rs : List Reg} {vs : List Value} {a : File} {o : Option File} (r : Reg) (v : Value) (b : Bool) →
-    fits end (type_of_comp r.comp) v ≡ b → PutView end rs vs a o → PutView end (r ∷ rs) (v ∷ vs) a (put_if b r v o)
-view_if r v false e x = is_stuck
-view_if r v true e is_stuck = is_stuck
-view_if r v true e (is_put p) = is_put (cons e p)
-
-put_view : (end : ℕ) (rs : List Reg) (vs : List Value) (a : File) → PutView end rs vs a (put_all end rs vs a)
-put_view end [] [] a = is_put nil
-put_view end [] (v ∷ vs) a = is_stuck
-put_view end (r ∷ rs) [] a = is_stuck
-put_view end (r ∷ rs) (v ∷ vs) a = view_if r v (fits end (type_of_comp r.comp) v) refl (put_view end rs vs a)
-
-of_view : {end : ℕ} {rs : List Reg} {vs : List Value} {a d : File} (o : Option File) → PutView end rs vs a o → o ≡ Some d → PutAll end a rs vs d
-of_view {d = d} o is_stuck e = absurd (none_some d e)
-  where
-    none_some : (d : File) → None ≡ Some d → ⊥
-    none_some d e = cc
-of_view {end} {rs} {vs} {a} {d} o (is_put {d = g} p) e = subst (λ x. PutAll end a rs vs x) (some_same g d e) p
-  where
-    some_same : (x y : File) → Some x ≡ Some y → x ≡ y
-    some_same x y e = cc
-
-pub put_of : (end : ℕ) (rs : List Reg) (vs : List Value) (a d : File) → put_all end rs vs a ≡ Some d → PutAll end a rs vs d
-put_of end rs vs a d e = of_view (put_all end rs vs a) (put_view end rs vs a) e
-
-cond_false : {A : Type 0} (b : Bool) (x y : A) → (b ≡ true → ⊥) → cond b x y ≡ y
-cond_false true x y out = absurd (out refl)
-cond_false false x y out = refl
-
-pub put_other : (r : Reg) (v : Value) (f : File) (n : ℕ) → (r.number ≡ n → ⊥) → put r v f n ≡ f n
-put_other r v f n apart =
-    cond_false (nat_eq r.number n) (Some (record { comp = r.comp; value = v })) (f n) (λ e. apart (eqb-true r.number n e))
-
-pub put_same : (r : Reg) (v : Value) (f : File) → put r v f r.number ≡ Some (record { comp = r.comp; value = v })
-put_same r v f = ap (λ b. cond b (Some (record { comp = r.comp; value = v })) (f r.number)) (eq-eqb r.number r.number refl)
 
 -- a register and the value that it gets
 pub data Pair (r : Reg) (v : Value) : List Reg → List Value → Type 0 where
@@ -135,17 +77,8 @@ pub data Once : List Reg → Type 0 where
   once_none : Once []
   once_more : {r : Reg} {rs : List Reg} → (Among r.number rs → ⊥) → Once rs → Once (r ∷ rs)
 
-pub held_none : (x : Held) → None ≡ Some x → ⊥
-held_none x e = cc
-
-pub held_same : (x y : Held) → Some x ≡ Some y → x ≡ y
-held_same x y e = cc
-
 pub values_none : (vs : List Value) → None ≡ Some vs → ⊥
 values_none vs e = cc
-
-among_number : {n m : ℕ} {rs : List Reg} → n ≡ m → Among n rs → Among m rs
-among_number {rs = rs} e z = subst (λ k. Among k rs) e z
 
 pub pair_held : {end : ℕ} {a : File} {rs : List Reg} {vs : List Value} {d : File} → PutAll end a rs vs d → Once rs → (r : Reg) (v : Value) → Pair r v rs vs →
     d r.number ≡ Some (record { comp = r.comp; value = v })
@@ -175,7 +108,7 @@ clear_keeps (k ∷ ks) a n x e = by (nat_eq k.number n) refl e (λ q. clear_keep
   where
     by : (t : Bool) → nat_eq k.number n ≡ t → cond t None (clear ks a n) ≡ Some x →
         (clear ks a n ≡ Some x → (a n ≡ Some x) × (Among n ks → ⊥)) → (a n ≡ Some x) × (Among n (k ∷ ks) → ⊥)
-    by true t e old = absurd (held_none x e)
+    by true t e old = absurd (none-some x e)
     by false t e old = let y = old e in (y.0, λ z. no y.1 z)
       where
         no : (Among n ks → ⊥) → Among n (k ∷ ks) → ⊥
@@ -194,12 +127,12 @@ keeps_value end false comp.Int (value.Function w) e f h = refl
 keeps_value end false comp.Int (value.Block s o) e f h = absurd (true≢false (sym f))
 
 pub past_some : (o : Option Held) (x : Held) → unless_addr o ≡ Some x → (o ≡ Some x) × (is_addr x.comp ≡ false)
-past_some None x e = absurd (held_none x e)
+past_some None x e = absurd (none-some x e)
 past_some (Some h) x e = by (is_addr h.comp) refl e
   where
     by : (t : Bool) → is_addr h.comp ≡ t → cond t None (Some h) ≡ Some x → (Some h ≡ Some x) × (is_addr x.comp ≡ false)
-    by true t e = absurd (held_none x e)
-    by false t e = (e, ap (λ (z : Held). is_addr z.comp) (sym (held_same h x e)) ∙ t)
+    by true t e = absurd (none-some x e)
+    by false t e = (e, ap (λ (z : Held). is_addr z.comp) (sym (same_Some h x e)) ∙ t)
 
 pub all_vals : (end : ℕ) (ls : List Loc) (b : Locations) → ((l : Loc) → IsIn l ls → is_val end (b l) ≡ true) → are_vals end ls b ≡ true
 all_vals end [] b h = refl
@@ -270,10 +203,6 @@ pub record Killed (n : ℕ) (rs : List Reg) (d : Destroyed) : Type 0 where
   pub inside : IsIn reg rs
   pub destroyed : is_destroyed d reg.loc ≡ true
 
-and_left : (x y : Bool) → x && y ≡ true → x ≡ true
-and_left true y e = refl
-and_left false y e = e
-
 among_killed : (n : ℕ) (rs : List Reg) (d : Destroyed) (results : List Reg) → Among n (killed_among rs d results) → Killed n rs d
 among_killed n [] d results z = elim z [ ]
 among_killed n (r ∷ rs) d results z =
@@ -282,7 +211,7 @@ among_killed n (r ∷ rs) d results z =
   where
     by : (b : Bool) → is_destroyed d r.loc && not (is_at_one_of r.loc results) ≡ b → Among n (cond b (r ∷ killed_among rs d results) (killed_among rs d results)) →
         (Among n (killed_among rs d results) → Killed n (r ∷ rs) d) → Killed n (r ∷ rs) d
-    by true e (first x) h = record { reg = r; number = x; inside = is_first; destroyed = and_left _ _ e }
+    by true e (first x) h = record { reg = r; number = x; inside = is_first; destroyed = (and_parts _ _ e).0 }
     by true e (later y) h = h y
     by false e y h = h y
 
@@ -346,7 +275,7 @@ module _ (number : ℕ → ℕ) where
                   ((Among q.number (r ∷ rs) → ⊥) → ((k : Reg) → IsIn k (r ∷ rs) → home number k.loc ≡ home number q.loc → ⊥) → a q.number ≡ Some x → b (home number q.loc) ≡ Some x.value) →
                   (s t : Bool) → nat_eq r.number q.number ≡ s → same_loc (home number r.loc) (home number q.loc) ≡ t →
                   cond s (Some (record { comp = r.comp; value = v })) (d q.number) ≡ Some x → cond t (Some v) (y.file (home number q.loc)) ≡ Some x.value
-              two q i x h base true true s t e = ap (λ (z : Held). Some z.value) (held_same (record { comp = r.comp; value = v }) x e)
+              two q i x h base true true s t e = ap (λ (z : Held). Some z.value) (same_Some (record { comp = r.comp; value = v }) x e)
               two q i x h base true false s t e =
                   absurd (true≢false (sym (subst (λ (k : Reg). same_loc (home number r.loc) (home number k.loc) ≡ true) (numbers r q (regs r is_first) i (eqb-true r.number q.number s))
                   (home_is_place r (placed r (regs r is_first)))) ∙ t))
@@ -374,7 +303,7 @@ module _ (number : ℕ → ℕ) where
               (d q.number ≡ Some x → (x.comp ≡ q.comp) × (fits end (type_of_comp q.comp) x.value ≡ true)) → (x.comp ≡ q.comp) × (fits end (type_of_comp q.comp) x.value ≡ true)
           by false s e old = old e
           by true s e old =
-              let same = held_same (record { comp = r.comp; value = v }) x e in
+              let same = same_Some (record { comp = r.comp; value = v }) x e in
               let k : r.comp ≡ q.comp = ap (λ (z : Reg). z.comp) (numbers r q (regs r is_first) i (eqb-true r.number q.number s)) in (
                 ap (λ (z : Held). z.comp) (sym same) ∙ k,
                 ap (λ (z : Held). fits end (type_of_comp q.comp) z.value) (sym same) ∙ ap (λ k. fits end (type_of_comp k) v) (sym k) ∙ fit,
@@ -396,3 +325,7 @@ module _ (number : ℕ → ℕ) where
             ap (λ o. lin.with_held end r.comp o (lin.values end b (spots number rs))) g.0
             ∙ ap (λ t. as_type t x.value (lin.values end b (spots number rs))) g.1
             ∙ ap (λ o. as_type true x.value o) (old ws t) ∙ e
+
+pub in_map : {A B : Type 0} (f : A → B) {x : A} {xs : List A} → IsIn x xs → IsIn (f x) (map f xs)
+in_map f is_first = is_first
+in_map f (is_later i) = is_later (in_map f i)

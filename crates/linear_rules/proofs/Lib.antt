@@ -1,4 +1,3 @@
-pub mod Turns
 pub mod Opposite
 pub mod Slots
 pub mod Homes

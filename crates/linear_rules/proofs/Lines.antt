@@ -32,10 +32,11 @@ use Rattle.lin_ir.specs.declared.lin.LinOp.TheVariants as lin
 use Rattle.lin_ir.specs.declared.lin.Line.{Line}
 use Rattle.lin_ir.specs.declared.lin.Lin.{Lin}
 use Rattle.lin_ir.specs.declared.lin.Spot.{Spot}
+use Rattle.mach_laws.proofs.Instructions.{instr}
 use Rattle.linear_rules.specs.Lowered.{home, spots, is_idle, line_of, bare, pops, lines_of, lowered_code}
 use Rattle.linear_rules.specs.Sizes.{tries_ended_by, tries_ended}
 use Rattle.linear_rules.proofs.Homes.{IsIn, is_first, is_later, in_of, contains_of}
-use Rattle.linear_rules.proofs.Marks.{all_in, instr, AsLine, op_line, if_line, switch_line, try_line, handler_line, idle_of, idle_labels}
+use Rattle.linear_rules.proofs.Marks.{all_in, AsLine, op_line, if_line, switch_line, try_line, handler_line, idle_of, idle_labels}
 use Rattle.linear_rules.proofs.Places.{pops_length}
 use Rattle.linear_rules.proofs.Opposite.{tested_opposite}
 

@@ -22,27 +22,18 @@ use Rattle.lin_ir.specs.Walks.{Stands, Traps, by_walk, unreached, Reached, LiveA
 use Rattle.lin_ir.specs.declared.lin.Line.{Line}
 use Rattle.lin_ir.specs.declared.lin.Lin.{Lin}
 use Rattle.lin_ir.specs.declared.lin.Spot.{Spot}
+use Rattle.lin_laws.proofs.Forms.{same_slot, not_slot}
 use Rattle.linear_rules.specs.Forward.{GoesForward}
 use Rattle.linear_rules.specs.Keeps.{NoAddrReached, OneTraps, KeepsReached}
 use Rattle.linear_rules.specs.Kept.{Does}
 use Rattle.linear_rules.specs.Lowered.{home, is_among, slots_of, slot_number, slot_count, lowered}
 use Rattle.linear_rules.specs.Sizes.{tries_ended}
-use Rattle.linear_rules.proofs.Homes.{IsIn, is_first, is_later, in_of}
+use Rattle.linear_rules.proofs.Homes.{IsIn, is_first, is_later, in_of, in_map}
 use Rattle.linear_rules.proofs.Slots.{slot_occurs_in_code, slot_occurs_in_params, numbers_apart, numbers_below, slots_few}
 use Rattle.linear_rules.proofs.Lines.{source, params_seated, source_operands, source_results, named_from, labels_same, lines_few}
 use Rattle.linear_rules.proofs.Does.{begins}
 use Rattle.linear_rules.proofs.Moves.{changes}
 use Rattle.linear_rules.proofs.Walked.{goes_forward, balance, one_traps, no_addr, homes_lines, well_formed}
-
-slot_same : (m n : ℕ) → loc.Slot m ≡ loc.Slot n → m ≡ n
-slot_same m n e = cc
-
-not_slot : (m n : ℕ) → loc.Machine m ≡ loc.Slot n → ⊥
-not_slot m n e = cc
-
-in_map : {A B : Type 0} (f : A → B) {x : A} {xs : List A} → IsIn x xs → IsIn (f x) (map f xs)
-in_map f is_first = is_first
-in_map f (is_later i) = is_later (in_map f i)
 
 colour_machine : {l : Loc} (ns : List ℕ) → IsIn l (map loc.Machine ns) → (n : ℕ) × (l ≡ loc.Machine n)
 colour_machine [] z = elim z [ ]
@@ -69,7 +60,7 @@ module _ (p : Mach) (well : WellFormed p) (full : FullyPlaced p) where
       by (in_slot e) (in_slot u) =
           e
           ∙ ap loc.Slot (numbers_apart p r.origin k.origin (slot_occurs r.origin r ri e) (slot_occurs k.origin k ki u)
-          (slot_same (slot_number p r.origin) (slot_number p k.origin) (sym (ap (home (slot_number p)) e) ∙ same ∙ ap (home (slot_number p)) u)))
+          (same_slot (slot_number p r.origin) (slot_number p k.origin) (sym (ap (home (slot_number p)) e) ∙ same ∙ ap (home (slot_number p)) u)))
           ∙ sym u
 
   -- the home of a register is a colour, or one of the function's slots
@@ -145,7 +136,7 @@ lowered_slots p full s size = slots_few p s.registers (λ k r ri e. by k r (full
   where
     by : (k : ℕ) (r : Reg) → IsPlaced r → r.loc ≡ loc.Slot k → r.origin < s.registers → k < s.registers
     by k r (in_colour n c e) u lt = absurd (not_slot n k (sym e ∙ u))
-    by k r (in_slot e) u lt = subst (λ n. n < s.registers) (slot_same r.origin k (sym e ∙ u)) lt
+    by k r (in_slot e) u lt = subst (λ n. n < s.registers) (same_slot r.origin k (sym e ∙ u)) lt
 
 pub lowered_lines : (p : Mach) → length (lowered p).code ≤ 2 * length p.code + tries_ended p.code
 lowered_lines p = lines_few (slot_number p) p.code

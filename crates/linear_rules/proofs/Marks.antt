@@ -1,11 +1,13 @@
 -- The marks of a Mach function, and where their labels stand in its lines.
-use Rattle.std.proofs.Common.{◌≡◌, ◌≢◌, ℕ, zero, suc, Bool, true, false, cond, ◌&&◌, ◌⊎◌, inl, inr, ⊎_elim, List, [], ◌∷◌, nat_eq, All, AllPairs, refl, sym, ap, ◌∙◌, subst, arith}
-use Rattle.std.proofs.lemmas.Bool.{true≢false, eqb-true}
+use Rattle.std.proofs.Common.{◌≡◌, ◌≢◌, ℕ, zero, suc, Bool, true, false, cond, ◌⊎◌, inl, inr, ⊎_elim, List, [], ◌∷◌, nat_eq, All, AllPairs, refl, sym, ap, ◌∙◌, subst}
+use Rattle.std.proofs.lemmas.Bool.{true≢false, eqb-true, and_parts}
+use Rattle.std.proofs.lemmas.List.Elements.{All-head, All-tail}
 use Rattle.bs_words.specs.declared.types.Comp.{Comp}
 use Rattle.bs_words.specs.declared.types.Comp.TheVariants as comp
-use Rattle.mach_ir.specs.Formed.{comps, MarkHasForm, exit_form, if_form, else_form, switch_form, case_form, catch_form, with_form, try_form, leave_form, handler_form, end_form, IsFormed, formed_op, formed_mark, labels_in, HasPlace, place_here, place_below, HasHandler, handler_here, handler_below}
+use Rattle.bs_words.proofs.Lists.{pairs_here, pairs_later}
+use Rattle.mach_ir.specs.Formed.{MarkHasForm, exit_form, if_form, else_form, switch_form, case_form, catch_form, with_form, try_form, leave_form, handler_form, end_form, IsFormed, formed_op, formed_mark, labels_in, HasPlace, place_here, place_below, HasHandler, handler_here, handler_below}
 use Rattle.mach_ir.specs.Meaning.{has_label, is_handler_of, after_label, from_handler, tries_past, destroyed_by, killed_by}
-use Rattle.mach_ir.specs.Walks.{InCode, in_args, in_results, further, Stands, here, below}
+use Rattle.mach_ir.specs.Walks.{InCode, in_args, in_results, further, here}
 use Rattle.mach_ir.specs.declared.op.Op.TheVariants as op
 use Rattle.mach_ir.specs.declared.op.CopyKind.{CopyKind}
 use Rattle.mach_ir.specs.declared.op.Pure.TheVariants as pure
@@ -16,31 +18,21 @@ use Rattle.mach_ir.specs.declared.mach.MachOp.{MachOp}
 use Rattle.mach_ir.specs.declared.mach.MachOp.TheVariants as mach
 use Rattle.mach_ir.specs.declared.mach.Instr.{Instr}
 use Rattle.mach_laws.specs.Expand.{Ending, all, more}
+use Rattle.mach_laws.proofs.Instructions.{instr, no_comps}
 use Rattle.lin_ir.specs.Meaning as lines
 use Rattle.lin_ir.specs.declared.lin.Flow.TheVariants as flow
 use Rattle.lin_ir.specs.declared.lin.LinOp.{LinOp}
 use Rattle.lin_ir.specs.declared.lin.LinOp.TheVariants as lin
 use Rattle.lin_ir.specs.declared.lin.Line.{Line}
+use Rattle.lin_laws.proofs.Forms.{same_loc_is}
 use Rattle.linear_rules.specs.Lowered.{opposite_test, same_comp, is_idle, line_of, bare, pops, lines_of, lowered_code}
-use Rattle.linear_rules.proofs.Homes.{IsIn, is_first, is_later, same_loc_is, contains_of}
+use Rattle.linear_rules.proofs.Homes.{IsIn, is_first, is_later, contains_of}
 
 -- ---- lists
 
-pub all_here : {A : Type 0} (P : A → Type 0) (x : A) (xs : List A) → All P (x ∷ xs) → P x
-all_here P x xs h = h 0 x (omega arith)
-
-pub all_later : {A : Type 0} (P : A → Type 0) (x : A) (xs : List A) → All P (x ∷ xs) → All P xs
-all_later P x xs h = λ k d lt. h (suc k) d (omega (arith, lt))
-
 pub all_in : {A : Type 0} (P : A → Type 0) {x : A} {xs : List A} → All P xs → IsIn x xs → P x
-all_in P {x} h (is_first {xs = xs}) = all_here P x xs h
-all_in P h (is_later {y = y} {xs = xs} i) = all_in P (all_later P y xs h) i
-
-pub pairs_here : {A : Type 0} (R : A → A → Type 0) (x : A) (xs : List A) → AllPairs R (x ∷ xs) → All (R x) xs
-pairs_here R x xs h = λ k d lt. h 0 (suc k) d (omega arith) (omega (arith, lt))
-
-pub pairs_later : {A : Type 0} (R : A → A → Type 0) (x : A) (xs : List A) → AllPairs R (x ∷ xs) → AllPairs R xs
-pairs_later R x xs h = λ i j d lt le. h (suc i) (suc j) d (omega (arith, lt)) (omega (arith, le))
+all_in P {x} h (is_first {xs = xs}) = All-head P x xs h
+all_in P h (is_later {y = y} {xs = xs} i) = all_in P (All-tail P y xs h) i
 
 abbrev pub Differ : ℕ → ℕ → Type 0
 Differ k l = k ≢ l
@@ -51,10 +43,6 @@ pub in_ending : {i : Instr} {next code : List Instr} → Ending (i ∷ next) cod
 in_ending all = is_first
 in_ending (more e) = is_later (in_ending e)
 
-pub stands_of : {i : Instr} {next code : List Instr} → Ending (i ∷ next) code → Stands i next code
-stands_of all = here
-stands_of (more e) = below (stands_of e)
-
 pub args_in_code : {i : Instr} {next code : List Instr} {r : Reg} → Ending (i ∷ next) code → IsIn r i.args → InCode r code
 args_in_code all c = in_args (contains_of c)
 args_in_code (more e) c = further (args_in_code e c)
@@ -64,9 +52,6 @@ results_in_code all c = in_results (contains_of c)
 results_in_code (more e) c = further (results_in_code e c)
 
 -- ---- kinds of instructions
-
-abbrev pub instr : MachOp → List Reg → List Reg → Instr
-instr f args results = record { op = f; args = args; results = results }
 
 -- one line with its operands and results stands for it
 pub data AsLine : MachOp → LinOp → Type 0 where
@@ -110,13 +95,9 @@ comp_is comp.Float comp.Int e = absurd (true≢false (sym e))
 comp_is comp.Float comp.Val e = absurd (true≢false (sym e))
 comp_is comp.Float comp.Addr e = absurd (true≢false (sym e))
 
-and_both : (x y : Bool) → x && y ≡ true → (x ≡ true) × (y ≡ true)
-and_both true y e = (refl, e)
-and_both false y e = absurd (true≢false (sym e))
-
 pub idle_of : (f : MachOp) (args results : List Reg) → is_idle f args results ≡ true → IsIdle f args results
 idle_of (mach.Op (op.Pure (pure.Copy kind))) (x ∷ []) (d ∷ []) e =
-    let y = and_both _ _ e in idles (same_loc_is x.loc d.loc y.0) (comp_is x.comp d.comp y.1)
+    let y = and_parts _ _ e in idles (same_loc_is x.loc d.loc y.0) (comp_is x.comp d.comp y.1)
 idle_of (mach.Op (op.Pure (pure.Copy kind))) [] results e = absurd (true≢false (sym e))
 idle_of (mach.Op (op.Pure (pure.Copy kind))) (x ∷ []) [] e = absurd (true≢false (sym e))
 idle_of (mach.Op (op.Pure (pure.Copy kind))) (x ∷ []) (d ∷ k ∷ ks) e = absurd (true≢false (sym e))
@@ -145,13 +126,6 @@ idle_labels {i} is w = by i.op i.args i.results w
     by f args results (idles e u) = refl
 
 -- ---- forms
-
-no_comps : (rs : List Reg) → comps rs ≡ [] → rs ≡ []
-no_comps [] e = refl
-no_comps (r ∷ rs) e = absurd (not_none r.comp (comps rs) e)
-  where
-    not_none : (t : Comp) (ts : List Comp) → t ∷ ts ≡ [] → ⊥
-    not_none t ts e = cc
 
 bare_form : {f : Mark} {args results : List Comp} → MarkHasForm f args results → is_bare (mach.Mark f) ≡ true → (args ≡ []) × (results ≡ [])
 bare_form exit_form e = (refl, refl)

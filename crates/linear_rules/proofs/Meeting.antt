@@ -5,6 +5,7 @@ use Rattle.std.proofs.lemmas.Bool.{true≢false, eq-eqb, eqb-true}
 use Rattle.bs_words.specs.declared.types.Comp.{Comp}
 use Rattle.bs_words.specs.declared.types.Loc.{Loc}
 use Rattle.bs_words.specs.declared.types.Loc.TheVariants as loc
+use Rattle.bs_words.proofs.Lists.{none_in}
 use Rattle.mach_ir.specs.Acts.{Target, On, At}
 use Rattle.mach_ir.specs.Formed.{HasPlace, tries_left, WellFormed}
 use Rattle.mach_ir.specs.Meaning.{after_label, from_handler, code_at, tries_past, tries_at, Destroyed, Nothing, Temporaries, Everything, destroyed_by, is_destroyed, killed_by}
@@ -16,8 +17,9 @@ use Rattle.mach_ir.specs.declared.mach.MachOp.{MachOp}
 use Rattle.mach_ir.specs.declared.mach.Instr.{Instr}
 use Rattle.mach_ir.specs.declared.mach.Mach.{Mach}
 use Rattle.mach_laws.specs.Expand.{Ending, all}
-use Rattle.mach_laws.proofs.Places.{ending_label}
-use Rattle.mach_laws.proofs.Walking.{ending_at, none_in}
+use Rattle.mach_laws.proofs.Places.{ending_label, stands_of}
+use Rattle.mach_laws.proofs.Walking.{ending_at}
+use Rattle.mach_laws.proofs.Among.{split_among}
 use Rattle.lin_ir.specs.Meaning as lines
 use Rattle.lin_ir.specs.Walks as walks
 use Rattle.lin_ir.specs.declared.lin.LinOp.{LinOp}
@@ -26,8 +28,8 @@ use Rattle.lin_ir.specs.declared.lin.Spot.{Spot}
 use Rattle.lin_ir.specs.declared.lin.Lin.{Lin}
 use Rattle.linear_rules.specs.Lowered.{home, spot, spots, line_of, lowered_code}
 use Rattle.linear_rules.proofs.Homes.{IsIn, is_first, in_of, contains_of, in_among, number_in, killed_of, spot_of, in_spots}
-use Rattle.linear_rules.proofs.Marks.{stands_of, args_in_code, results_in_code, AsLine, op_line, if_line, switch_line, try_line, handler_line, is_bare, IsIdle, idles, bare_empty, bare_kills}
-use Rattle.linear_rules.proofs.Standing.{split_among, same_targets, same_raises, same_destroyed, q, formed_at, label_q, at_target, handler_of, marked, StandsFor, one_line, via, onto, idle_before, label_before, pop_before, exit_to, jump_to, is_at, stands_at, stands_entry}
+use Rattle.linear_rules.proofs.Marks.{args_in_code, results_in_code, AsLine, op_line, if_line, switch_line, try_line, handler_line, is_bare, IsIdle, idles, bare_empty, bare_kills}
+use Rattle.linear_rules.proofs.Standing.{same_targets, same_raises, same_destroyed, q, formed_at, label_q, at_target, handler_of, marked, StandsFor, one_line, via, onto, idle_before, label_before, pop_before, exit_to, jump_to, is_at, stands_at, stands_entry}
 
 module _ (number : ℕ → ℕ) (slots : ℕ) (p : Mach) (well : WellFormed p) (full : FullyPlaced p) where
   abbrev L : List Instr → List Line

@@ -5,6 +5,7 @@ use Rattle.std.specs.List.{Contains}
 use Rattle.bs_words.specs.declared.types.Comp.{Comp}
 use Rattle.bs_words.specs.declared.types.Comp.TheVariants as comp
 use Rattle.bs_words.specs.declared.types.Loc.TheVariants as loc
+use Rattle.bs_words.proofs.Lists.{head_same}
 use Rattle.mach_ir.specs.Placed.{IsPlaced, in_colour, in_slot}
 use Rattle.mach_ir.specs.Walks.{InCode, in_args, in_results, further}
 use Rattle.mach_ir.specs.declared.op.CopyKind.{CopyKind}
@@ -44,14 +45,11 @@ no_move f e z = let c = copies_of z in out f (op.Pure (pure.Copy c.kind)) (sym e
     out : (f : Flow) (g : Op) → lin.Flow f ≡ lin.Op g → ⊥
     out f g e = cc
 
-same_comp_is : (t : Comp) → same_comp t t ≡ true
+pub same_comp_is : (t : Comp) → same_comp t t ≡ true
 same_comp_is comp.Int = refl
 same_comp_is comp.Val = refl
 same_comp_is comp.Addr = refl
 same_comp_is comp.Float = refl
-
-first_spot : (s t : Spot) (ss ts : List Spot) → s ∷ ss ≡ t ∷ ts → s ≡ t
-first_spot s t ss ts e = cc
 
 more_spots : (s t u : Spot) (ss : List Spot) → s ∷ t ∷ ss ≡ u ∷ [] → ⊥
 more_spots s t u ss e = cc
@@ -109,8 +107,8 @@ module _ (number : ℕ → ℕ) where
       moved f c same (r ∷ []) [] u v idle = no_spots to (ap (spots number) (sym v) ∙ sym (ap (λ (j : Line). j.results) same) ∙ c.results)
       moved f c same (r ∷ []) (q ∷ s ∷ qs) u v idle = more_spots _ _ to _ (ap (spots number) (sym v) ∙ sym (ap (λ (j : Line). j.results) same) ∙ c.results)
       moved f c same (r ∷ []) (q ∷ []) u v idle =
-          let x = first_spot _ from [] [] (ap (spots number) (sym u) ∙ sym (ap (λ (j : Line). j.args) same) ∙ c.args) in
-          let y = first_spot _ to [] [] (ap (spots number) (sym v) ∙ sym (ap (λ (j : Line). j.results) same) ∙ c.results) in
+          let x = head_same (ap (spots number) (sym u) ∙ sym (ap (λ (j : Line). j.args) same) ∙ c.args) in
+          let y = head_same (ap (spots number) (sym v) ∙ sym (ap (λ (j : Line). j.results) same) ∙ c.results) in
           let ri : InCode r (i ∷ is) = in_args (subst (λ rs. Contains rs r) (sym u) (contains_of (first_of r []))) in
           let qi : InCode q (i ∷ is) = in_results (subst (λ rs. Contains rs q) (sym v) (contains_of (first_of q []))) in
           let here : r.loc ≡ q.loc = apart r q ri qi (ap (λ (s : Spot). s.loc) x ∙ c.same ∙ sym (ap (λ (s : Spot). s.loc) y)) in

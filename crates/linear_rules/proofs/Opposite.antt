@@ -1,6 +1,7 @@
 -- The opposite of a test holds where the test fails, and fails where it holds; it has the same operands.
 use Rattle.std.proofs.Common.{◌≡◌, ℕ, suc, ◌≤◌, ◌<◌, Bool, true, false, not, ⊎_elim, List, [], ◌∷◌, Option, Some, None, Result, Ok, Err, ℤ, pos, negsuc, int_lt, int_le, nat_lt, nat_le, leb, refl, sym, ap, ◌∙◌, arith}
 use Rattle.std.proofs.lemmas.Bool.Decides.{leb_tells}
+use Rattle.std.proofs.Math.Bool.{not-not}
 use Rattle.bs_words.specs.Memory.{sizes}
 use Rattle.bs_words.specs.Operators.{truth, signed_holds, unsigned_holds, is_near, equality_of, order_of, as_value, comparison_of}
 use Rattle.bs_words.specs.Operators as operators
@@ -32,12 +33,8 @@ not_lt x y = ⊎_elim (λ a. ⊎_elim (λ b. both a b) (λ b. a.0 ∙ ap not (sy
     neither : ((leb y x ≡ false) × (x < y)) → ((leb (suc x) y ≡ false) × (y < suc x)) → nat_le y x ≡ not (nat_lt x y)
     neither a b = let u = a.1 in let v = b.1 in absurd (omega (arith, u, v))
 
-not_not : (b : Bool) → b ≡ not (not b)
-not_not true = refl
-not_not false = refl
-
 lt_by : (x y : ℕ) → nat_lt x y ≡ not (nat_le y x)
-lt_by x y = not_not (nat_lt x y) ∙ ap not (sym (not_lt x y))
+lt_by x y = sym (not-not (nat_lt x y)) ∙ ap not (sym (not_lt x y))
 
 not_lt_z : (x y : ℤ) → int_le y x ≡ not (int_lt x y)
 not_lt_z (pos a) (pos b) = not_lt a b
@@ -46,11 +43,11 @@ not_lt_z (negsuc a) (pos b) = refl
 not_lt_z (negsuc a) (negsuc b) = not_lt b a
 
 lt_z_by : (x y : ℤ) → int_lt x y ≡ not (int_le y x)
-lt_z_by x y = not_not (int_lt x y) ∙ ap not (sym (not_lt_z x y))
+lt_z_by x y = sym (not-not (int_lt x y)) ∙ ap not (sym (not_lt_z x y))
 
 signed_opposite : (f : CmpOp) (a b : ℕ) → signed_holds (opposite_compare f) a b ≡ not (signed_holds f a b)
 signed_opposite compare.Eq a b = refl
-signed_opposite compare.Ne a b = not_not _
+signed_opposite compare.Ne a b = sym (not-not _)
 signed_opposite compare.Lt a b = not_lt_z (signed_of a) (signed_of b)
 signed_opposite compare.Le a b = lt_z_by (signed_of b) (signed_of a)
 signed_opposite compare.Gt a b = not_lt_z (signed_of b) (signed_of a)
@@ -58,7 +55,7 @@ signed_opposite compare.Ge a b = lt_z_by (signed_of a) (signed_of b)
 
 unsigned_opposite : (f : CmpOp) (a b : ℕ) → unsigned_holds (opposite_compare f) a b ≡ not (unsigned_holds f a b)
 unsigned_opposite compare.Eq a b = refl
-unsigned_opposite compare.Ne a b = not_not _
+unsigned_opposite compare.Ne a b = sym (not-not _)
 unsigned_opposite compare.Lt a b = not_lt a b
 unsigned_opposite compare.Le a b = lt_by b a
 unsigned_opposite compare.Gt a b = not_lt b a
@@ -82,7 +79,7 @@ equal_opposite ns (Ok b) = known_not ns b (not b) refl
 equal_opposite ns (Err k) = refl
 
 unequal_opposite : (ns : List ℕ) (r : Result Bool Kind) → as_condition ns (as_value (λ e. e) r) ≡ opposite (as_condition ns (as_value not r))
-unequal_opposite ns (Ok b) = known_not ns (not b) b (not_not b)
+unequal_opposite ns (Ok b) = known_not ns (not b) b (sym (not-not b))
 unequal_opposite ns (Err k) = refl
 
 module _ (holds : CmpOp → ℕ → ℕ → Bool) (ns : List ℕ) where

@@ -10,11 +10,12 @@ use Rattle.mach_ir.specs.declared.mach.MachOp.TheVariants as mach
 use Rattle.mach_ir.specs.declared.mach.Instr.{Instr}
 use Rattle.mach_laws.specs.Expand.{Ending, all, more}
 use Rattle.mach_laws.proofs.Places.{ending_next}
+use Rattle.mach_laws.proofs.Instructions.{instr}
 use Rattle.lin_ir.specs.declared.lin.Flow.TheVariants as flow
 use Rattle.lin_ir.specs.declared.lin.LinOp.TheVariants as lin
 use Rattle.lin_ir.specs.declared.lin.Line.{Line}
 use Rattle.linear_rules.specs.Lowered.{is_idle, line_of, bare, pops, lines_of, lowered_code}
-use Rattle.linear_rules.proofs.Marks.{instr, idle_of, idle_tries}
+use Rattle.linear_rules.proofs.Marks.{idle_of, idle_tries}
 
 pub drop_more : (n : ℕ) (ts : List ℕ) → drop_tries (suc n) ts ≡ drop_tries n (drop_tries 1 ts)
 drop_more zero [] = refl

@@ -3,12 +3,13 @@ use Rattle.std.proofs.Common.{◌≡◌, ℕ, zero, suc, ◌<◌, List, [], ◌�
 use Rattle.cmm_meaning.specs.State.{Doing, Asked}
 use Rattle.bs_words.specs.declared.types.Ret.{Ret}
 use Rattle.mach_ir.specs.Acts.{Around}
-use Rattle.mach_ir.specs.Runs.{Place, Step, Continues, Pays, Deepens, Waits, FinishesBy, Finishes, FinishesRaising, IsStuck, Tally, Run, Running, Asking, Ended, Wrong, paid, came_back, kept_of, handed, onward}
+use Rattle.mach_ir.specs.Runs.{Place, Step, Continues, Pays, Deepens, Waits, FinishesBy, Finishes, FinishesRaising, IsStuck, Tally, Run, Running, Ended, Wrong, paid, came_back, kept_of, handed, onward}
 use Rattle.mach_ir.specs.Meaning as mach
 use Rattle.mach_ir.specs.Keeps.{ValsWritten, OriginsAgree, wrote_at, just_written, Proper, Alike, both_running, both_asking, both_ended}
 use Rattle.mach_ir.specs.declared.reg.Reg.{Reg}
 use Rattle.mach_ir.specs.declared.mach.Mach.{Mach}
 use Rattle.mach_laws.proofs.Simulate.{Agrees}
+use Rattle.mach_laws.proofs.Runs.{none_below, running_same, alike_goes}
 use Rattle.lin_ir.specs.Meaning.{State}
 use Rattle.lin_ir.specs.Keeps.{SuitRound}
 use Rattle.lin_ir.specs.declared.lin.Lin.{Lin}
@@ -24,30 +25,6 @@ record Fine (m : Mach) (n : ℕ) (at : ℕ → Run mach.State) : Type 0 where
 record FineFrom (m : Mach) (n : ℕ) (ws : List Reg) (at : ℕ → Run mach.State) : Type 0 where
   first : (v : mach.State) (z : Tally) → at 0 ≡ Running v z → Agrees m ws v
   fine : Fine m n at
-
-none_below : {A : Type 0} (k : ℕ) → k < 0 → A
-none_below k le = absurd (omega (arith, le))
-
-running_same : (u v : State) (y z : Tally) → Running u y ≡ Running v z → u ≡ v
-running_same u v y z e = cc
-
-abbrev IsRun : Run State → Run State → Type 0
-IsRun a b = a ≡ b
-
-asking_wrong : (call : Asked) (t : Tally) → IsRun (Asking call t) Wrong → ⊥
-asking_wrong call t e = cc
-
-ended_wrong : (d : Doing) (t : Tally) → IsRun (Ended d t) Wrong → ⊥
-ended_wrong d t e = cc
-
-running_wrong : (s : State) (t : Tally) → Running s t ≡ Wrong → ⊥
-running_wrong s t e = cc
-
--- a run that reports what another does is nowhere stuck
-alike_goes : {S : Type 0} {Suit : S → State → Type 0} {a : Run S} {b : Run State} → Alike Suit a b → b ≡ Wrong → ⊥
-alike_goes (both_running {u = u} {t = t} e) q = running_wrong u t q
-alike_goes (both_asking {call = call} {t = t}) q = asking_wrong call t q
-alike_goes (both_ended {doing = d} {t = t}) q = ended_wrong d t q
 
 module _ (c : Place) (p : Mach) (q : Lin) (R : mach.State → State → Type 0) where
   -- What the Linear function comes to, where the Mach function does this step by an instruction that writes these

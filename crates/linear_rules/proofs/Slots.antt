@@ -1,15 +1,15 @@
 -- The numbers that slots get: one for each slot that occurs, from 0 on.
 use Rattle.std.proofs.Common.{◌≡◌, ℕ, zero, suc, ◌<◌, ◌≤◌, Bool, true, false, cond, ◌||◌, ◌⊎◌, inl, inr, ⊎_elim, List, [], ◌∷◌, max, nat_eq, refl, sym, ap, ◌∙◌, subst, arith}
-use Rattle.std.proofs.lemmas.Bool.{true≢false, eq-eqb, eqb-true}
+use Rattle.std.proofs.lemmas.Bool.{true≢false, eq-eqb, eqb-true, or_right}
 use Rattle.std.proofs.lemmas.Bool.Decides.{leb_tells}
 use Rattle.bs_words.specs.declared.types.Loc.{Loc}
 use Rattle.bs_words.specs.declared.types.Loc.TheVariants as loc
+use Rattle.bs_words.proofs.Lists.{none_in, first_in, later_in, in_cons}
 use Rattle.std.specs.List.{Contains}
 use Rattle.mach_ir.specs.Walks.{InCode, in_args, in_results, further, IsRegister, is_param, is_in_code}
 use Rattle.mach_ir.specs.declared.reg.Reg.{Reg}
 use Rattle.mach_ir.specs.declared.mach.Instr.{Instr}
 use Rattle.mach_ir.specs.declared.mach.Mach.{Mach}
-use Rattle.mach_laws.proofs.Walking.{none_in, first_in, later_in, in_cons}
 use Rattle.linear_rules.specs.Lowered.{slot_of, slots_of_regs, slots_of_code, slots_of, is_among, count_below, limit_of, slot_number, slot_count}
 
 -- ---- counting
@@ -71,10 +71,10 @@ module _ (ns : List ℕ) where
       by true le = omega (arith, le)
       by false le = omega (arith, le)
 
-above_first : (n l : ℕ) → n < max (suc n) l
+pub above_first : (n l : ℕ) → n < max (suc n) l
 above_first n l = omega arith
 
-above_later : (k n l : ℕ) → k < l → k < max (suc n) l
+pub above_later : (k n l : ℕ) → k < l → k < max (suc n) l
 above_later k n l lt = omega (arith, lt)
 
 pub among_below : (k : ℕ) (ns : List ℕ) → is_among k ns ≡ true → k < limit_of ns
@@ -99,18 +99,8 @@ limit_few (n ∷ ns) m h =
 
 -- ---- which slots occur
 
-or_true : (t : Bool) → t || true ≡ true
-or_true true = refl
-or_true false = refl
-
-or_right : (t b : Bool) → b ≡ true → t || b ≡ true
-or_right t b e = ap (λ b. t || b) e ∙ or_true t
-
-same_true : (k : ℕ) → nat_eq k k ≡ true
-same_true k = eq-eqb k k refl
-
 slot_first : (k : ℕ) (l : Loc) (ks : List ℕ) → l ≡ loc.Slot k → is_among k (slot_of l ks) ≡ true
-slot_first k l ks e = subst (λ l. is_among k (slot_of l ks) ≡ true) (sym e) (ap (λ t. t || is_among k ks) (same_true k))
+slot_first k l ks e = subst (λ l. is_among k (slot_of l ks) ≡ true) (sym e) (ap (λ t. t || is_among k ks) (eq-eqb k k refl))
 
 slot_later : (k : ℕ) (l : Loc) (ks : List ℕ) → is_among k ks ≡ true → is_among k (slot_of l ks) ≡ true
 slot_later k (loc.Slot n) ks e = or_right (nat_eq n k) (is_among k ks) e

@@ -1,9 +1,9 @@
 -- Which place of the Mach code each reached place of the lines stands for; what is live there is live in both.
-use Rattle.std.proofs.Common.{◌≡◌, ℕ, zero, suc, ◌+◌, ◌-◌, ◌<◌, ◌≤◌, Bool, true, false, cond, ◌⊎◌, inl, inr, ⊎_elim, List, [], ◌∷◌, ◌++◌, length, refl, sym, ap, ◌∙◌, subst, arith}
+use Rattle.std.proofs.Common.{◌≡◌, ℕ, zero, suc, ◌+◌, ◌-◌, ◌<◌, ◌≤◌, Bool, true, false, cond, List, [], ◌∷◌, length, refl, sym, ap, ◌∙◌, subst, arith}
 use Rattle.mach_ir.specs.Acts.{Target, On, At, drop_tries}
 use Rattle.mach_ir.specs.Formed.{IsFormed, HasPlace, HasHandler, handler_below, tries_left, WellFormed}
 use Rattle.mach_ir.specs.Meaning.{after_label, from_handler, code_at, tries_past, tries_at, destroyed_by}
-use Rattle.mach_ir.specs.Walks.{Among, first, later, OneOf, this, targets, may_raise}
+use Rattle.mach_ir.specs.Walks.{OneOf, this, targets, may_raise}
 use Rattle.mach_ir.specs.declared.reg.Reg.{Reg}
 use Rattle.mach_ir.specs.declared.mach.Mark.TheVariants as mark
 use Rattle.mach_ir.specs.declared.mach.MachOp.{MachOp}
@@ -11,7 +11,8 @@ use Rattle.mach_ir.specs.declared.mach.MachOp.TheVariants as mach
 use Rattle.mach_ir.specs.declared.mach.Instr.{Instr}
 use Rattle.mach_ir.specs.declared.mach.Mach.{Mach}
 use Rattle.mach_laws.specs.Expand.{Ending, all, more}
-use Rattle.mach_laws.proofs.Places.{ending_next, ending_from_handler}
+use Rattle.mach_laws.proofs.Places.{ending_next, ending_from_handler, stands_of}
+use Rattle.mach_laws.proofs.Instructions.{instr}
 use Rattle.lin_ir.specs.Meaning as lines
 use Rattle.lin_ir.specs.Walks as walks
 use Rattle.lin_ir.specs.declared.lin.Flow.TheVariants as flow
@@ -21,13 +22,8 @@ use Rattle.lin_ir.specs.declared.lin.Line.{Line}
 use Rattle.lin_ir.specs.declared.lin.Lin.{Lin}
 use Rattle.linear_rules.specs.Lowered.{is_idle, line_of, bare, pops, lines_of, lowered_code, numbered}
 use Rattle.linear_rules.proofs.Homes.{IsIn, is_first, is_later}
-use Rattle.linear_rules.proofs.Marks.{all_in, in_ending, stands_of, instr, AsLine, op_line, if_line, switch_line, try_line, handler_line, is_bare, IsIdle, idle_of, idle_tries, label_lowered, EntryOf, entry_of}
+use Rattle.linear_rules.proofs.Marks.{all_in, in_ending, AsLine, op_line, if_line, switch_line, try_line, handler_line, is_bare, IsIdle, idle_of, idle_tries, label_lowered, EntryOf, entry_of}
 use Rattle.linear_rules.proofs.Places.{drop_more, place_tries, before_place, at_left, pops_length}
-
-pub split_among : (n : ℕ) (rs qs : List Reg) → Among n (rs ++ qs) → Among n rs ⊎ Among n qs
-split_among n [] qs a = inr a
-split_among n (r ∷ rs) qs (first e) = inl (first e)
-split_among n (r ∷ rs) qs (later a) = ⊎_elim (λ h. inl (later h)) inr (split_among n rs qs a)
 
 pub handler_ending : {h : ℕ} {rest code : List Instr} → Ending rest code → HasHandler h rest → HasHandler h code
 handler_ending all z = z

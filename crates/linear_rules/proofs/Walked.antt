@@ -24,7 +24,8 @@ use Rattle.mach_ir.specs.declared.mach.MachOp.TheVariants as mach
 use Rattle.mach_ir.specs.declared.mach.Instr.{Instr}
 use Rattle.mach_ir.specs.declared.mach.Mach.{Mach}
 use Rattle.mach_laws.specs.Expand.{Ending, all, more}
-use Rattle.mach_laws.proofs.Places.{ending_next}
+use Rattle.mach_laws.proofs.Places.{ending_next, stands_of}
+use Rattle.mach_laws.proofs.Instructions.{instr}
 use Rattle.lin_ir.specs.Formed as formed
 use Rattle.lin_ir.specs.Formed.{IsHome, IsLocation, is_home, Locates, SpareIsPassing, NamesLabel, goes_to, pushes, EntersAt, enters_here, enters_below, labels_in, is_exit}
 use Rattle.lin_ir.specs.Meaning as lines
@@ -38,11 +39,12 @@ use Rattle.lin_ir.specs.declared.lin.LinOp.TheVariants as lin
 use Rattle.lin_ir.specs.declared.lin.Line.{Line}
 use Rattle.lin_ir.specs.declared.lin.Lin.{Lin}
 use Rattle.lin_ir.specs.declared.lin.Spot.{Spot}
+use Rattle.lin_laws.proofs.Forms.{same_machine}
 use Rattle.linear_rules.specs.Forward.{GoesForward}
 use Rattle.linear_rules.specs.Keeps.{NoAddrReached, OneTraps}
 use Rattle.linear_rules.specs.Lowered.{is_among, home, spots, is_idle, line_of, bare, pops, lines_of, lowered_code}
 use Rattle.linear_rules.proofs.Homes.{IsIn, is_first, is_later, in_of, contains_of, spot_of}
-use Rattle.linear_rules.proofs.Marks.{Differ, stands_of, instr, AsLine, op_line, if_line, switch_line, try_line, handler_line, idle_of, idle_handler, place_label, handler_label, handler_split}
+use Rattle.linear_rules.proofs.Marks.{Differ, AsLine, op_line, if_line, switch_line, try_line, handler_line, idle_of, idle_handler, place_label, handler_label, handler_split}
 use Rattle.linear_rules.proofs.Standing.{q, handler_round, handler_ending, StandsFor, one_line, via, onto, idle_before, label_before, pop_before, exit_to, jump_to}
 use Rattle.linear_rules.proofs.Meeting.{as_targets, idle_on, comes, traps_same, met_across}
 use Rattle.linear_rules.proofs.Lines.{all_of, IsBare, a_label, a_jump, an_exit, a_pop, Source, own_line, bare_line, source, comps_same, source_formed, labels_same}
@@ -122,16 +124,13 @@ in_is_among {k} (is_later {y = y} {xs = xs} i) = or_right (nat_eq y k) (is_among
     or_right true b e = refl
     or_right false b e = e
 
-machine_same : (m n : ℕ) → loc.Machine m ≡ loc.Machine n → m ≡ n
-machine_same m n e = cc
-
 not_machine : (k n : ℕ) → loc.Slot k ≡ loc.Machine n → ⊥
 not_machine k n e = cc
 
 -- t0 is no home
 pub not_spare : {m : Lin} {l : Loc} → IsHome m l → l ≡ formed.spare → ⊥
 not_spare (formed.is_colour {n = n} c) e =
-    true≢false (sym (in_is_among (subst (λ n. IsIn n colours) (machine_same n 5 e) (in_of n colours c))))
+    true≢false (sym (in_is_among (subst (λ n. IsIn n colours) (same_machine n 5 e) (in_of n colours c))))
 not_spare (formed.is_slot {k = k} lt) e = not_machine k 5 e
 
 module _ (number : ℕ → ℕ) (slots : ℕ) (p : Mach) (well : WellFormed p) (full : FullyPlaced p) where

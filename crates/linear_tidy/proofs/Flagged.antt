@@ -15,7 +15,8 @@ use Rattle.tidy_rules.specs.Redirecting.{redirect, last_label, last_exit, redire
 use Rattle.tidy_rules.specs.Turning.{turned_all}
 use Rattle.tidy_rules.specs.Regular.{IsReadBehind, IsTidy}
 use Rattle.tidy_rules.specs.Tidied.{IsTidied, IsUseful}
-use Rattle.tidy_rules.proofs.Leaving.{in_code, first_same}
+use Rattle.tidy_rules.proofs.Leaving.{in_code}
+use Rattle.bs_words.proofs.Lists.{head_same}
 use Rattle.linear_tidy.proofs.Between.{drop_line}
 use Rattle.linear_tidy.specs.Forms.{IsNoSelfMove}
 use Rattle.linear_tidy.specs.Flags.{TellsUse, AreFlags, AllReached, AreRead, NoMoveGoes, goes_by, kept, unless_gone}
@@ -199,7 +200,7 @@ none_more flags code k b i lt e at still h =
           (λ (le : k ≤ p).
           let same : p ≡ k = omega (arith, less, le) in
           let here : drop k code ≡ j ∷ next = sym (ap (λ n. drop n code) same) ∙ d in
-          let line : i ≡ j = first_same i j (drop (k + 1) code) next (sym (drop_line code k i lt at) ∙ here) in
+          let line : i ≡ j = head_same (sym (drop_line code k i lt at) ∙ here) in
           subst IsNoSelfMove line (still (e ∙ sym (ap (λ n. get_or flags n false) same) ∙ t)))
           (cases_lt p k);
     }

@@ -1,12 +1,12 @@
 -- Walks come to what is left when lines without use have gone, as they did before.
-use Rattle.std.proofs.Common.{◌≡◌, ℕ, Bool, true, false, cond, ⊎_elim, List, [], ◌∷◌, length, refl, sym, ap, ◌∙◌, subst}
+use Rattle.std.proofs.Common.{◌≡◌, ℕ, Bool, true, false, cond, List, [], ◌∷◌, length, refl, sym, ap, ◌∙◌, subst}
 use Rattle.std.proofs.lemmas.Bool.{true≢false}
 use Rattle.std.specs.List.{Contains}
 use Rattle.bs_words.specs.declared.types.Comp.{Comp}
 use Rattle.bs_words.specs.declared.types.Loc.{Loc}
+use Rattle.bs_words.proofs.Lists.{none_in}
 use Rattle.mach_ir.specs.Acts.{Target, On, At}
 use Rattle.mach_ir.specs.Walks.{OneOf, this, other}
-use Rattle.lin_laws.proofs.Places.{none_in}
 use Rattle.lin_ir.specs.Formed.{IsSelfMove, is_self_move}
 use Rattle.lin_ir.specs.Meaning.{after_label, code_at}
 use Rattle.lin_ir.specs.Walks as walks
@@ -20,15 +20,12 @@ use Rattle.tidy_rules.specs.Leaving.{bare, LabelsBetween, none_between, label_be
 use Rattle.tidy_rules.proofs.Leaving.{rest, self_goes, target_rest, handler_rest}
 use Rattle.tidy_rules.proofs.Shape.{landing_stays}
 use Rattle.tidy_rules.specs.Regular.{IsReadBehind}
+use Rattle.tidy_rules.proofs.Redirecting.{label_unwritten}
 use Rattle.linear_tidy.specs.Forms.{IsNoSelfMove}
 use Rattle.linear_tidy.proofs.Useful.{only_on}
 
 self_calm : {i : Line} {from to : Spot} → IsSelfMove i from to → may_raise i.op ≡ false
 self_calm (is_self_move same) = refl
-
-label_unwritten : (k : ℕ) (l : Loc) → Writes (bare (flow.Label k)) l → ⊥
-label_unwritten k l w =
-    ⊎_elim (λ y. none_in (record { loc = l; comp = y.0 }) y.1) (λ e. true≢false (sym e)) w
 
 jump_to : (k : ℕ) (t : Target) → OneOf t (At k ∷ []) → t ≡ At k
 jump_to k t this = refl

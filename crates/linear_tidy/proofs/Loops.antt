@@ -22,7 +22,7 @@ use Rattle.linear_rules.specs.Lowered.{opposite_test}
 use Rattle.tidy_rules.specs.Turning.{Head, Turn, branch_line, turned_line, turned_lines, tested_again, label_put, next_free, label_here, label_on, head_by, head_at, stands_first, exit_head, turn_for, line_turn, turn_at, is_on, is_led_to, opened_at, turned_all}
 use Rattle.tidy_rules.specs.Redirecting.{exits_to}
 use Rattle.tidy_rules.proofs.Following.{exit_is}
-use Rattle.tidy_rules.proofs.Leaving.{first_same, rest_same}
+use Rattle.bs_words.proofs.Lists.{head_same, tail_same}
 use Rattle.linear_tidy.proofs.Between.{drop_line}
 use Rattle.linear_tidy.specs.Loops.{turn_view, turns_in, is_opened, opened_in, first_of, others_of, turned_by, turns_of, AreChanges}
 use Rattle.linear_tidy.specs.declared.turning.Changes.{Changes}
@@ -41,12 +41,12 @@ pub at_line : (P : Line → List Line → Type 0) (code : List Line) (k : ℕ) (
     P j (drop (k + 1) code) → (i : Line) (next : List Line) → drop k code ≡ i ∷ next → P i next
 at_line P code k j lt e p i next d =
     let same : j ∷ drop (k + 1) code ≡ i ∷ next = sym (drop_line code k j lt e) ∙ d in
-    subst (P i) (rest_same j i (drop (k + 1) code) next same) (subst (λ h. P h (drop (k + 1) code)) (first_same j i (drop (k + 1) code) next same) p)
+    subst (P i) (tail_same same) (subst (λ h. P h (drop (k + 1) code)) (head_same same) p)
 
 drop_next : (code : List Line) (k : ℕ) (i : Line) (next : List Line) → drop k code ≡ i ∷ next → drop (k + 1) code ≡ next
 drop_next [] zero i next e = cc
 drop_next [] (suc k) i next e = cc
-drop_next (j ∷ is) zero i next e = rest_same j i is next e
+drop_next (j ∷ is) zero i next e = tail_same e
 drop_next (j ∷ is) (suc k) i next e = let one : suc k + 1 ≡ suc (k + 1) = omega arith in ap (λ n. drop n (j ∷ is)) one ∙ drop_next is k i next e
 
 pub lines_left : (code : List Line) (k : ℕ) (i : Line) (next : List Line) → drop k code ≡ i ∷ next → length code - k - 1 ≡ length next

@@ -7,6 +7,7 @@ use Rattle.std.specs.Prelude.{IsTrue, IfOk}
 use Rattle.bs_words.specs.declared.types.Comp.{Comp}
 use Rattle.bs_words.specs.declared.types.Comp.TheVariants as comp
 use Rattle.bs_words.specs.declared.types.Loc.{Loc}
+use Rattle.bs_words.proofs.Lists.{drop_none, head_same, tail_same}
 use Rattle.mach_ir.specs.Acts.{Target, On}
 use Rattle.mach_ir.specs.Walks.{OneOf, this, other}
 use Rattle.lin_ir.specs.Formed.{IsSelfMove, is_self_move}
@@ -19,7 +20,7 @@ use Rattle.lin_ir.specs.declared.lin.Line.{Line}
 use Rattle.lin_ir.specs.declared.lin.Lin.{Lin}
 use Rattle.lin_ir.specs.declared.lin.Spot.{Spot}
 use Rattle.lin_laws.proofs.Numbers.{loc_of_number}
-use Rattle.lin_laws.proofs.Places.{drop_none, drop_is, ends_label, place_is, place_drop}
+use Rattle.lin_laws.proofs.Places.{drop_is, ends_label, place_is, place_drop}
 use Rattle.lin_laws.specs.Graph.{loc_of, place_of, position, HasNumber, HaveNumbers, AreNumbered}
 use Rattle.lin_laws.specs.declared.position.Position.{Position}
 use Rattle.lin_laws.specs.Numbers.{number_in}
@@ -35,7 +36,7 @@ use Rattle.linear_rules.proofs.Walked.{Tail, tail_all, tail_more, tail_in, tail_
 use Rattle.tidy_rules.specs.Leaving.{is_landing, bare, IsUseless, unreached, unread, skipped, LabelsBetween}
 use Rattle.tidy_rules.specs.Regular.{IsReadBehind}
 use Rattle.tidy_rules.specs.Vals.{as_val, line_as_vals, as_vals}
-use Rattle.tidy_rules.proofs.Leaving.{first_same, rest_same, GoesOn, self_goes}
+use Rattle.tidy_rules.proofs.Leaving.{GoesOn, self_goes}
 use Rattle.tidy_rules.proofs.Vals.{reached_vals, reached_of, live_vals, live_of}
 use Rattle.linear_tidy.specs.Flags.{TellsSkipped, IsSearched, AllReached, AreRead, IsIdle, not_read, not_needed, TellsIdle, TellsUse}
 use Rattle.linear_tidy.specs.Forms.{copies, MovesItself, IsNoSelfMove}
@@ -122,7 +123,7 @@ jump_landing e = ap (λ (i : Line). is_landing i.op) e
 pub line_at : (m : Lin) (p : ℕ) (i : Line) (slice : List Line) → p < length m.code → slice ≡ m.code → i ≡ get_or slice p i →
     (j : Line) (next : List Line) → drop p m.code ≡ j ∷ next → i ≡ j
 line_at m p i slice lt same e j next d =
-    first_same i j (drop (p + 1) m.code) next (sym (drop_line m.code p i lt (e ∙ ap (λ xs. get_or xs p i) same)) ∙ d)
+    head_same (sym (drop_line m.code p i lt (e ∙ ap (λ xs. get_or xs p i) same)) ∙ d)
 
 not_false : (b : Bool) → not b ≡ true → b ≡ false
 not_false false e = refl
@@ -317,8 +318,8 @@ module _ (m : Lin) (numbered : AreNumbered m) (p : ℕ) where
       IsReadAfter V p (loc_of (number_in to.loc)) → IsReadBehind m i next to
   vals_read i next d {from} {to} z x =
       let same : x.line ∷ x.next ≡ line_as_vals i ∷ map line_as_vals next = sym x.at ∙ vals_here p m.code i next d in
-      let line : x.line ≡ line_as_vals i = first_same x.line (line_as_vals i) x.next (map line_as_vals next) same in
-      let rest : x.next ≡ map line_as_vals next = rest_same x.line (line_as_vals i) x.next (map line_as_vals next) same in
+      let line : x.line ≡ line_as_vals i = head_same same in
+      let rest : x.next ≡ map line_as_vals next = tail_same same in
       let g : GoesOn i to = self_goes z in
       let live : Live V to.loc comp.Val (map line_as_vals next) x.tries = by line rest g x.live in
       let y = live_of m live next refl in

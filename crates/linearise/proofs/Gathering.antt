@@ -1,5 +1,5 @@
 -- The slots of a function as they are gathered, and the flags of those that occur.
-use Rattle.std.proofs.Common.{◌≡◌, ℕ, zero, suc, ◌+◌, ◌<◌, Bool, true, false, ◌||◌, List, [], ◌∷◌, ◌++◌, drop, length, max, nat_eq, get_or, set, refl, sym, ap, ◌∙◌, subst, append_assoc, arith, get_or-set_same, get_or-set_other}
+use Rattle.std.proofs.Common.{◌≡◌, ℕ, zero, suc, ◌+◌, ◌<◌, Bool, true, false, ◌||◌, List, [], ◌∷◌, ◌++◌, drop, length, nat_eq, get_or, set, refl, sym, ap, ◌∙◌, subst, append_assoc, arith, get_or-set_same, get_or-set_other}
 use Rattle.std.proofs.lemmas.Bool.{true≢false, eq-eqb, eqb-true}
 use Rattle.std.proofs.Math.Seq.{drop-cons}
 use Rattle.bs_words.specs.declared.types.Loc.{Loc}
@@ -7,6 +7,7 @@ use Rattle.bs_words.specs.declared.types.Loc.TheVariants as loc
 use Rattle.mach_ir.specs.declared.reg.Reg.{Reg}
 use Rattle.mach_ir.specs.declared.mach.Instr.{Instr}
 use Rattle.linear_rules.specs.Lowered.{slot_of, slots_of_regs, slots_of_code, is_among, limit_of}
+use Rattle.linear_rules.proofs.Slots.{above_first, above_later}
 
 pub regs_append : (rs : List Reg) (ks : List ℕ) → slots_of_regs rs ks ≡ slots_of_regs rs [] ++ ks
 regs_append [] ks = refl
@@ -47,12 +48,6 @@ gathered_step code items k i args results xs ys zs every same lt is a r e u inv 
     ∙ ap (λ ns. xs ++ ns) (sym unfolded) ∙ inv
 
 -- ---- flags
-
-above_first : (n l : ℕ) → n < max (suc n) l
-above_first n l = omega arith
-
-above_later : (k n l : ℕ) → k < l → k < max (suc n) l
-above_later k n l lt = omega (arith, lt)
 
 pub item_below : (ns : List ℕ) (k : ℕ) → k < length ns → get_or ns k 0 < limit_of ns
 item_below [] k lt = absurd (omega (arith, lt))

@@ -1,6 +1,6 @@
 -- Where a run begins its entry is about to begin, and below it there is only the stub.
-use Rattle.std.proofs.Common.{◌≡◌, inl, ℕ, suc, ◌+◌, ◌-◌, ◌/◌, ◌≤◌, Bool, true, false, ◌&&◌, nat_le, List, [], ◌∷◌, Some, length, map, refl, ap, ◌∙◌, arith}
-use Rattle.std.proofs.lemmas.Bool.{lt-leb, and_right, cond-false}
+use Rattle.std.proofs.Common.{◌≡◌, inl, ℕ, suc, ◌-◌, ◌/◌, ◌≤◌, true, false, List, [], ◌∷◌, Some, length, map, refl, ap, ◌∙◌, arith}
+use Rattle.std.proofs.lemmas.Bool.{cond-false, and_parts}
 use Rattle.bs_words.specs.Fits.{fits, type_of_comp}
 use Rattle.bs_words.specs.declared.types.Comp.{Comp}
 use Rattle.bs_words.specs.declared.values.Value.TheVariants.{Word}
@@ -13,6 +13,7 @@ use Rattle.image_form.specs.Image.{AreTables}
 use Rattle.image_form.specs.Tables.{Tables}
 use Rattle.machine_laws.proofs.Starting.{start_sound}
 use Rattle.moving_laws.specs.Values.{HasFunctions}
+use Rattle.moving_laws.proofs.Bottom.{past_region}
 use Rattle.rv_machine.specs.Loading.{IsRoom}
 use Rattle.rv_machine.specs.Memory.{Region, is_inside, or_zero, read, word}
 use Rattle.rv_machine.specs.Observation.{young_start}
@@ -32,9 +33,6 @@ use Rattle.linking_machine.proofs.Carrying.{words_all}
 
 -- ---- the limit word at the start
 
-past_region : (r : Region) (x : ℕ) → r.start + r.bytes ≤ x → is_inside r x 8 ≡ false
-past_region r x l = and_right (nat_le r.start x) (nat_le (x + 8) (r.start + r.bytes)) (lt-leb (x + 8) (r.start + r.bytes) (omega (arith, l)))
-
 in_domain : (rs : List Region) → read (domain_region ∷ rs) domain_start 8 ≡ Some limit_at_rest
 unfolding domain_region
 in_domain rs = refl
@@ -50,15 +48,11 @@ limit_start image stack heap tables =
 
 -- ---- the arguments
 
-both_true : (a b : Bool) → a && b ≡ true → b ≡ true
-both_true true b e = e
-both_true false b e = absurd (cc)
-
 fit_length : (end : ℕ) (comps : List Comp) (args : List ℕ) → fit_parameters end comps (map Word args) ≡ true → length args ≡ length comps
 fit_length end [] [] e = refl
 fit_length end [] (a ∷ args) e = absurd (cc)
 fit_length end (c ∷ comps) [] e = absurd (cc)
-fit_length end (c ∷ comps) (a ∷ args) e = ap suc (fit_length end comps args (both_true (fits end (type_of_comp c) (Word a)) _ e))
+fit_length end (c ∷ comps) (a ∷ args) e = ap suc (fit_length end comps args (and_parts (fits end (type_of_comp c) (Word a)) _ e).1)
 
 module _ (file : FileTree) (image : Tables) (has : HasFunctions image) (bases : (stack : ℕ) → IsRoom stack → IsStackBase (stack_bottom - stack))
     (entry : ℕ → ℕ)

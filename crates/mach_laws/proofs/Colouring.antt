@@ -1,5 +1,5 @@
 -- The graph of a function is one that colouring takes, and what colouring gives for it is a colouring of the function.
-use Rattle.std.proofs.Common.{◌≡◌, ℕ, Bool, true, false, cond, not, ◌&&◌, ◌⊎◌, inl, inr, ⊎_elim, List, [], ◌∷◌, ◌++◌, map, refl, sym, subst}
+use Rattle.std.proofs.Common.{◌≡◌, ℕ, Bool, true, false, cond, not, ◌&&◌, ◌⊎◌, inl, inr, ⊎_elim, List, [], ◌∷◌, map, refl, sym, subst}
 use Rattle.std.specs.List.{Contains}
 use Rattle.mach_ir.specs.Graph.{InGraph, JoinedIn, IsGraph, IsColourable}
 use Rattle.mach_ir.specs.Meaning.{Destroyed, Nothing, Temporaries, Everything, destroyed_by, is_destroyed, is_at_one_of, killed_among, killed_by, killed, written}
@@ -10,9 +10,11 @@ use Rattle.mach_ir.specs.declared.graph.Graph.{Graph}
 use Rattle.mach_ir.specs.declared.reg.Reg.{Reg}
 use Rattle.mach_ir.specs.declared.mach.Instr.{Instr}
 use Rattle.mach_ir.specs.declared.mach.Mach.{Mach}
+use Rattle.bs_words.proofs.Lists.{none_in, first_in, later_in, in_cons}
 use Rattle.mach_laws.specs.Expand.{Ending, all, more}
 use Rattle.mach_laws.proofs.Places.{ending_from_handler}
-use Rattle.mach_laws.proofs.Walking.{none_in, first_in, later_in, in_cons, ending_at}
+use Rattle.mach_laws.proofs.Walking.{ending_at}
+use Rattle.mach_laws.proofs.Among.{split_among}
 
 -- a register of these has the number
 record HasNumber (n : ℕ) (rs : List Reg) : Type 0 where
@@ -31,24 +33,19 @@ number_among (first {r = r} {rs = rs} e) = record { reg = r; among = first_in r 
 number_among (later {r = r} {rs = rs} a) =
     let h = number_among a in record { reg = h.reg; among = later_in r h.reg rs h.among; same = h.same }
 
-split_among : (n : ℕ) (rs qs : List Reg) → Among n (rs ++ qs) → Among n rs ⊎ Among n qs
-split_among n [] qs a = inr a
-split_among n (r ∷ rs) qs (first e) = inl (first e)
-split_among n (r ∷ rs) qs (later a) = ⊎_elim (λ h. inl (later h)) inr (split_among n rs qs a)
-
 if_killed : (n : ℕ) (r : Reg) (rs others : List Reg) → (Among n others → Among n rs) → (b : Bool) →
     Among n (cond b (r ∷ others) others) → Among n (r ∷ rs)
 if_killed n r rs others h true (first e) = first e
 if_killed n r rs others h true (later a) = later (h a)
 if_killed n r rs others h false a = later (h a)
 
-of_killed : (n : ℕ) (rs : List Reg) (d : Destroyed) (results : List Reg) → Among n (killed_among rs d results) → Among n rs
+pub of_killed : (n : ℕ) (rs : List Reg) (d : Destroyed) (results : List Reg) → Among n (killed_among rs d results) → Among n rs
 of_killed n [] d results a = a
 of_killed n (r ∷ rs) d results a =
     if_killed n r rs (killed_among rs d results) (of_killed n rs d results)
     (is_destroyed d r.loc && not (is_at_one_of r.loc results)) a
 
-of_killed_by : (n : ℕ) (rs : List Reg) (d : Destroyed) (results : List Reg) → Among n (killed_by rs d results) → Among n rs
+pub of_killed_by : (n : ℕ) (rs : List Reg) (d : Destroyed) (results : List Reg) → Among n (killed_by rs d results) → Among n rs
 of_killed_by n rs Nothing results a = elim a [ ]
 of_killed_by n rs Temporaries results a = of_killed n rs Temporaries results a
 of_killed_by n rs Everything results a = of_killed n rs Everything results a

@@ -1,6 +1,7 @@
 -- How code grows where each instruction is replaced.
 use Rattle.std.proofs.Common.{◌≡◌, ℕ, suc, ◌+◌, ◌*◌, ◌≤◌, ◌<◌, List, [], ◌∷◌, ◌++◌, length, sym, ap, ◌∙◌, subst, arith}
 use Rattle.std.proofs.lemmas.List.{length-append}
+use Rattle.std.proofs.Math.Nat.{add_assoc}
 use Rattle.mach_ir.specs.Sizes.{operand_count, Size, HasSize}
 use Rattle.mach_ir.specs.declared.mach.Instr.{Instr}
 use Rattle.mach_ir.specs.declared.mach.Mach.{Mach}
@@ -13,16 +14,13 @@ held i = length i.args + length i.results
 add_up : (a b c d e g : ℕ) → a ≤ suc b → c ≤ d + e → g ≡ a + c → g ≤ suc d + (b + e)
 add_up a b c d e g x y z = omega (arith, x, y, z)
 
-from_left : (a b c : ℕ) → a + (b + c) ≡ (a + b) + c
-from_left a b c = omega arith
-
 pub operands_append : (xs ys : List Instr) → operand_count (xs ++ ys) ≡ operand_count xs + operand_count ys
 operands_append [] ys = refl_zero (operand_count ys)
   where
     refl_zero : (k : ℕ) → k ≡ 0 + k
     refl_zero k = omega arith
 operands_append (x ∷ xs) ys =
-    ap (λ k. held x + k) (operands_append xs ys) ∙ from_left (held x) (operand_count xs) (operand_count ys)
+    ap (λ k. held x + k) (operands_append xs ys) ∙ sym (add_assoc (held x) (operand_count xs) (operand_count ys))
 
 module _ (f : ℕ → Instr → List Instr) where
   -- with one instruction more for each operand and result

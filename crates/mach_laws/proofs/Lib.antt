@@ -3,7 +3,12 @@ pub mod Places
 pub mod General
 pub mod Level
 pub mod Walking
+pub mod Turns
 pub mod Leads
 pub mod Grows
 pub mod Colouring
 pub mod Identity
+pub mod Runs
+pub mod Among
+pub mod Instructions
+pub mod Files

@@ -1,12 +1,17 @@
 -- The places of code that is replaced instruction by instruction.
-use Rattle.std.proofs.Common.{◌≡◌, ℕ, Bool, true, false, cond, ⊎_elim, List, [], ◌∷◌, ◌++◌, length, refl, sym, ap, ◌∙◌}
+use Rattle.std.proofs.Common.{◌≡◌, ℕ, Bool, true, false, cond, ⊎_elim, List, [], ◌∷◌, ◌++◌, length, refl, sym, ap, ◌∙◌, ◌≤◌, arith, ◌<◌}
 use Rattle.std.proofs.lemmas.Bool.{cases_Bool, true≢false}
+use Rattle.std.proofs.lemmas.List.Elements.{All-head, All-tail, All-cons, All-nil}
+use Rattle.std.specs.List.{Contains}
 use Rattle.mach_ir.specs.Acts.{Landing, AtLabel, AtHandler}
 use Rattle.mach_ir.specs.Meaning.{has_label, is_handler_of, after_label, from_handler, at_handler, landing_code, tries_at, tries_past}
 use Rattle.mach_ir.specs.declared.mach.Mark.TheVariants as mark
 use Rattle.mach_ir.specs.declared.mach.MachOp.{MachOp}
 use Rattle.mach_ir.specs.declared.mach.MachOp.TheVariants as mach
 use Rattle.mach_ir.specs.declared.mach.Instr.{Instr}
+use Rattle.mach_ir.specs.Walks.{Stands, here, below, InCode, in_args, further, in_results}
+use Rattle.mach_ir.specs.Placed.{is_straight, AreStraight}
+use Rattle.mach_ir.specs.declared.reg.Reg.{Reg}
 use Rattle.mach_laws.specs.Expand.{expand, NoLabel, no_label, not_labelled, NoHandler, no_handler, not_handled, bounds_try, NoBound, no_bound, not_bound, KeepsMarks, Ending, all, more}
 
 label_past : (l : ℕ) (xs ys : List Instr) → NoLabel l xs → after_label l (xs ++ ys) ≡ after_label l ys
@@ -105,6 +110,53 @@ ending_handler [] [] = all
 ending_handler [] (i ∷ is) = more (ending_handler [] is)
 ending_handler (l ∷ tries) code = ending_from_handler l code
 
-pub ending_land : (to : Landing) (here code : List Instr) → Ending (landing_code code here to) code
-ending_land (AtLabel l) here code = ending_label l code
-ending_land AtHandler here code = ending_handler (tries_at here) code
+pub ending_land : (to : Landing) (rest code : List Instr) → Ending (landing_code code rest to) code
+ending_land (AtLabel l) rest code = ending_label l code
+ending_land AtHandler rest code = ending_handler (tries_at rest) code
+
+pub ending_short : {rest code : List Instr} → Ending rest code → length rest ≤ length code
+ending_short all = omega arith
+ending_short (more e) = let le = ending_short e in omega (arith, le)
+
+-- a code that another ends with stands in it
+pub stands_of : {i : Instr} {next code : List Instr} → Ending (i ∷ next) code → Stands i next code
+stands_of all = here
+stands_of (more e) = below (stands_of e)
+
+pub ending_of : {i : Instr} {next code : List Instr} → Stands i next code → Ending (i ∷ next) code
+ending_of here = all
+ending_of (below s) = more (ending_of s)
+
+pub shorter : {i : Instr} {next code : List Instr} → Stands i next code → length next < length code
+shorter here = omega arith
+shorter (below s) = let lt = shorter s in omega (arith, lt)
+
+pub stands_behind : (run : List Instr) (i : Instr) (next : List Instr) → Stands i next (run ++ i ∷ next)
+stands_behind [] i next = here
+stands_behind (x ∷ run) i next = below (stands_behind run i next)
+
+pub stands_within : {i j : Instr} {next rest code : List Instr} → Stands j rest code → Stands i next rest → Stands i next code
+stands_within here s = below s
+stands_within (below t) s = below (stands_within t s)
+
+-- ---- straight code
+
+pub head_of : (x : Instr) (xs : List Instr) → AreStraight (x ∷ xs) → is_straight x.op ≡ true
+head_of = All-head (λ (i : Instr). is_straight i.op ≡ true)
+
+pub tail_of : (x : Instr) (xs : List Instr) → AreStraight (x ∷ xs) → AreStraight xs
+tail_of = All-tail (λ (i : Instr). is_straight i.op ≡ true)
+
+pub straight_cons : (x : Instr) (xs : List Instr) → is_straight x.op ≡ true → AreStraight xs → AreStraight (x ∷ xs)
+straight_cons = All-cons (λ (i : Instr). is_straight i.op ≡ true)
+
+pub straight_none : AreStraight []
+straight_none = All-nil (λ (i : Instr). is_straight i.op ≡ true)
+
+pub args_in : {i : Instr} {next code : List Instr} {r : Reg} → Stands i next code → Contains i.args r → InCode r code
+args_in here c = in_args c
+args_in (below s) c = further (args_in s c)
+
+pub results_in : {i : Instr} {next code : List Instr} {r : Reg} → Stands i next code → Contains i.results r → InCode r code
+results_in here c = in_results c
+results_in (below s) c = further (results_in s c)

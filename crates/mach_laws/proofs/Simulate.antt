@@ -8,6 +8,7 @@ use Rattle.mach_ir.specs.Meaning.{State, step, run}
 use Rattle.mach_ir.specs.Keeps.{ValsWritten, OriginsAgree, wrote_unless, wrote_at, just_written, Proper, Alike, SuitRound, both_running, both_asking, both_ended, Comes}
 use Rattle.mach_ir.specs.declared.reg.Reg.{Reg}
 use Rattle.mach_ir.specs.declared.mach.Mach.{Mach}
+use Rattle.mach_laws.proofs.Runs.{none_below, running_same, alike_goes}
 
 -- registers of one origin agree where an instruction that writes these registers has come to
 abbrev pub Agrees : Mach → List Reg → State → Type 0
@@ -37,38 +38,15 @@ record FineFrom (m : Mach) (n : ℕ) (ws : List Reg) (at : ℕ → Run State) : 
   first : (v : State) (z : Tally) → at 0 ≡ Running v z → Agrees m ws v
   fine : Fine m n at
 
-none_below : {A : Type 0} (k : ℕ) → k < 0 → A
-none_below k le = absurd (omega (arith, le))
-
 nowhere : (m : Mach) (at : ℕ → Run State) → Fine m 0 at
 nowhere m at =
     record { vals = λ k le u y e. none_below k le; origins = λ k le u v y z e h. none_below k le }
-
-running_same : (u v : State) (y z : Tally) → Running u y ≡ Running v z → u ≡ v
-running_same u v y z e = cc
 
 not_asking : (call : Asked) (t : Tally) (v : State) (z : Tally) → Asking call t ≡ Running v z → ⊥
 not_asking call t v z e = cc
 
 not_ended : (d : Doing) (t : Tally) (v : State) (z : Tally) → Ended d t ≡ Running v z → ⊥
 not_ended d t v z e = cc
-
-abbrev IsRun : Run State → Run State → Type 0
-IsRun a b = a ≡ b
-
-asking_wrong : (call : Asked) (t : Tally) → IsRun (Asking call t) Wrong → ⊥
-asking_wrong call t e = cc
-
-ended_wrong : (d : Doing) (t : Tally) → IsRun (Ended d t) Wrong → ⊥
-ended_wrong d t e = cc
-
-running_wrong : (s : State) (t : Tally) → Running s t ≡ Wrong → ⊥
-running_wrong s t e = cc
-
-pub alike_goes : (Suit : Around → Around → Type 0) {a b : Run State} → Alike (SuitRound Suit) a b → b ≡ Wrong → ⊥
-alike_goes Suit (both_running {u = u} {t = t} e) q = running_wrong u t q
-alike_goes Suit (both_asking {call = call} {t = t}) q = asking_wrong call t q
-alike_goes Suit (both_ended {doing = d} {t = t}) q = ended_wrong d t q
 
 module _ (c : Place) (p q : Mach) (Suit : Around → Around → Type 0) (R : State → State → Type 0) where
   -- What the second function comes to, where the first does this step by an instruction that writes these registers, and
@@ -251,5 +229,5 @@ module _ (c : Place) (p q : Mach) (Suit : Around → Around → Type 0) (R : Sta
         record {
           steps = b.count;
           alike = b.alike;
-          proper = record { goes = alike_goes Suit b.alike; vals = (b.fine).vals; origins = (b.fine).origins };
+          proper = record { goes = alike_goes b.alike; vals = (b.fine).vals; origins = (b.fine).origins };
         }

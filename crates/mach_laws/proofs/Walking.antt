@@ -1,7 +1,6 @@
 -- What is live by the flow graph of a function is what is live by its walks.
-use Rattle.std.proofs.Common.{◌≡◌, ◌↔◌, ℕ, zero, suc, ◌-◌, ◌<◌, ◌≤◌, Bool, true, false, ◌⊎◌, inl, inr, ⊎_elim, List, [], ◌∷◌, length, map, drop, refl, sym, ap, ◌∙◌, subst, arith}
+use Rattle.std.proofs.Common.{◌≡◌, ◌↔◌, ℕ, zero, suc, ◌-◌, ◌≤◌, Bool, true, false, ◌⊎◌, inl, inr, ⊎_elim, List, [], ◌∷◌, length, map, drop, refl, sym, ap, ◌∙◌, subst, arith}
 use Rattle.std.specs.List.{Contains}
-use Rattle.std.specs.Prelude.{slice_index_or}
 use Rattle.dataflow.specs.Flow.{Graph, graph, ReadsIn, LiveBefore}
 use Rattle.dataflow.specs.Live.{IsLiveness}
 use Rattle.dataflow.specs.declared.flow.Flow as flow
@@ -13,27 +12,10 @@ use Rattle.mach_ir.specs.declared.graph.LiveMap.{LiveMap}
 use Rattle.mach_ir.specs.declared.reg.Reg.{Reg}
 use Rattle.mach_ir.specs.declared.mach.Instr.{Instr}
 use Rattle.mach_ir.specs.declared.mach.Mach.{Mach}
+use Rattle.bs_words.proofs.Lists.{none_in, first_in, later_in, in_cons, drop_none}
 use Rattle.mach_laws.specs.Expand.{Ending, all, more}
 use Rattle.mach_laws.specs.Graph.{place_of, numbers, handler_places, next_places, raise_places, numbers_read, numbers_written, flow_graph, IsFlowOf}
-use Rattle.mach_laws.proofs.Places.{ending_next, ending_label, ending_from_handler}
-
--- ---- members of lists
-
-pub none_in : {A : Type 0} (y : A) → Contains [] y → ⊥
-none_in y c = let le = c.1 in absurd (omega (arith, le))
-
-pub first_in : {A : Type 0} (y : A) (ys : List A) → Contains (y ∷ ys) y
-first_in y ys = (0, omega arith, refl)
-
-pub later_in : {A : Type 0} (x y : A) (ys : List A) → Contains ys y → Contains (x ∷ ys) y
-later_in x y ys c = let le = c.1 in (suc c.0, omega (arith, le), c.2)
-
-pub in_cons : {A : Type 0} (x y : A) (ys : List A) → Contains (x ∷ ys) y → (x ≡ y) ⊎ Contains ys y
-in_cons x y ys c = by c.0 c.1 c.2
-  where
-    by : (k : ℕ) → k < length (x ∷ ys) → slice_index_or (x ∷ ys) k y ≡ y → (x ≡ y) ⊎ Contains ys y
-    by zero le e = inl e
-    by (suc k) le e = inr (k, omega (arith, le), e)
+use Rattle.mach_laws.proofs.Places.{ending_next, ending_label, ending_from_handler, ending_short}
 
 -- ---- numbers of places
 
@@ -42,14 +24,6 @@ minus_self k = omega arith
 
 suc_minus : (a b : ℕ) → b ≤ a → suc a - b ≡ suc (a - b)
 suc_minus a b le = omega (arith, le)
-
-ending_short : {rest code : List Instr} → Ending rest code → length rest ≤ length code
-ending_short all = omega arith
-ending_short (more e) = let le = ending_short e in omega (arith, le)
-
-drop_none : (xs : List Instr) → drop 0 xs ≡ xs
-drop_none [] = refl
-drop_none (x ∷ xs) = refl
 
 drop_suc : (k : ℕ) (x : Instr) (xs : List Instr) → drop (suc k) (x ∷ xs) ≡ drop k xs
 drop_suc k x xs = refl

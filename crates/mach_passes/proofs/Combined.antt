@@ -3,7 +3,7 @@ use Rattle.std.proofs.Common.{◌≡◌, ℕ, ◌+◌, ◌*◌, ◌≤◌, Bool,
 use Rattle.std.specs.List.{All, Contains}
 use Rattle.std.specs.Prelude.{slice_index_or}
 use Rattle.std.proofs.lemmas.List.{length-append}
-use Rattle.std.proofs.lemmas.List.Elements.{Contains-get_or}
+use Rattle.std.proofs.lemmas.List.Elements.{Contains-get_or, All-contains}
 use Rattle.combine_rules.specs.Combined.{joins, bytes_past, open_past, Scanned, allocated, scanned_at, scan, combined}
 use Rattle.combine_rules.proofs.Formed.{tries_scan}
 use Rattle.combine_rules.proofs.Registers.{Came, stays, opens, came}
@@ -21,10 +21,8 @@ use Rattle.mach_ir.specs.declared.mach.MachOp.TheVariants as mach
 use Rattle.pass_rules.specs.Carried.{TriesAtMost, OffsetFits, EndsInReturn, at_return, further, IsCarried}
 use Rattle.pass_rules.specs.Measures.{code_words, code_points, exits, other_operands}
 use Rattle.pass_rules.proofs.Words.{exits_both}
-use Rattle.split_rules.proofs.Formed.{contains_of, stands_in, of_each}
-
-abbrev made : MachOp → List Reg → List Reg → Instr
-made f args results = record { op = f; args = args; results = results }
+use Rattle.split_rules.proofs.Formed.{contains_of, stands_in}
+use Rattle.mach_laws.proofs.Instructions.{instr}
 
 -- ---- measures
 
@@ -52,7 +50,7 @@ no_more held (i ∷ is) = by i.op i.args i.results (λ o. no_more o is)
         }
 
     by_joins : (b : Bool) (blocks : List NewBlock) (args results : List Reg) (s : Scanned) → NoMore is s →
-        NoMore (made (mach.Op (op.Access (access.Alloc blocks))) args results ∷ is) (allocated b blocks results s)
+        NoMore (instr (mach.Op (op.Access (access.Alloc blocks))) args results ∷ is) (allocated b blocks results s)
     by_joins true blocks args results s h =
         let a = h.words in
         let b = h.points in
@@ -67,17 +65,17 @@ no_more held (i ∷ is) = by i.op i.args i.results (λ o. no_more o is)
         record { words = omega (arith, a, e); points = omega (arith, b); operands = omega (arith, c, e); exits = h.exits }
 
     by : (f : MachOp) (args results : List Reg) → ((o : Option ℕ) → NoMore is (scan o is)) →
-        NoMore (made f args results ∷ is) (scanned_at held (made f args results) f (scan (open_past held f) is))
-    by (mach.Op (op.Pure f)) args results ih = kept (made (mach.Op (op.Pure f)) args results) (scan held is) (ih held)
+        NoMore (instr f args results ∷ is) (scanned_at held (instr f args results) f (scan (open_past held f) is))
+    by (mach.Op (op.Pure f)) args results ih = kept (instr (mach.Op (op.Pure f)) args results) (scan held is) (ih held)
     by (mach.Op (op.Access (access.Load k offset))) args results ih =
-        kept (made (mach.Op (op.Access (access.Load k offset))) args results) (scan held is) (ih held)
+        kept (instr (mach.Op (op.Access (access.Load k offset))) args results) (scan held is) (ih held)
     by (mach.Op (op.Access (access.Store k offset))) args results ih =
-        kept (made (mach.Op (op.Access (access.Store k offset))) args results) (scan held is) (ih held)
+        kept (instr (mach.Op (op.Access (access.Store k offset))) args results) (scan held is) (ih held)
     by (mach.Op (op.Access (access.Alloc blocks))) args results ih =
         by_joins (joins held blocks) blocks args results (scan (Some (bytes_past held blocks)) is) (ih (Some (bytes_past held blocks)))
-    by (mach.Op (op.Calling f)) args results ih = kept (made (mach.Op (op.Calling f)) args results) (scan None is) (ih None)
-    by (mach.Op (op.Leaving f)) args results ih = kept (made (mach.Op (op.Leaving f)) args results) (scan None is) (ih None)
-    by (mach.Mark f) args results ih = kept (made (mach.Mark f) args results) (scan None is) (ih None)
+    by (mach.Op (op.Calling f)) args results ih = kept (instr (mach.Op (op.Calling f)) args results) (scan None is) (ih None)
+    by (mach.Op (op.Leaving f)) args results ih = kept (instr (mach.Op (op.Leaving f)) args results) (scan None is) (ih None)
+    by (mach.Mark f) args results ih = kept (instr (mach.Mark f) args results) (scan None is) (ih None)
 
 -- ---- the end
 
@@ -124,7 +122,7 @@ module _ (m : Mach) where
   still_fits fit j c = let s = stands_in q.code j c in by (came None m.code j s.0 s.1)
     where
       by : {ys : List Instr} → Came m.code j ys → OffsetFits j.op
-      by (stays held z n e) = of_each (λ (i : Instr). OffsetFits i.op) m.code j fit (contains_of z)
+      by (stays held z n e) = All-contains (λ (i : Instr). OffsetFits i.op) m.code j fit (contains_of z)
       by (opens i blocks z e same t) = subst (λ (k : Instr). OffsetFits k.op) (sym same) tt
 
   carried : IsCarried 0 m (combined m)

@@ -2,7 +2,7 @@
 use Rattle.std.proofs.Common.{◌≡◌, ℕ, suc, ◌≤◌, Bool, true, false, cond, List, [], ◌∷◌, length, sym, ap, ◌∙◌, subst, arith}
 use Rattle.std.specs.List.{Contains}
 use Rattle.std.specs.Prelude.{slice_index_or}
-use Rattle.std.proofs.lemmas.List.Elements.{Contains-get_or}
+use Rattle.std.proofs.lemmas.List.Elements.{Contains-get_or, All-contains}
 use Rattle.dead_rules.specs.Dropped.{without, dropped, AreDead, IsDropped}
 use Rattle.dead_rules.proofs.Live.{IsMain, was_main, was_register}
 use Rattle.dead_rules.proofs.Text.{Fate, falls, remains, fate, keeps_marks}
@@ -15,7 +15,7 @@ use Rattle.mach_laws.proofs.Places.{tries_expand}
 use Rattle.pass_rules.specs.Carried.{OffsetFits, EndsInReturn, at_return, further, IsCarried}
 use Rattle.pass_rules.specs.Measures.{code_words, code_points, exits, other_operands}
 use Rattle.pass_rules.proofs.Words.{exits_both}
-use Rattle.split_rules.proofs.Formed.{contains_of, stands_in, of_each}
+use Rattle.split_rules.proofs.Formed.{contains_of, stands_in}
 
 exits_later : (b : Bool) (n : ℕ) → n ≤ cond b (suc n) n
 exits_later true n = omega arith
@@ -101,7 +101,7 @@ module _ (m : Mach) (drops : ℕ → Bool) (dead : AreDead m drops) where
             let w = was_main m drops dead m.code i zs s in
             subst (λ ts. length ts ≤ most) (sym (tries_here w)) (known i w.next w.stands);
         offsets = λ fit k d lt.
-            of_each (λ (i : Instr). OffsetFits i.op) m.code (slice_index_or q.code k d) fit
+            All-contains (λ (i : Instr). OffsetFits i.op) m.code (slice_index_or q.code k d) fit
             (contains_back (slice_index_or q.code k d) (Contains-get_or q.code k d lt));
         ends = still_ends;
         colours_low = λ low r k c i e. low r k c (was_register m drops dead k i) e;

@@ -14,10 +14,10 @@ use Rattle.mach_ir.specs.declared.mach.Instr.{Instr}
 use Rattle.mach_ir.specs.declared.mach.Mach.{Mach}
 use Rattle.mach_ir.specs.declared.mach.MachOp.{MachOp}
 use Rattle.mach_ir.specs.declared.mach.MachOp.TheVariants as mach
-use Rattle.mach_laws.proofs.Walking.{first_in}
 use Rattle.pass_rules.specs.Carried.{IsCarried}
 use Rattle.pass_rules.specs.Measures.{copy_words, words_with, operands_with}
 use Rattle.repeat_rules.proofs.OneForOne.{tries_same}
+use Rattle.bs_words.proofs.Lists.{first_in}
 use Rattle.mach_passes.proofs.Replaced.{Replaces, replaced_carried}
 
 -- ---- one instruction

@@ -1,6 +1,7 @@
 -- A pass that puts one instruction in the place of each carries, where none of them has more words or operands, and none becomes a
 -- frame point, an exit or a return.
 use Rattle.std.proofs.Common.{◌≡◌, ℕ, ◌≤◌, cond, List, [], ◌∷◌, length, sym, subst, refl, suc, arith}
+use Rattle.std.proofs.lemmas.List.Elements.{All-contains}
 use Rattle.mach_ir.specs.Formed.{is_exit}
 use Rattle.mach_ir.specs.Meaning.{passes_frame, tries_at}
 use Rattle.mach_ir.specs.Walks.{Stands, here, below}
@@ -13,9 +14,10 @@ use Rattle.mach_laws.specs.Expand.{expand}
 use Rattle.pass_rules.specs.Carried.{OffsetFits, EndsInReturn, at_return, further, IsCarried}
 use Rattle.pass_rules.specs.Measures.{instr_words, code_words, code_points, one_if, exits, operands_with, other_operands}
 use Rattle.pass_rules.proofs.Words.{exits_both}
+use Rattle.pass_rules.proofs.Carried.{returns_alone}
 use Rattle.places_rules.specs.Places.{ColoursLow}
 use Rattle.repeat_rules.proofs.OneForOne.{one_each, both, all_in}
-use Rattle.split_rules.proofs.Formed.{contains_of, of_each}
+use Rattle.split_rules.proofs.Formed.{contains_of}
 
 -- what the instruction in the place of another owes
 pub record Replaces (i j : Instr) : Type 0 where
@@ -25,9 +27,6 @@ pub record Replaces (i j : Instr) : Type 0 where
   pub exit : is_exit j.op ≡ is_exit i.op
   pub fits : OffsetFits i.op → OffsetFits j.op
   pub returns : i.op ≡ mach.Op (op.Leaving leaving.Return) → j.op ≡ mach.Op (op.Leaving leaving.Return)
-
-returns_alone : (i : Instr) → i.op ≡ mach.Op (op.Leaving leaving.Return) → EndsInReturn (i ∷ [])
-returns_alone i e = subst (λ g. EndsInReturn (record { op = g; args = i.args; results = i.results } ∷ [])) (sym e) at_return
 
 module _ (again : ℕ → Instr → Instr) where
   abbrev pub AllReplaced : List Instr → Type 0
@@ -77,7 +76,7 @@ module _ (again : ℕ → Instr → Instr) where
             (λ i next s. subst (λ ts. length ts ≤ most) (sym (tries (i ∷ next))) (known i next s));
         offsets = λ fit.
             all_in again m.code (λ (i : Instr). OffsetFits i.op)
-            (λ i next s. (all i next s).fits (of_each (λ (i : Instr). OffsetFits i.op) m.code i fit (contains_of s)));
+            (λ i next s. (all i next s).fits (All-contains (λ (i : Instr). OffsetFits i.op) m.code i fit (contains_of s)));
         ends = still_ends all;
         colours_low = low;
       }

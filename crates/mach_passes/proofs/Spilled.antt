@@ -2,11 +2,10 @@
 use Rattle.std.proofs.Common.{◌≡◌, ℕ, suc, ◌+◌, ◌*◌, ◌≤◌, Bool, true, false, cond, ◌⊎◌, inl, inr, ⊎_elim, List, [], ◌∷◌, ◌++◌, length, refl, sym, ap, ◌∙◌, subst, arith, append_assoc}
 use Rattle.std.specs.List.{All, Contains}
 use Rattle.std.specs.Prelude.{slice_index_or}
-use Rattle.std.proofs.lemmas.List.Elements.{Contains-get_or}
-use Rattle.bs_words.specs.declared.types.Comp.{Comp}
+use Rattle.std.proofs.lemmas.List.Elements.{Contains-get_or, All-contains}
+use Rattle.std.proofs.Math.Nat.{le_of_eq, zero-add}
 use Rattle.linear_rules.specs.Lowered.{same_spot}
-use Rattle.mach_ir.specs.Formed.{comps, is_exit, IsFormed, formed_op, formed_mark, WellFormed}
-use Rattle.mach_ir.specs.Forms.{HasForm}
+use Rattle.mach_ir.specs.Formed.{is_exit, IsFormed, WellFormed}
 use Rattle.mach_ir.specs.Forms as forms
 use Rattle.mach_ir.specs.Meaning.{passes_frame, tries_at, tries_past}
 use Rattle.mach_ir.specs.Placed.{WellPlaced}
@@ -15,32 +14,26 @@ use Rattle.mach_ir.specs.Walks.{Stands, here, below}
 use Rattle.mach_ir.specs.declared.op.CopyKind.{CopyKind}
 use Rattle.mach_ir.specs.declared.op.CopyKind.TheVariants as copy
 use Rattle.mach_ir.specs.declared.op.Leaving.TheVariants as leaving
-use Rattle.mach_ir.specs.declared.op.Op.{Op}
 use Rattle.mach_ir.specs.declared.op.Op.TheVariants as op
 use Rattle.mach_ir.specs.declared.reg.Reg.{Reg}
-use Rattle.mach_ir.specs.declared.mach.Mark.{Mark}
 use Rattle.mach_ir.specs.declared.mach.MachOp.TheVariants as mach
 use Rattle.mach_ir.specs.declared.mach.Instr.{Instr}
 use Rattle.mach_ir.specs.declared.mach.Mach.{Mach}
 use Rattle.mach_laws.specs.Expand.{expand}
 use Rattle.mach_laws.proofs.Places.{tries_expand}
+use Rattle.mach_laws.proofs.Instructions.{return_results}
 use Rattle.pass_rules.specs.Carried.{OffsetFits, EndsInReturn, at_return, further, IsCarried}
 use Rattle.pass_rules.specs.Measures.{copy_words, instr_words, code_words, one_if, code_points, exits, operands_with, other_operands}
 use Rattle.pass_rules.proofs.Words.{at_most_copy}
+use Rattle.pass_rules.proofs.Carried.{ends_second}
 use Rattle.places_rules.proofs.Open.{slot_open}
 use Rattle.places_rules.specs.Places.{ColoursLow}
-use Rattle.split_rules.proofs.Formed.{contains_of, stands_in, of_each}
+use Rattle.split_rules.proofs.Formed.{contains_of, stands_in}
 use Rattle.spill_rules.specs.Chosen.{IsSpilled, ParamsPlaced, IsNeededSlot, IsChosenKept}
 use Rattle.spill_rules.specs.Spilled.{Plan, in_slot, copied, reload, spill, reloads_of, spills_of, operands_of, results_of, spilled_instr, spilled}
 use Rattle.spill_rules.proofs.Chosen.{spilled_kept}
 use Rattle.spill_rules.proofs.Formed.{IsCopy, is_reload, is_spill, IsMain, was_main}
 use Rattle.spill_rules.proofs.Text.{keeps_marks}
-
-at_most : (a b : ℕ) → a ≡ b → a ≤ b
-at_most a b e = omega (arith, e)
-
-none_more : (a : ℕ) → 0 + a ≡ a
-none_more a = omega arith
 
 -- ---- copies alone
 
@@ -65,11 +58,11 @@ words_copies (a_copy kind from to {xs = xs} h) zs =
 
 points_copies : {xs : List Instr} → AreCopies xs → (zs : List Instr) → code_points (xs ++ zs) ≡ code_points zs
 points_copies no_copy zs = refl
-points_copies (a_copy kind from to {xs = xs} h) zs = none_more (code_points (xs ++ zs)) ∙ points_copies h zs
+points_copies (a_copy kind from to {xs = xs} h) zs = zero-add (code_points (xs ++ zs)) ∙ points_copies h zs
 
 operands_copies : {xs : List Instr} → AreCopies xs → (zs : List Instr) → other_operands (xs ++ zs) ≡ other_operands zs
 operands_copies no_copy zs = refl
-operands_copies (a_copy kind from to {xs = xs} h) zs = none_more (other_operands (xs ++ zs)) ∙ operands_copies h zs
+operands_copies (a_copy kind from to {xs = xs} h) zs = zero-add (other_operands (xs ++ zs)) ∙ operands_copies h zs
 
 exits_copies : {xs : List Instr} → AreCopies xs → (zs : List Instr) → exits (xs ++ zs) ≡ exits zs
 exits_copies no_copy zs = refl
@@ -94,33 +87,7 @@ stands_copies (a_copy kind from to {xs = xs} h) i next zs s =
     (ap (λ (i : Instr). tries_at (i ∷ next)) e.0 ∙ ap (λ ys. tries_at (copied kind from to ∷ ys)) e.1 ∙ tries_copies h zs))
     (λ d. stands_copies h i next zs d) (stands_head s)
 
-ends_after : (xs : List Instr) {zs : List Instr} → EndsInReturn zs → EndsInReturn (xs ++ zs)
-ends_after [] e = e
-ends_after (x ∷ xs) e = further (ends_after xs e)
-
 -- ---- a return has no results
-
-no_comps : (rs : List Reg) → comps rs ≡ [] → rs ≡ []
-no_comps [] e = refl
-no_comps (r ∷ rs) e = absurd (some r.comp (comps rs) e)
-  where
-    some : (c : Comp) (cs : List Comp) → c ∷ cs ≡ [] → ⊥
-    some c cs e = cc
-
-returns_none : {cs ds : List Comp} → HasForm (op.Leaving leaving.Return) cs ds → ds ≡ []
-returns_none (forms.returns result) = refl
-
-same_op : (f g : Op) → mach.Op f ≡ mach.Op g → f ≡ g
-same_op f g e = cc
-
-no_mark : (f : Mark) (g : Op) → mach.Mark f ≡ mach.Op g → ⊥
-no_mark f g e = cc
-
-return_results : {i : Instr} → IsFormed i → i.op ≡ mach.Op (op.Leaving leaving.Return) → i.results ≡ []
-return_results (formed_op {f = f} {args = args} {results = results} h) e =
-    no_comps results
-    (returns_none (subst (λ f. HasForm f (comps args) (comps results)) (same_op f (op.Leaving leaving.Return) e) h))
-return_results (formed_mark {f = f} h) e = absurd (no_mark f (op.Leaving leaving.Return) e)
 
 module _ (plan : Plan) where
   abbrev f : ℕ → Instr → List Instr
@@ -245,7 +212,7 @@ module _ (plan : Plan) where
   fit_one : (code : List Instr) → All Fits code → (j : Instr) (ys : List Instr) → IsCopy plan j ⊎ IsMain plan j ys code → Fits j
   fit_one code h j ys (inl (is_reload k r t e)) = subst Fits (sym e) tt
   fit_one code h j ys (inl (is_spill r e)) = subst Fits (sym e) tt
-  fit_one code h j ys (inr w) = of_each Fits code j h (contains_of w.stands)
+  fit_one code h j ys (inr w) = All-contains Fits code j h (contains_of w.stands)
 
   offsets : (code : List Instr) → All Fits code → All Fits (expand f code)
   offsets code h k d lt =
@@ -268,8 +235,8 @@ module _ (plan : Plan) where
   still_ends formed (at_return {args = args} {results = results}) =
       let i : Instr = record { op = mach.Op (op.Leaving leaving.Return); args = args; results = results } in
       subst EndsInReturn (sym (laid_out 0 i []))
-      (ends_after (before 0 i) (last args results (return_results (formed i [] here) refl)))
-  still_ends formed (further {i = i} {is = is} e) = ends_after (f (length is) i) (still_ends (λ j next s. formed j next (below s)) e)
+      (ends_second (before 0 i) _ (last args results (return_results (formed i [] here) refl)))
+  still_ends formed (further {i = i} {is = is} e) = ends_second (f (length is) i) _ (still_ends (λ j next s. formed j next (below s)) e)
 
 -- ---- numbers of colours
 
@@ -285,12 +252,12 @@ planned_carried : (m : Mach) (plan : Plan) → WellFormed m → IsChosenKept m (
 planned_carried m plan formed kept =
     record {
       words = words plan kept.reloads kept.spills m.code;
-      points = at_most (code_points (expand (spilled_instr plan) m.code)) (code_points m.code) (same_points plan m.code);
-      operands = at_most (other_operands (expand (spilled_instr plan) m.code)) (other_operands m.code) (same_operands plan m.code);
-      exits = at_most (exits (expand (spilled_instr plan) m.code)) (exits m.code) (same_exits plan m.code);
+      points = le_of_eq (same_points plan m.code);
+      operands = le_of_eq (same_operands plan m.code);
+      exits = le_of_eq (same_exits plan m.code);
       tries = λ most h. still_at_most plan most m.code h;
       offsets = offsets plan m.code;
-      ends = still_ends plan (λ i next s. of_each IsFormed m.code i formed.instrs (contains_of s));
+      ends = still_ends plan (λ i next s. All-contains IsFormed m.code i formed.instrs (contains_of s));
       colours_low = still_low m (spilled plan m) refl kept;
     }
 

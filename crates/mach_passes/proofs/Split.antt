@@ -1,8 +1,9 @@
 -- What splitting carries: only numbers of open registers change.
 use Rattle.std.proofs.Common.{◌≡◌, ℕ, ◌+◌, ◌*◌, ◌<◌, Bool, true, false, cond, List, [], ◌∷◌, length, refl, sym, ap, ◌∙◌, subst, arith}
-use Rattle.std.proofs.lemmas.Bool.{lt-ltb, ltb-true}
+use Rattle.std.proofs.lemmas.Bool.{lt-ltb, ltb-true, both_ways}
 use Rattle.std.specs.List.{Contains}
 use Rattle.std.specs.Prelude.{nat_lt}
+use Rattle.std.proofs.lemmas.List.{length-map}
 use Rattle.bs_words.specs.declared.types.Loc.TheVariants as loc
 use Rattle.linear_rules.specs.Lowered.{same_spot}
 use Rattle.mach_ir.specs.Formed.{WellFormed}
@@ -17,11 +18,11 @@ use Rattle.mach_ir.specs.declared.mach.MachOp.TheVariants as mach
 use Rattle.mach_ir.specs.declared.mach.Instr.{Instr}
 use Rattle.mach_ir.specs.declared.mach.Mach.{Mach}
 use Rattle.mach_laws.specs.Expand.{expand}
+use Rattle.mach_laws.proofs.Among.{left_among, among_of}
+use Rattle.mach_laws.proofs.Places.{args_in, results_in}
 use Rattle.pass_rules.specs.Carried.{IsCarried}
 use Rattle.pass_rules.specs.Measures.{copy_words, mark_words, words_with, operands_with}
-use Rattle.places_rules.proofs.Files.{differ}
-use Rattle.places_rules.proofs.Lists.{was, length_mapped}
-use Rattle.places_rules.proofs.Walked.{left_among}
+use Rattle.places_rules.proofs.Lists.{was}
 use Rattle.places_rules.specs.Places.{ColoursLow}
 use Rattle.repeat_rules.proofs.OneForOne.{one_each}
 use Rattle.split_rules.specs.Order.{IsByFirst, kept, given}
@@ -29,7 +30,7 @@ use Rattle.split_rules.specs.Renamed.{Naming, numbered, all_numbered, renamed_in
 use Rattle.split_rules.specs.Split.{IsNaming, AreByFirst, IsSplit}
 use Rattle.split_rules.specs.Writes.{Comes, IsWrite, by_instr}
 use Rattle.split_rules.proofs.Result.{comes_write}
-use Rattle.split_rules.proofs.Text.{same_tries, args_in, results_in, number_in}
+use Rattle.split_rules.proofs.Text.{same_tries}
 use Rattle.mach_passes.proofs.Replaced.{Replaces, replaced_carried}
 
 module _ (names : Naming) where
@@ -44,7 +45,7 @@ module _ (names : Naming) where
   spot_same f g (r ∷ q ∷ rs) results = refl
 
   results_same : (most : ℕ) (g : ℕ → ℕ) (results : List Reg) → most + 16 * length (all_numbered g results) ≡ most + 16 * length results
-  results_same most g results = ap (λ n. most + 16 * n) (length_mapped (numbered g) results)
+  results_same most g results = ap (λ n. most + 16 * n) (length-map results (numbered g))
 
   words_same : (h : MachOp) (f g : ℕ → ℕ) (args results : List Reg) →
       words_with h (all_numbered f args) (all_numbered g results) ≡ words_with h args results
@@ -59,8 +60,8 @@ module _ (names : Naming) where
 
   both_same : (f g : ℕ → ℕ) (args results : List Reg) → length (all_numbered f args) + length (all_numbered g results) ≡ length args + length results
   both_same f g args results =
-      ap (λ n. n + length (all_numbered g results)) (length_mapped (numbered f) args)
-      ∙ ap (λ n. length args + n) (length_mapped (numbered g) results)
+      ap (λ n. n + length (all_numbered g results)) (length-map args (numbered f))
+      ∙ ap (λ n. length args + n) (length-map results (numbered g))
 
   operands_same : (h : MachOp) (f g : ℕ → ℕ) (args results : List Reg) →
       operands_with h (all_numbered f args) (all_numbered g results) ≡ operands_with h args results
@@ -115,14 +116,14 @@ module _ (m : Mach) (names : Naming) (is : IsNaming m names) (firsts : AreByFirs
       none : nat_lt b.number (names.read (length next) r.number) ≡ false → (from : List Instr) → Comes m r.number from (i ∷ next) → ⊥
       none e from z =
           let lt : b.number < names.read (length next) r.number =
-          subst (λ n. b.number < n) (sym (is.agree i next from r.number s (number_in r i.args a) z))
+          subst (λ n. b.number < n) (sym (is.agree i next from r.number s (among_of r i.args a) z))
           (write_low b r c one u from (comes_write m z)) in
-          differ _ (lt-ltb b.number (names.read (length next) r.number) lt) e
+          both_ways _ e (lt-ltb b.number (names.read (length next) r.number) lt)
 
       by : (t : Bool) → nat_lt b.number (names.read (length next) r.number) ≡ t → b.number < names.read (length next) r.number
       by true e = ltb-true b.number (names.read (length next) r.number) e
       by false e =
-          subst (λ n. b.number < n) (sym (firsts.unwritten i next r.number s (number_in r i.args a) (none e))) (low b r c one u)
+          subst (λ n. b.number < n) (sym (firsts.unwritten i next r.number s (among_of r i.args a) (none e))) (low b r c one u)
 
   low_in : (b q : Reg) → Contains m.colours b → q.loc ≡ loc.Unset → (code : List Instr) →
       ((i : Instr) (next : List Instr) → Stands i next code → Stands i next m.code) → InCode q (renamed_code names code) → b.number < q.number
@@ -136,7 +137,7 @@ module _ (m : Mach) (names : Naming) (is : IsNaming m names) (firsts : AreByFirs
       let s = there i is here in
       subst (λ (q : Reg). b.number < q.number) w.same
       (write_low b w.what c (is_in_code (results_in s w.among)) (ap (λ (r : Reg). r.loc) w.same ∙ u) is
-      (by_instr s (left_among i.results (killed m i) (number_in w.what i.results w.among))))
+      (by_instr s (left_among i.results (killed m i) (among_of w.what i.results w.among))))
   low_in b q c u (i ∷ is) there (further d) = low_in b q c u is (λ j next s. there j next (below s)) d
 
   still_low : ColoursLow (renamed names m)

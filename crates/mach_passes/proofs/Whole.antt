@@ -1,6 +1,7 @@
 -- What the passes before register allocation keep together.
 use Rattle.std.proofs.Common.{◌≡◌, ℕ, suc, ◌+◌, ◌*◌, ◌<◌, ◌≤◌, ⊎_elim, List, [], ◌∷◌, length, refl, sym, ap, ◌∙◌, subst, arith}
 use Rattle.std.specs.List.{Contains}
+use Rattle.std.proofs.Math.Nat.{le_trans}
 use Rattle.combine_rules.proofs.Formed.{combined_formed, combined_seated}
 use Rattle.combine_rules.proofs.Placed.{combined_placed}
 use Rattle.combine_rules.proofs.Sizes.{size, register_before}
@@ -25,9 +26,8 @@ use Rattle.mach_ir.specs.Walks.{InCode, in_args, in_results, further, IsRegister
 use Rattle.mach_ir.specs.declared.reg.Reg.{Reg}
 use Rattle.mach_ir.specs.declared.mach.Instr.{Instr}
 use Rattle.mach_ir.specs.declared.mach.Mach.{Mach}
-use Rattle.mach_laws.proofs.Walking.{none_in, in_cons}
 use Rattle.pass_rules.specs.Carried.{IsCarried}
-use Rattle.pass_rules.specs.Measures.{copy_words, code_words, code_points, exits, other_operands}
+use Rattle.pass_rules.specs.Measures.{copy_words, code_words, exits}
 use Rattle.sink_rules.proofs.Chosen as sinking
 use Rattle.sink_rules.proofs.Chosen.{one_sunk}
 use Rattle.sink_rules.specs.Chosen.{IsSunk}
@@ -37,6 +37,7 @@ use Rattle.spill_rules.specs.Chosen.{ParamsPlaced, IsSpilled, IsChosenKept}
 use Rattle.split_rules.proofs.One.{one_split}
 use Rattle.split_rules.proofs.Whole.{split_kept}
 use Rattle.split_rules.specs.Split.{IsSplit}
+use Rattle.bs_words.proofs.Lists.{none_in, in_cons}
 use Rattle.mach_passes.specs.Prepared.{IsPrepared, IsPreparable, IsKept}
 use Rattle.mach_passes.specs.Stages.{IsCommoned, HasNoRepeats, IsCleaned, IsReadied, HasSlots}
 use Rattle.repeat_rules.proofs.Form as repeats
@@ -141,9 +142,6 @@ has_own_size m =
 
 -- ---- carrying goes on
 
-le_then : (a b c : ℕ) → a ≤ b → b ≤ c → a ≤ c
-le_then a b c x y = omega (arith, x, y)
-
 words_then : (a b c more others : ℕ) → b ≤ a + more → c ≤ b + others → c ≤ a + (more + others)
 words_then a b c more others x y = omega (arith, x, y)
 
@@ -154,9 +152,9 @@ pub carried_then : {more others : ℕ} {p q r : Mach} → IsCarried more p q →
 carried_then {more} {others} {p} {q} {r} one two =
     record {
       words = words_then (code_words p.code) (code_words q.code) (code_words r.code) more others one.words two.words;
-      points = le_then (code_points r.code) (code_points q.code) (code_points p.code) two.points one.points;
-      operands = le_then (other_operands r.code) (other_operands q.code) (other_operands p.code) two.operands one.operands;
-      exits = le_then (exits r.code) (exits q.code) (exits p.code) two.exits one.exits;
+      points = le_trans two.points one.points;
+      operands = le_trans two.operands one.operands;
+      exits = le_trans two.exits one.exits;
       tries = λ most h. two.tries most (one.tries most h);
       offsets = λ h. two.offsets (one.offsets h);
       ends = λ h. two.ends (one.ends h);
@@ -210,8 +208,8 @@ pub within_size : {m : Mach} {s t : Size} → HasSize m s → s.instrs ≤ t.ins
     HasSize m t
 within_size {m} {s} {t} h instrs operands registers labels =
     record {
-      instrs = le_then (length m.code) s.instrs t.instrs h.instrs instrs;
-      operands = le_then (operand_count m.code) s.operands t.operands h.operands operands;
+      instrs = le_trans h.instrs instrs;
+      operands = le_trans h.operands operands;
       numbers = λ r i. subst (λ n. r.number < n) registers (h.numbers r i);
       origins = λ r i. subst (λ n. r.origin < n) registers (h.origins r i);
       labels = subst (λ n. m.labels ≤ n) labels h.labels;

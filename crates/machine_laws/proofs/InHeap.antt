@@ -13,7 +13,7 @@ pub record InHeap (heap : ℕ) (b : Placed) : Type 0 where
   pub low : 0x30000008 ≤ b.start
   pub part : (end_of b ≤ 0x30000000 + heap) ⊎ ((0x34000008 ≤ b.start) × (end_of b ≤ 0x34000000 + heap))
 
-in_half : (heap k : ℕ) (b : Placed) → is_in_half heap k b ≡ true → (half_start k + 8 ≤ b.start) × (end_of b ≤ half_start k + heap)
+pub in_half : (heap k : ℕ) (b : Placed) → is_in_half heap k b ≡ true → (half_start k + 8 ≤ b.start) × (end_of b ≤ half_start k + heap)
 in_half heap k b h =
     let p = and_parts _ _ h in
     (leb-true (half_start k + 8) b.start p.0, leb-true (end_of b) (half_start k + heap) p.1)

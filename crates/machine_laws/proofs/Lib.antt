@@ -11,3 +11,4 @@ pub mod Starting
 pub mod Stepping
 pub mod Values
 pub mod Words
+pub mod Immediates

@@ -138,7 +138,7 @@ has_moved places olds news m as' has =
 -- ---- another word stays
 
 -- two places of a region have two words
-apart_in : (start a b : ℕ) → a % 8 ≡ 0 → b % 8 ≡ 0 → a ≢ b → start ≤ a → start ≤ b → (b - start) / 8 ≢ (a - start) / 8
+pub apart_in : (start a b : ℕ) → a % 8 ≡ 0 → b % 8 ≡ 0 → a ≢ b → start ≤ a → start ≤ b → (b - start) / 8 ≢ (a - start) / 8
 apart_in start a b x y n h k = omega arith
 
 read_here :

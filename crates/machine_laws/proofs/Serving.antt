@@ -140,7 +140,7 @@ allocated_sound plan h s =
 
 -- ---- external calls
 
-filled_are : (rs registers : List ℕ) → AreRegisters registers → AreRegisters (filled rs registers)
+pub filled_are : (rs registers : List ℕ) → AreRegisters registers → AreRegisters (filled rs registers)
 filled_are [] registers are = are
 filled_are (r ∷ rs) registers are = filled_are rs (with_register r filler registers) (with_registers registers r filler are (omega arith))
 
@@ -187,7 +187,7 @@ raised_sound value h small low s =
     (with_registers first s1 (word h.memory (at + 8)) (with_registers h.registers sp (at + 16) s.registers (omega (arith, low))) (word_below h.memory (at + 8))) small))
 
 -- a register that is not filled stays
-not_filled : (rs registers : List ℕ) (r : ℕ) → AllByRecursion (λ k. k ≢ r) rs → slice_index (filled rs registers) r ≡ slice_index registers r
+pub not_filled : (rs registers : List ℕ) (r : ℕ) → AllByRecursion (λ k. k ≢ r) rs → slice_index (filled rs registers) r ≡ slice_index registers r
 not_filled [] registers r others = refl
 not_filled (k ∷ rs) registers r others = not_filled rs (with_register k filler registers) r others.1 ∙ other_register registers k r filler others.0
 

@@ -18,7 +18,7 @@ whole_word n w e l = subst (λ k. part w k 8 ≡ w) (sym e) (at_zero w l)
     at_zero : (w : ℕ) → w < 2 ^ 64 → part w 0 8 ≡ w
     at_zero w l = omega arith
 
-past_region : (r : Region) (x : ℕ) → r.start + r.bytes ≤ x → is_inside r x 8 ≡ false
+pub past_region : (r : Region) (x : ℕ) → r.start + r.bytes ≤ x → is_inside r x 8 ≡ false
 past_region r x l = and_right (nat_le r.start x) (nat_le (x + 8) (r.start + r.bytes)) (lt-leb (x + 8) (r.start + r.bytes) (omega (arith, l)))
 
 skip : (r : Region) (rs : List Region) (x : ℕ) → r.start + r.bytes ≤ x → read (r ∷ rs) x 8 ≡ read rs x 8

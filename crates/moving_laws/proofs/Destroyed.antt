@@ -4,11 +4,7 @@ use Rattle.std.specs.List.{AllByRecursion}
 use Rattle.rv_machine.specs.Hart.{with_register}
 use Rattle.rv_machine.specs.Places.{filler}
 use Rattle.rv_machine.specs.Services.{destroyed, filled}
-use Rattle.machine_laws.proofs.Words.{other_register}
-
-pub filled_other : (rs registers : List ℕ) (r : ℕ) → AllByRecursion (λ k. k ≢ r) rs → slice_index (filled rs registers) r ≡ slice_index registers r
-filled_other [] registers r others = refl
-filled_other (k ∷ rs) registers r others = filled_other rs (with_register k filler registers) r others.1 ∙ other_register registers k r filler others.0
+use Rattle.machine_laws.proofs.Serving.{not_filled}
 
 with_length : (r value : ℕ) (registers : List ℕ) → length (with_register r value registers) ≡ length registers
 with_length zero value registers = refl
@@ -65,4 +61,4 @@ spared r s = (
     off k (inr s) (inr h) e = omega (arith, s, h, e)
 
 pub destroyed_other : (registers : List ℕ) (r : ℕ) → IsSpared r → slice_index (filled destroyed registers) r ≡ slice_index registers r
-destroyed_other registers r s = filled_other destroyed registers r (spared r s)
+destroyed_other registers r s = not_filled destroyed registers r (spared r s)

@@ -1,22 +1,20 @@
 -- The words of a memory that have a byte at an address, also where the region ends inside them.
-use Rattle.std.proofs.Common.{◌≡◌, ◌≢◌, ℕ, ◌+◌, ◌-◌, ◌/◌, ◌%◌, ◌^◌, ◌<◌, ◌≤◌, ◌⊎◌, inl, inr, Bool, true, false, cond, ◌&&◌, ◌||◌, ◌==◌, nat_le, List, [], ◌∷◌, length, map, slice_index, slice_set, Option, Some, None, option_map, refl, ap, arith, ◌∙◌, sym, subst, ⊎_elim, get_or-set_same, get_or-set_other, length-set}
+use Rattle.std.proofs.Common.{◌≡◌, ◌≢◌, ℕ, ◌+◌, ◌-◌, ◌%◌, ◌^◌, ◌<◌, ◌≤◌, ◌⊎◌, inl, inr, Bool, true, false, cond, ◌&&◌, ◌||◌, ◌==◌, nat_le, List, [], ◌∷◌, length, map, slice_index, slice_set, Option, Some, None, option_map, refl, ap, arith, ◌∙◌, sym, subst, ⊎_elim, get_or-set_same, get_or-set_other, length-set}
 use Rattle.std.specs.List.{AllByRecursion, list_any}
 use Rattle.std.specs.Option.{is_some}
 use Rattle.std.proofs.lemmas.Bool.{and_from, and_parts, cases_lt, cond-true, cond-false, eq-eqb, eqb-true, le-leb, leb-true, or_left}
+use Rattle.std.proofs.lemmas.Option.{same_Some}
+use Rattle.std.proofs.Math.Nat.{add-zero}
 use Rattle.image_form.specs.Tables.{Tables}
 use Rattle.rv_machine.specs.Memory.{Region, byte_in, index_in, is_inside, loaded, memory_or, or_zero, part, read, replaced, with_written, word, write, written}
 use Rattle.rv_machine.specs.Sound.{Extent, HasRegions, IsRegion, IsStackBase, extent, extents}
 use Rattle.machine_laws.proofs.Words.{set_words}
+use Rattle.machine_laws.proofs.Memory.{apart_in}
+use Rattle.bs_words.proofs.Truths.{bool_same}
 use Rattle.moving_laws.specs.Words.{IsReadable, held_word}
 use Rattle.moving_laws.proofs.Usable.{covered, covers, same_readable}
 use Rattle.moving_laws.proofs.Words.{readable_even, stored_is}
 use Rattle.moving_laws.proofs.Young.{read_is}
-
-bool_same : (p q : Bool) → (p ≡ true → q ≡ true) → (q ≡ true → p ≡ true) → p ≡ q
-bool_same true true f g = refl
-bool_same true false f g = sym (f refl)
-bool_same false true f g = g refl
-bool_same false false f g = refl
 
 inside_parts : (r : Region) (a w : ℕ) → is_inside r a w ≡ true → (r.start ≤ a) × (a + w ≤ r.start + r.bytes)
 inside_parts r a w h =
@@ -25,10 +23,6 @@ inside_parts r a w h =
 
 inside_from : (r : Region) (a w : ℕ) → r.start ≤ a → a + w ≤ r.start + r.bytes → is_inside r a w ≡ true
 inside_from r a w lo hi = and_from (nat_le r.start a) (nat_le (a + w) (r.start + r.bytes)) (le-leb r.start a lo) (le-leb (a + w) (r.start + r.bytes) hi)
-
--- two places of a region have two words
-apart_in : (start a b : ℕ) → a % 8 ≡ 0 → b % 8 ≡ 0 → a ≢ b → start ≤ a → start ≤ b → (b - start) / 8 ≢ (a - start) / 8
-apart_in start a b x y n h k = omega arith
 
 pub held_below : (m : List Region) (x : ℕ) → AllByRecursion IsRegion m → held_word m x < 2 ^ 64
 held_below [] x each = omega arith
@@ -265,19 +259,13 @@ covers_byte x (e ∷ es) h = by_test (covers x e) refl h (covers_byte x es)
 covered_held : (m : List Region) (x : ℕ) → IsReadable m x → IsHeld m x
 covered_held m x r = record { is = covers_byte x (map extent m) (covered m x r) }
 
-some_same : {X : Type 0} {p q : X} → Some p ≡ Some q → p ≡ q
-some_same e = cc
-
-at_zero : (x : ℕ) → x + 0 ≡ x
-at_zero x = omega arith
-
 -- a word of 8 bytes that can be read is the held one
 pub held_is : (m : List Region) (x : ℕ) → AllByRecursion IsRegion m → AllShare x 8 m → IsReadable m x → held_word m x ≡ word m x
 held_is m x each share r =
     let even = readable_even m x r in
     let h : read m (x + 0) 8 ≡ Some (part (held_word m x) 0 8) = read_part x 0 8 (omega arith) even (omega arith) m share (covered_held m x r).is in
-    let g : read m x 8 ≡ Some (part (held_word m x) 0 8) = subst (λ y. read m y 8 ≡ Some (part (held_word m x) 0 8)) (at_zero x) h in
-    sym (part_whole (held_word m x) (held_below m x each)) ∙ some_same (sym g ∙ read_is m x r)
+    let g : read m x 8 ≡ Some (part (held_word m x) 0 8) = subst (λ y. read m y 8 ≡ Some (part (held_word m x) 0 8)) (add-zero x) h in
+    sym (part_whole (held_word m x) (held_below m x each)) ∙ same_Some _ _ (sym g ∙ read_is m x r)
 
 -- and so it is set as it is written
 pub write_hold : (m : List Region) (x z : ℕ) → AllByRecursion IsRegion m → AllShare x 8 m → IsReadable m x → z < 2 ^ 64 → write m x z ≡ hold m x z
@@ -286,9 +274,8 @@ write_hold m x z each share r small =
     let h : written m (x + 0) 8 z ≡ Some (hold m x (replaced (held_word m x) 0 8 z)) =
     written_part x 0 8 (omega arith) even (omega arith) m z share (covered_held m x r).is in
     let g : written m x 8 z ≡ Some (hold m x (replaced (held_word m x) 0 8 z)) =
-    subst (λ y. written m y 8 z ≡ Some (hold m x (replaced (held_word m x) 0 8 z))) (at_zero x) h in
-    some_same
-    (sym (stored_is m x z r) ∙ cond-true (x % 8 == 0) (written m x 8 z) None (eq-eqb (x % 8) 0 even) ∙ g
+    subst (λ y. written m y 8 z ≡ Some (hold m x (replaced (held_word m x) 0 8 z))) (add-zero x) h in
+    same_Some _ _ (sym (stored_is m x z r) ∙ cond-true (x % 8 == 0) (written m x 8 z) None (eq-eqb (x % 8) 0 even) ∙ g
     ∙ ap (λ k. Some (hold m x k)) (replaced_whole (held_word m x) z (held_below m x each) small))
 
 -- ---- words that cannot be read

@@ -1,6 +1,7 @@
 -- What copying, vacating and redirecting leave in the memory.
 use Rattle.std.proofs.Common.{◌≡◌, ◌≢◌, ℕ, zero, suc, ◌+◌, ◌-◌, ◌*◌, ◌%◌, ◌^◌, ◌<◌, ◌≤◌, inl, inr, Bool, true, false, List, [], ◌∷◌, length, slice_index, replicate, refl, ap, arith, ◌∙◌, sym, subst, ⊎_elim}
 use Rattle.std.specs.List.{AllByRecursion}
+use Rattle.std.proofs.lemmas.List.{length-map, length-replicate}
 use Rattle.rv_machine.specs.Hart.{Placed}
 use Rattle.rv_machine.specs.Memory.{Region, word, write, put, words_at}
 use Rattle.rv_machine.specs.Moving.{rewritten_cells, rewritten_block, is_scanned, vacated, copied, redirected}
@@ -12,7 +13,7 @@ use Rattle.moving_laws.specs.Values.{start_of, words_of}
 use Rattle.moving_laws.specs.Stands.{Among}
 use Rattle.machine_laws.proofs.Memory.{word_below, other_word}
 use Rattle.moving_laws.proofs.Words.{word_same, readable_write, formed_write, same_or_not}
-use Rattle.moving_laws.proofs.Puts.{put_keeps, put_at, put_formed, put_readable, length_words_at, words_at_index, map_index, length_map, length_replicate}
+use Rattle.moving_laws.proofs.Puts.{put_keeps, put_at, put_formed, put_readable, length_words_at, words_at_index, map_index}
 
 -- ---- vacating
 
@@ -32,7 +33,7 @@ module _ (at : List Region → ℕ) (x : ℕ) (keeps : (m : List Region) (a v : 
   vacated_keeps m [] off = refl
   vacated_keeps m (b ∷ bs) off =
       let ws = replicate (suc b.words) filler in
-      let len : length ws ≡ suc b.words = length_replicate (suc b.words) filler in
+      let len : length ws ≡ suc b.words = length-replicate (suc b.words) filler in
       let low = off.0.low in
       vacated_keeps (put m (header_at b) ws) bs off.1
       ∙ put_keeps at x keeps m ws (header_at b) (⊎_elim (λ l. inl l) (λ l. inr (omega (arith, l, len, low))) off.0.off)
@@ -48,7 +49,7 @@ cell_after true f w = f w
 cell_after false f w = w
 
 length_cells : (f : ℕ → ℕ) (b : Bool) (ws : List ℕ) → length (rewritten_cells b f ws) ≡ length ws
-length_cells f true ws = length_map f ws
+length_cells f true ws = length-map ws f
 length_cells f false ws = refl
 
 cells_index : (f : ℕ → ℕ) (b : Bool) (ws : List ℕ) (j : ℕ) → j < length ws → slice_index (rewritten_cells b f ws) j ≡ cell_after b f (slice_index ws j)

@@ -6,6 +6,7 @@ use Rattle.rv_machine.specs.Hart.{Placed}
 use Rattle.rv_machine.specs.Memory.{Region}
 use Rattle.rv_machine.specs.Placement.{bytes_used, end_of, is_in_half, is_in_heap, is_apart, are_apart, is_valid, packed, placed_at, spaced, new_places}
 use Rattle.rv_machine.specs.Places.{half_start}
+use Rattle.machine_laws.proofs.InHeap.{in_half}
 use Rattle.moving_laws.specs.Words.{IsReadable}
 use Rattle.moving_laws.specs.Values.{start_of, words_of}
 use Rattle.moving_laws.specs.Heap.{IsInHeap, AreApart, AllApart, SameSizes}
@@ -15,17 +16,12 @@ pub record IsInHalf (heap : ℕ) (b : Placed) : Type 0 where
   pub aligned : b.start % 8 ≡ 0
   pub half : ((0x30000008 ≤ b.start) × (end_of b ≤ 0x30000000 + heap)) ⊎ ((0x34000008 ≤ b.start) × (end_of b ≤ 0x34000000 + heap))
 
-half_parts : (heap k : ℕ) (b : Placed) → is_in_half heap k b ≡ true → (half_start k + 8 ≤ b.start) × (end_of b ≤ half_start k + heap)
-half_parts heap k b h =
-    let p = and_parts _ _ h in
-    (leb-true (half_start k + 8) b.start p.0, leb-true (end_of b) (half_start k + heap) p.1)
-
 half_is : (heap : ℕ) (b : Placed) → is_in_heap heap b ≡ true → IsInHalf heap b
 half_is heap b h =
     let p = and_parts (b.start % 8 == 0) (is_in_half heap 0 b || is_in_half heap 1 b) h in
     record {
       aligned = eqb-true (b.start % 8) 0 p.0;
-      half = ⊎_elim (λ t. inl (half_parts heap 0 b t)) (λ t. inr (half_parts heap 1 b t)) (or_cases (is_in_half heap 0 b) (is_in_half heap 1 b) p.1);
+      half = ⊎_elim (λ t. inl (in_half heap 0 b t)) (λ t. inr (in_half heap 1 b t)) (or_cases (is_in_half heap 0 b) (is_in_half heap 1 b) p.1);
     }
 
 halves_are : (heap : ℕ) (bs : List Placed) → list_all (is_in_heap heap) bs ≡ true → AllByRecursion (IsInHalf heap) bs

@@ -1,5 +1,5 @@
 -- Many words written one after the other.
-use Rattle.std.proofs.Common.{◌≡◌, ◌≢◌, ℕ, zero, suc, ◌+◌, ◌*◌, ◌^◌, ◌<◌, ◌≤◌, ◌⊎◌, inl, inr, List, [], ◌∷◌, length, map, slice_index, replicate, refl, ap, arith, ◌∙◌, subst, ⊎_elim}
+use Rattle.std.proofs.Common.{◌≡◌, ◌≢◌, ℕ, zero, suc, ◌+◌, ◌*◌, ◌^◌, ◌<◌, ◌≤◌, ◌⊎◌, inl, inr, List, [], ◌∷◌, length, map, slice_index, refl, ap, arith, ◌∙◌, subst, ⊎_elim}
 use Rattle.rv_machine.specs.Memory.{Region, word, write, put, words_at}
 use Rattle.moving_laws.specs.Words.{IsFormed, IsReadable}
 use Rattle.machine_laws.proofs.Memory.{other_word}
@@ -49,11 +49,3 @@ pub map_index : (f : ℕ → ℕ) (ws : List ℕ) (j : ℕ) → j < length ws �
 map_index f [] j l = absurd (omega (arith, l))
 map_index f (w ∷ ws) zero l = refl
 map_index f (w ∷ ws) (suc j) l = map_index f ws j (omega (arith, l))
-
-pub length_map : (f : ℕ → ℕ) (ws : List ℕ) → length (map f ws) ≡ length ws
-length_map f [] = refl
-length_map f (w ∷ ws) = ap suc (length_map f ws)
-
-pub length_replicate : (n v : ℕ) → length (replicate n v) ≡ n
-length_replicate zero v = refl
-length_replicate (suc n) v = ap suc (length_replicate n v)

@@ -1,21 +1,14 @@
 -- Files of values by number: what is read, written and cleared, in one and in two of them.
 use Rattle.std.proofs.Common.{◌≡◌, ℕ, Bool, true, false, cond, inl, inr, ◌⊎◌, ⊎_elim, List, [], ◌∷◌, map, Option, Some, None, refl, sym, ap, ◌∙◌, subst}
-use Rattle.std.proofs.lemmas.Bool.{cases_Bool, eq-eqb, eqb-true}
+use Rattle.std.proofs.lemmas.Bool.{cases_Bool, eq-eqb, eqb-true, both_ways}
 use Rattle.std.specs.Prelude.{nat_eq}
+use Rattle.std.proofs.lemmas.Option.{none-some, same_Some}
 use Rattle.bs_words.specs.Fits.{fits, type_of_comp}
 use Rattle.bs_words.specs.declared.values.Value.{Value}
 use Rattle.mach_ir.specs.Meaning.{Held, File, put, put_if, put_all, clear, with_held, values, past_frame, unless_addr}
 use Rattle.mach_ir.specs.Walks.{Among, first, later}
 use Rattle.mach_ir.specs.declared.reg.Reg.{Reg}
-
-pub differ : (b : Bool) → b ≡ true → b ≡ false → ⊥
-differ b e h = cc
-
-pub none_some : {A : Type 0} {x : A} → None ≡ Some x → ⊥
-none_some e = cc
-
-pub some_same : {A : Type 0} {x y : A} → Some x ≡ Some y → x ≡ y
-some_same e = cc
+use Rattle.mach_laws.proofs.Files.{put_other}
 
 pub among_or_not : (n : ℕ) (rs : List Reg) → Among n rs ⊎ (Among n rs → ⊥)
 among_or_not n [] = inr (λ a. elim a [ ])
@@ -25,7 +18,7 @@ among_or_not n (r ∷ rs) =
     (cases_Bool (nat_eq r.number n))
   where
     none : nat_eq r.number n ≡ false → (Among n rs → ⊥) → Among n (r ∷ rs) → ⊥
-    none e h (first s) = differ (nat_eq r.number n) (eq-eqb r.number n s) e
+    none e h (first s) = both_ways (nat_eq r.number n) e (eq-eqb r.number n s)
     none e h (later a) = h a
 
 -- ---- what is read
@@ -67,13 +60,6 @@ not_cleared (k ∷ ks) f n h = by (nat_eq k.number n) refl (not_cleared ks f n (
 pub put_here : (r : Reg) (v : Value) (f : File) (n : ℕ) → r.number ≡ n → put r v f n ≡ Some (record { comp = r.comp; value = v })
 put_here r v f n e = ap (λ b. cond b (Some (record { comp = r.comp; value = v })) (f n)) (eq-eqb r.number n e)
 
-pub put_other : (r : Reg) (v : Value) (f : File) (n : ℕ) → (r.number ≡ n → ⊥) → put r v f n ≡ f n
-put_other r v f n h = test (nat_eq r.number n) refl
-  where
-    test : (b : Bool) → nat_eq r.number n ≡ b → cond b (Some (record { comp = r.comp; value = v })) (f n) ≡ f n
-    test true e = absurd (h (eqb-true r.number n e))
-    test false e = refl
-
 -- the registers by other numbers
 abbrev pub renumbered : (ℕ → ℕ) → List Reg → List Reg
 renumbered f' rs = map (λ (r : Reg). record r { number = f' r.number }) rs
@@ -93,11 +79,11 @@ put_twice f' back end [] [] f g d known e =
       file = g;
       puts = refl;
       same = λ n a. elim a [ ];
-      others = λ n h. ap (λ (x : File). x n) (sym (some_same e));
+      others = λ n h. ap (λ (x : File). x n) (sym (same_Some _ _ e));
       others_new = λ x h. refl;
     }
-put_twice f' back end [] (v ∷ vs) f g d known e = absurd (none_some e)
-put_twice f' back end (r ∷ rs) [] f g d known e = absurd (none_some e)
+put_twice f' back end [] (v ∷ vs) f g d known e = absurd (none-some _ e)
+put_twice f' back end (r ∷ rs) [] f g d known e = absurd (none-some _ e)
 put_twice f' back end (r ∷ rs) (v ∷ vs) f g d known e =
     by (fits end (type_of_comp r.comp) v) (put_all end rs vs f) refl refl e
     (λ c h. put_twice f' back end rs vs f g c (λ n a. known n (later a)) h)
@@ -117,14 +103,13 @@ put_twice f' back end (r ∷ rs) (v ∷ vs) f g d known e =
         }
       where
         rest_of : (n : ℕ) → nat_eq r.number n ≡ false → Among n (r ∷ rs) → Among n rs
-        rest_of n s (first k) = absurd (differ (nat_eq r.number n) (eq-eqb r.number n k) s)
+        rest_of n s (first k) = absurd (both_ways (nat_eq r.number n) s (eq-eqb r.number n k))
         rest_of n s (later a) = a
 
         -- two of them have one new number only if they have one old
         apart : (n : ℕ) → Among n (r ∷ rs) → nat_eq r.number n ≡ false → f' r.number ≡ f' n → ⊥
         apart n a s h =
-            differ (nat_eq r.number n)
-            (eq-eqb r.number n (sym (known r.number (first refl)) ∙ ap back h ∙ known n a)) s
+            both_ways (nat_eq r.number n) s (eq-eqb r.number n (sym (known r.number (first refl)) ∙ ap back h ∙ known n a))
 
         at_one : (n : ℕ) → Among n (r ∷ rs) → (b : Bool) → nat_eq r.number n ≡ b →
             cond b (Some (record { comp = r.comp; value = v })) (c n) ≡ put as_new v p.file (f' n)
@@ -134,9 +119,9 @@ put_twice f' back end (r ∷ rs) (v ∷ vs) f g d known e =
     by : (t : Bool) (o : Option File) → fits end (type_of_comp r.comp) v ≡ t → put_all end rs vs f ≡ o →
         put_if t r v o ≡ Some d → ((c : File) → put_all end rs vs f ≡ Some c → PutsToo f' back end rs vs f g c) →
         PutsToo f' back end (r ∷ rs) (v ∷ vs) f g d
-    by false o t e h again = absurd (none_some h)
-    by true None t e h again = absurd (none_some h)
-    by true (Some c) t e h again = one c (again c e) (some_same h) t
+    by false o t e h again = absurd (none-some _ h)
+    by true None t e h again = absurd (none-some _ h)
+    by true (Some c) t e h again = one c (again c e) (same_Some _ _ h) t
 
 -- the same writes into two files
 pub record PutsBoth (end : ℕ) (rs : List Reg) (vs : List Value) (f g d : File) : Type 0 where

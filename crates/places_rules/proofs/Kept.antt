@@ -1,8 +1,11 @@
 -- A function whose open registers have been given places, joined ones apart, does what it did: what is live holds the same.
 use Rattle.std.proofs.Common.{◌≡◌, ℕ, true, inl, inr, ◌⊎◌, ⊎_elim, List, [], ◌∷◌, Option, Some, None, refl, sym, ap, ◌∙◌, subst}
 use Rattle.std.specs.List.{Contains}
+use Rattle.std.proofs.lemmas.Option.{none-some}
+use Rattle.std.proofs.lemmas.List.Elements.{All-contains}
 use Rattle.bs_words.specs.Memory.{Memory}
 use Rattle.bs_words.specs.declared.values.Value.{Value}
+use Rattle.bs_words.proofs.Lists.{first_in, later_in, head_same, tail_same}
 use Rattle.cmm_meaning.specs.State.{Doing}
 use Rattle.mach_ir.specs.Acts.{Around, Target, On, At, Landing, AtLabel, AtHandler, Act, Goes, Pushes, Jumps, Unwinds, Asks, Replaces, Ends, EndsRaising, Stuck}
 use Rattle.mach_ir.specs.Formed.{IsFormed, WellFormed}
@@ -20,14 +23,13 @@ use Rattle.mach_laws.proofs.General as general
 use Rattle.mach_laws.proofs.General.{at}
 use Rattle.mach_laws.proofs.Leads.{IsTry, is_try, MayLand, lands_at_label, lands_at_handler, Within, goes_in, pushes_in, jumps_in, unwinds_in, asks_in, within}
 use Rattle.mach_laws.proofs.Level as level
-use Rattle.mach_laws.proofs.Places.{ending_next, ending_label, ending_land}
+use Rattle.mach_laws.proofs.Places.{ending_next, ending_label, ending_land, stands_of}
 use Rattle.mach_laws.proofs.Simulate.{Agrees}
-use Rattle.mach_laws.proofs.Walking.{first_in, later_in}
+use Rattle.mach_laws.proofs.Among.{left_among, right_among, split_among}
 use Rattle.places_rules.specs.Places.{Placing, IsPlacing, placed, all_placed, placed_instr, placed_code, with_places}
-use Rattle.places_rules.proofs.Files.{none_some, values_same, past_same, cleared, not_cleared, among_or_not, PutsBoth, put_both}
-use Rattle.places_rules.proofs.Walked.{left_among, right_among, split_among, stands_of, fewer_killed, fewer_written, still_written, live_before, across_back}
+use Rattle.places_rules.proofs.Files.{values_same, past_same, cleared, not_cleared, among_or_not, PutsBoth, put_both}
+use Rattle.places_rules.proofs.Walked.{fewer_killed, fewer_written, still_written, live_before, across_back}
 use Rattle.places_rules.proofs.Instructions.{among_back, same_values, same_put, alone, as_expanded, keeps_marks}
-use Rattle.places_rules.proofs.Lists.{of_all, head_same, tail_same}
 use Rattle.places_rules.proofs.Raised.{IsRaised, Told, told_jump, told_unwind, told_ask, IsSilent, told, label_silent, try_silent}
 use Rattle.places_rules.proofs.Text.{same_label, same_handler, same_tries, was_register}
 
@@ -44,7 +46,7 @@ module _ (m : Mach) (place : Placing) (formed : WellFormed m) (well : WellPlaced
   contains_of {i} (below {j = j} {is = xs} s) = later_in j i xs (contains_of s)
 
   form_of : {i : Instr} {next : List Instr} → Ending (i ∷ next) m.code → IsFormed i
-  form_of {i} e = of_all IsFormed m.code i formed.instrs (contains_of (stands_of e))
+  form_of {i} e = All-contains IsFormed m.code i formed.instrs (contains_of (stands_of e))
 
   -- ---- where registers of one origin agree
 
@@ -189,7 +191,7 @@ module _ (m : Mach) (place : Placing) (formed : WellFormed m) (well : WellPlaced
         ⊎_elim (λ r. (left_among i.results (killed m i) r, p.same n r))
         (λ free.
         ⊎_elim (λ r. absurd (free (among_back place i.results r)))
-        (λ k. absurd (none_some (sym (cleared (killed q main) b' n k) ∙ sym (p.others_new n free) ∙ h)))
+        (λ k. absurd (none-some _ (sym (cleared (killed q main) b' n k) ∙ sym (p.others_new n free) ∙ h)))
         (split_among n (all_placed place i.results) (killed q main) z))
         (among_or_not n i.results)
     put_wrote vs d p (Some v) n u z h = elim z [ ]

@@ -1,17 +1,9 @@
 -- Members of lists, and lists that are mapped.
-use Rattle.std.proofs.Common.{◌≡◌, ℕ, zero, suc, ◌<◌, ⊎_elim, List, [], ◌∷◌, map, length, refl, sym, ap, subst, arith}
-use Rattle.std.specs.List.{All, AllPairs, Contains}
+use Rattle.std.proofs.Common.{◌≡◌, ℕ, zero, suc, ◌<◌, ⊎_elim, List, [], ◌∷◌, map, length, refl, sym, subst, arith}
+use Rattle.std.specs.List.{AllPairs, Contains}
 use Rattle.std.specs.Prelude.{slice_index_or}
-use Rattle.mach_laws.proofs.Walking.{none_in, first_in, later_in, in_cons}
-
-pub head_same : {A : Type 0} {x y : A} {xs ys : List A} → x ∷ xs ≡ y ∷ ys → x ≡ y
-head_same e = cc
-
-pub tail_same : {A : Type 0} {x y : A} {xs ys : List A} → x ∷ xs ≡ y ∷ ys → xs ≡ ys
-tail_same e = cc
-
-pub none_there : {A : Type 0} {x : A} {xs : List A} → [] ≡ x ∷ xs → ⊥
-none_there e = cc
+use Rattle.std.proofs.lemmas.List.{length-map}
+use Rattle.bs_words.proofs.Lists.{none_in, first_in, later_in, in_cons}
 
 -- what a member of a mapped list was
 pub record Was {A B : Type 0} (f : A → B) (xs : List A) (y : B) : Type 0 where
@@ -26,35 +18,16 @@ was f (x ∷ xs) y c =
     (λ d. let w = was f xs y d in record { what = w.what; among = later_in x w.what xs w.among; same = w.same })
     (in_cons (f x) y (map f xs) c)
 
-pub mapped : {A B : Type 0} (f : A → B) (xs : List A) (x : A) → Contains xs x → Contains (map f xs) (f x)
-mapped f [] x c = absurd (none_in x c)
-mapped f (y ∷ ys) x c =
-    ⊎_elim (λ e. subst (λ z. Contains (f y ∷ map f ys) (f z)) e (first_in (f y) (map f ys)))
-    (λ d. later_in (f y) (f x) (map f ys) (mapped f ys x d)) (in_cons y x ys c)
-
-pub length_mapped : {A B : Type 0} (f : A → B) (xs : List A) → length (map f xs) ≡ length xs
-length_mapped f [] = refl
-length_mapped f (x ∷ xs) = ap suc (length_mapped f xs)
-
 at_mapped : {A : Type 0} (f : A → A) (xs : List A) (k : ℕ) (d : A) → k < length xs →
     slice_index_or (map f xs) k d ≡ f (slice_index_or xs k d)
 at_mapped f [] k d lt = absurd (omega (arith, lt))
 at_mapped f (x ∷ xs) zero d lt = refl
 at_mapped f (x ∷ xs) (suc k) d lt = at_mapped f xs k d (omega (arith, lt))
 
-pub all_mapped : {A : Type 0} (f : A → A) (P : A → Type 0) (xs : List A) → All (λ x. P (f x)) xs → All P (map f xs)
-all_mapped f P xs h = λ k d lt.
-    let le : k < length xs = subst (λ n. k < n) (length_mapped f xs) lt in
-    subst P (sym (at_mapped f xs k d le)) (h k d le)
-
 pub pairs_mapped : {A : Type 0} (f : A → A) (R : A → A → Type 0) (xs : List A) → AllPairs (λ x y. R (f x) (f y)) xs →
     AllPairs R (map f xs)
 pairs_mapped f R xs h = λ i j d lt within.
-    let le : j < length xs = subst (λ n. j < n) (length_mapped f xs) within in
+    let le : j < length xs = subst (λ n. j < n) (length-map xs f) within in
     let under : i < length xs = omega (arith, lt, le) in
     subst (R (slice_index_or (map f xs) i d)) (sym (at_mapped f xs j d le))
     (subst (λ x. R x (f (slice_index_or xs j d))) (sym (at_mapped f xs i d under)) (h i j d lt le))
-
--- a fact of each is one of each member
-pub of_all : {A : Type 0} (P : A → Type 0) (xs : List A) (x : A) → All P xs → Contains xs x → P x
-of_all P xs x h c = subst P c.2 (h c.0 x c.1)

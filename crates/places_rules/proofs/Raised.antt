@@ -1,6 +1,7 @@
 -- Where an operation comes to a handler or a label, it has written nothing, or carries a raised value with it.
 use Rattle.std.proofs.Common.{◌≡◌, ℕ, Bool, true, false, ◌⊎◌, inl, inr, List, [], ◌∷◌, Option, Some, None, refl, subst}
 use Rattle.std.specs.Prelude.{slice_get}
+use Rattle.std.proofs.lemmas.Bool.{false≢true}
 use Rattle.bs_words.specs.declared.types.Comp.{Comp}
 use Rattle.bs_words.specs.declared.types.Ret.{Ret}
 use Rattle.bs_words.specs.declared.types.Ret.TheVariants as ret
@@ -186,9 +187,6 @@ no_label_next : (b : Bool) (l : ℕ) → OneOf (At l) (next_if b) → ⊥
 no_label_next true l (other o) = elim o [ ]
 no_label_next false l o = elim o [ ]
 
-not_true : false ≡ true → ⊥
-not_true e = cc
-
 module _ (m : Mach) where
   -- it writes nothing
   abbrev pub IsSilent : Instr → Type 0
@@ -209,7 +207,7 @@ module _ (m : Mach) where
       (vs : List Value) (x : Around) →
       Told (IsSilent (record { op = mach.Mark f; args = args; results = results })) (mach_act c (mach.Mark f) vs x)
   mark_told f args results h (handles {l = l}) c vs x =
-      never_told (mach.Mark (mark.Handler l)) not_true (no_label_next true) (mach_act c (mach.Mark (mark.Handler l)) vs x)
+      never_told (mach.Mark (mark.Handler l)) false≢true (no_label_next true) (mach_act c (mach.Mark (mark.Handler l)) vs x)
       (within c (mach.Mark (mark.Handler l)) vs x)
   mark_told f args results h (plain none d) c vs x =
       silent_told (silent_of (mach.Mark f) args results d (none (comps args) (comps results) h))
@@ -224,10 +222,10 @@ module _ (m : Mach) where
   pub told : {i : Instr} → IsFormed i → (c : Setting) (vs : List Value) (x : Around) →
       Told (IsSilent i) (mach_act c i.op vs x)
   told (formed_op {f = op.Pure f} h) c vs x =
-      never_told (mach.Op (op.Pure f)) not_true (no_label_next true) (mach_act c (mach.Op (op.Pure f)) vs x)
+      never_told (mach.Op (op.Pure f)) false≢true (no_label_next true) (mach_act c (mach.Op (op.Pure f)) vs x)
       (within c (mach.Op (op.Pure f)) vs x)
   told (formed_op {f = op.Access f} h) c vs x =
-      never_told (mach.Op (op.Access f)) not_true (no_label_next true) (mach_act c (mach.Op (op.Access f)) vs x)
+      never_told (mach.Op (op.Access f)) false≢true (no_label_next true) (mach_act c (mach.Op (op.Access f)) vs x)
       (within c (mach.Op (op.Access f)) vs x)
   told (formed_op {f = op.Calling f} h) c vs x = calling_told _ c f vs x
   told (formed_op {f = op.Leaving f} {args = args} {results = results} h) c vs x =

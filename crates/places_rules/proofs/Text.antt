@@ -2,6 +2,7 @@
 -- registers stand.
 use Rattle.std.proofs.Common.{◌≡◌, ◌≢◌, ℕ, ◌<◌, ◌≤◌, Bool, true, false, cond, List, [], ◌∷◌, ◌++◌, length, refl, sym, ap, ◌∙◌, subst}
 use Rattle.std.specs.List.{All, AllPairs}
+use Rattle.std.proofs.lemmas.List.Elements.{All-map}
 use Rattle.mach_ir.specs.Acts.{Target, On, At}
 use Rattle.mach_ir.specs.Forms.{HasForm, results_of}
 use Rattle.mach_ir.specs.Formed.{comps, MarkHasForm, IsFormed, formed_op, formed_mark, AreDistinct, labels_of, labels_in, HasPlace, place_here, place_below, HasHandler, handler_here, handler_below, LeadsTo, is_exit, LabelsStand, tries_left, leaves, IsNested, CasesAgree, WellFormed}
@@ -12,8 +13,9 @@ use Rattle.mach_ir.specs.declared.mach.MachOp.{MachOp}
 use Rattle.mach_ir.specs.declared.mach.MachOp.TheVariants as mach
 use Rattle.mach_ir.specs.declared.mach.Instr.{Instr}
 use Rattle.mach_ir.specs.declared.mach.Mach.{Mach}
+use Rattle.bs_words.proofs.Lists.{mapped}
 use Rattle.places_rules.specs.Places.{Placing, placed, all_placed, placed_instr, placed_code, with_places}
-use Rattle.places_rules.proofs.Lists.{was, mapped, all_mapped, pairs_mapped}
+use Rattle.places_rules.proofs.Lists.{was, pairs_mapped}
 
 module _ (place : Placing) where
   -- ---- labels and tries
@@ -246,10 +248,10 @@ module _ (place : Placing) where
               (well.numbers w.register v.register w.among v.among
               (ap (λ (r : Reg). r.number) w.same ∙ e ∙ sym (ap (λ (r : Reg). r.number) v.same)))
               ∙ v.same;
-          params = all_mapped (placed place) (λ (r : Reg). r.origin ≡ r.number) m.params well.params;
+          params = All-map (λ (r : Reg). r.origin ≡ r.number) (placed place) m.params well.params;
           params_distinct = pairs_mapped (placed place) (λ (r q : Reg). r.number ≢ q.number) m.params well.params_distinct;
-          instrs = all_mapped (placed_instr place) IsFormed m.code (λ k d lt. formed (well.instrs k d lt));
-          distinct = all_mapped (placed_instr place) (λ (i : Instr). AreDistinct i.results) m.code
+          instrs = All-map IsFormed (placed_instr place) m.code (λ k d lt. formed (well.instrs k d lt));
+          distinct = All-map (λ (i : Instr). AreDistinct i.results) (placed_instr place) m.code
               (λ k d lt. pairs_mapped (placed place) (λ (r q : Reg). r.number ≢ q.number) _ (well.distinct k d lt));
           returns = λ i c e.
               let w = was (placed_instr place) m.code i c in

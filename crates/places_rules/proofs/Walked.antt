@@ -1,24 +1,25 @@
 -- What is live, joined and reached in a function whose open registers have been given places was so before: where an
 -- operation destroys less than it did, nothing that is live is the difference.
-use Rattle.std.proofs.Common.{◌≡◌, ℕ, Bool, true, false, cond, not, ◌&&◌, ◌||◌, ◌⊎◌, inl, inr, ⊎_elim, List, [], ◌∷◌, ◌++◌, refl, sym, ap, ◌∙◌, subst}
-use Rattle.std.proofs.lemmas.Bool.{cases_Bool, eq-eqb, eqb-true}
+use Rattle.std.proofs.Common.{◌≡◌, ℕ, Bool, true, false, cond, not, ◌&&◌, ◌⊎◌, ⊎_elim, List, [], ◌∷◌, refl, sym, ap, ◌∙◌, subst}
+use Rattle.std.proofs.lemmas.Bool.{cases_Bool, eq-eqb, eqb-true, both_ways, and_parts, or_left, or_right, or_cases}
 use Rattle.std.specs.List.{Contains}
 use Rattle.std.specs.Prelude.{nat_eq}
 use Rattle.bs_words.specs.declared.types.Loc.{Loc}
 use Rattle.bs_words.specs.declared.types.Loc.TheVariants as loc
+use Rattle.bs_words.proofs.Lists.{none_in, first_in, later_in, in_cons, mapped}
 use Rattle.mach_ir.specs.Acts.{Target, On, At}
 use Rattle.mach_ir.specs.Meaning.{Destroyed, Nothing, Temporaries, Everything, destroyed_by, is_destroyed, same_colour, is_at_one_of, killed_among, killed_by, killed, passes_frame, after_label, from_handler, code_at, tries_at, tries_past}
 use Rattle.mach_ir.specs.Placed.{colours, WellPlaced}
-use Rattle.mach_ir.specs.Walks.{Among, first, later, OneOf, targets, may_raise, goes, raises, Reached, at_entry, by_step, by_raise, Writes, Live, read, on, aside, LiveAfter, after_step, LiveAcross, across_step, across_raise, InCode, in_results, further, IsRegister, is_colour, is_in_code, Stands, here, below, NoAddrLive, IsMove, is_move, Meets, at_write, at_params, Joined, one_way, other_way}
+use Rattle.mach_ir.specs.Walks.{Among, first, later, OneOf, targets, may_raise, goes, raises, Reached, at_entry, by_step, by_raise, Writes, Live, read, on, aside, LiveAfter, after_step, LiveAcross, across_step, across_raise, IsRegister, is_colour, is_in_code, Stands, NoAddrLive, IsMove, is_move, Meets, at_write, at_params, Joined, one_way, other_way}
 use Rattle.mach_ir.specs.declared.reg.Reg.{Reg}
 use Rattle.mach_ir.specs.declared.mach.Instr.{Instr}
 use Rattle.mach_ir.specs.declared.mach.Mach.{Mach}
 use Rattle.mach_laws.specs.Expand.{Ending, all, more}
-use Rattle.mach_laws.proofs.Places.{ending_next, ending_label, ending_from_handler}
-use Rattle.mach_laws.proofs.Walking.{none_in, first_in, later_in, in_cons}
+use Rattle.mach_laws.proofs.Places.{ending_next, ending_label, ending_from_handler, stands_of, ending_of, results_in}
+use Rattle.mach_laws.proofs.Among.{left_among, right_among, split_among, among_of}
 use Rattle.places_rules.specs.Places.{Placing, IsPlacing, placed, all_placed, placed_instr, placed_code, with_places}
 use Rattle.places_rules.proofs.Open.{machine_open, machine_slot}
-use Rattle.places_rules.proofs.Lists.{was, mapped}
+use Rattle.places_rules.proofs.Lists.{was}
 use Rattle.places_rules.proofs.Text.{same_label, same_handler, was_register, was_at}
 use Rattle.places_rules.proofs.Instructions.{among_there, among_back}
 
@@ -43,21 +44,6 @@ same_colour_is (loc.Machine a) (loc.Slot b) e = absurd (not_true e)
     not_true : false ≡ true → ⊥
     not_true e = cc
 
-not_both : (b : Bool) → b ≡ true → b ≡ false → ⊥
-not_both b e h = cc
-
-or_left : (a b : Bool) → a ≡ true → a || b ≡ true
-or_left true b e = refl
-or_left false b e = absurd (not_both false e refl)
-
-or_right : (a b : Bool) → b ≡ true → a || b ≡ true
-or_right true b e = refl
-or_right false b e = e
-
-or_cases : (a b : Bool) → a || b ≡ true → (a ≡ true) ⊎ (b ≡ true)
-or_cases true b e = inl refl
-or_cases false b e = inr e
-
 -- a register of these at the same colour
 record StandsAt (l : Loc) (rs : List Reg) : Type 0 where
   reg : Reg
@@ -67,7 +53,7 @@ record StandsAt (l : Loc) (rs : List Reg) : Type 0 where
   there : reg.loc ≡ loc.Machine colour
 
 at_one : (l : Loc) (rs : List Reg) → is_at_one_of l rs ≡ true → StandsAt l rs
-at_one l [] e = absurd (not_both false e refl)
+at_one l [] e = absurd (both_ways false refl e)
 at_one l (r ∷ rs) e =
     ⊎_elim
     (λ h.
@@ -99,19 +85,15 @@ record IsKilled (n : ℕ) (rs : List Reg) (d : Destroyed) (results : List Reg) :
   gone : is_destroyed d reg.loc ≡ true
   free : is_at_one_of reg.loc results ≡ false
 
-and_left : (a b : Bool) → a && b ≡ true → a ≡ true
-and_left true b e = refl
-and_left false b e = e
-
 and_right : (a b : Bool) → a && not b ≡ true → b ≡ false
 and_right true true e = sym e
 and_right true false e = refl
-and_right false b e = absurd (not_both false e refl)
+and_right false b e = absurd (both_ways false refl e)
 
 both_so : (a b : Bool) → a ≡ true → b ≡ false → a && not b ≡ true
 both_so true true e h = sym h
 both_so true false e h = refl
-both_so false b e h = absurd (not_both false e refl)
+both_so false b e h = absurd (both_ways false refl e)
 
 if_killed : (n : ℕ) (r : Reg) (rs : List Reg) (d : Destroyed) (results others : List Reg) (b : Bool) →
     is_destroyed d r.loc && not (is_at_one_of r.loc results) ≡ b → Among n (cond b (r ∷ others) others) →
@@ -121,7 +103,7 @@ if_killed n r rs d results others true e (first h) old =
       reg = r;
       among = first_in r rs;
       number = h;
-      gone = and_left (is_destroyed d r.loc) (not (is_at_one_of r.loc results)) e;
+      gone = (and_parts (is_destroyed d r.loc) (not (is_at_one_of r.loc results)) e).0;
       free = and_right (is_destroyed d r.loc) (is_at_one_of r.loc results) e;
     }
 if_killed n r rs d results others true e (later a) old =
@@ -167,43 +149,11 @@ killed_has r (k ∷ rs) d results c e h =
 
 killed_by_has : (r : Reg) (rs : List Reg) (d : Destroyed) (results : List Reg) → Contains rs r → is_destroyed d r.loc ≡ true →
     is_at_one_of r.loc results ≡ false → Among r.number (killed_by rs d results)
-killed_by_has r rs Nothing results c e h = absurd (not_both false e refl)
+killed_by_has r rs Nothing results c e h = absurd (both_ways false refl e)
 killed_by_has r rs Temporaries results c e h = killed_has r rs Temporaries results c e h
 killed_by_has r rs Everything results c e h = killed_has r rs Everything results c e h
 
--- ---- members by number
-
-pub left_among : {n : ℕ} (rs qs : List Reg) → Among n rs → Among n (rs ++ qs)
-left_among (r ∷ rs) qs (first e) = first e
-left_among (r ∷ rs) qs (later a) = later (left_among rs qs a)
-left_among [] qs a = elim a [ ]
-
-pub right_among : {n : ℕ} (rs qs : List Reg) → Among n qs → Among n (rs ++ qs)
-right_among [] qs a = a
-right_among (r ∷ rs) qs a = later (right_among rs qs a)
-
-pub split_among : (n : ℕ) (rs qs : List Reg) → Among n (rs ++ qs) → Among n rs ⊎ Among n qs
-split_among n [] qs a = inr a
-split_among n (r ∷ rs) qs (first e) = inl (first e)
-split_among n (r ∷ rs) qs (later a) = ⊎_elim (λ h. inl (later h)) inr (split_among n rs qs a)
-
-among_of : (r : Reg) (rs : List Reg) → Contains rs r → Among r.number rs
-among_of r [] c = absurd (none_in r c)
-among_of r (k ∷ rs) c =
-    ⊎_elim (λ e. first (ap (λ (x : Reg). x.number) e)) (λ d. later (among_of r rs d)) (in_cons k r rs c)
-
--- a code that another ends with stands in it
-pub stands_of : {i : Instr} {next code : List Instr} → Ending (i ∷ next) code → Stands i next code
-stands_of all = here
-stands_of (more e) = below (stands_of e)
-
-pub ending_of : {i : Instr} {next code : List Instr} → Stands i next code → Ending (i ∷ next) code
-ending_of here = all
-ending_of (below s) = more (ending_of s)
-
-in_code_results : {i : Instr} {next code : List Instr} {r : Reg} → Stands i next code → Contains i.results r → InCode r code
-in_code_results here c = in_results c
-in_code_results (below s) c = further (in_code_results s c)
+-- ---- members of the code
 
 module _ (m : Mach) (place : Placing) (well : WellPlaced m) (is : IsPlacing m place) where
   abbrev q : Mach
@@ -234,14 +184,14 @@ module _ (m : Mach) (place : Placing) (well : WellPlaced m) (is : IsPlacing m pl
       (killed_by_has w.what m.colours (destroyed_by i.op) i.results w.among
       (ap (is_destroyed (destroyed_by i.op)) (sym same) ∙ k.gone)
       (⊎_elim
-      (λ e. absurd (not_both (is_at_one_of (k.reg).loc (all_placed place i.results)) (there (k.reg).loc same (at_one (w.what).loc i.results e)) k.free))
+      (λ e. absurd (both_ways (is_at_one_of (k.reg).loc (all_placed place i.results)) k.free (there (k.reg).loc same (at_one (w.what).loc i.results e))))
       (λ e. e) (cases_Bool (is_at_one_of (w.what).loc i.results))))
     where
       there : {w : Loc} (l : Loc) → l ≡ w → StandsAt w i.results → is_at_one_of l (all_placed place i.results) ≡ true
       there l same t =
           in_one l (all_placed place i.results) (placed place t.reg) t.colour (mapped (placed place) i.results t.reg t.among)
           (same ∙ t.place)
-          (machine_stays t.reg (is_in_code (in_code_results s t.among)) t.colour t.there)
+          (machine_stays t.reg (is_in_code (results_in s t.among)) t.colour t.there)
 
   -- what is no longer destroyed is not live then
   still_killed : {n : ℕ} {i : Instr} {next : List Instr} → Stands i next m.code → LiveAfter m n i next →
@@ -252,7 +202,7 @@ module _ (m : Mach) (place : Placing) (well : WellPlaced m) (is : IsPlacing m pl
           Writes q (placed_instr place i) n
       by_result k t =
           let w = was (placed place) i.results t.reg t.among in
-          let register = is_in_code (in_code_results s w.among) in
+          let register = is_in_code (results_in s w.among) in
           ⊎_elim
           (λ e.
           left_among (all_placed place i.results) (killed q (placed_instr place i))
@@ -261,7 +211,7 @@ module _ (m : Mach) (place : Placing) (well : WellPlaced m) (is : IsPlacing m pl
           (λ e.
           let joined : Joined m (w.what).number (k.reg).number =
           subst (λ b. Joined m (w.what).number b) (sym k.number)
-          (one_way (λ h. not_both (nat_eq (w.what).number n) (eq-eqb (w.what).number n h) e)
+          (one_way (λ h. both_ways (nat_eq (w.what).number n) e (eq-eqb (w.what).number n h))
           (at_write i next s (left_among i.results (killed m i) (among_of w.what i.results w.among)) v
           (λ move. no_move (k.reg).loc i k.gone move))) in
           let share = is.apart w.what k.reg register (is_colour k.among) joined
@@ -272,7 +222,7 @@ module _ (m : Mach) (place : Placing) (well : WellPlaced m) (is : IsPlacing m pl
           (cases_Bool (nat_eq (w.what).number n))
         where
           no_move : {from to : ℕ} (l : Loc) (i : Instr) → is_destroyed (destroyed_by i.op) l ≡ true → IsMove from to i → ⊥
-          no_move l i e (is_move a b) = not_both false e refl
+          no_move l i e (is_move a b) = both_ways false refl e
 
       by : IsKilled n m.colours (destroyed_by i.op) i.results → Writes q (placed_instr place i) n
       by k =

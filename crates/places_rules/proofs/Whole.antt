@@ -3,8 +3,10 @@ use Rattle.std.proofs.Common.{◌≡◌, ◌≢◌, ℕ, ◌+◌, ◌≤◌, ◌
 use Rattle.std.proofs.lemmas.Bool.{eq-eqb, eqb-true}
 use Rattle.std.specs.List.{Contains}
 use Rattle.std.specs.Prelude.{nat_eq}
+use Rattle.std.proofs.lemmas.List.{length-map}
 use Rattle.bs_words.specs.declared.types.Loc.{Loc}
 use Rattle.bs_words.specs.declared.types.Loc.TheVariants as loc
+use Rattle.bs_words.proofs.Lists.{none_in, first_in, later_in, in_cons, mapped}
 use Rattle.mach_ir.specs.Formed.{WellFormed}
 use Rattle.mach_ir.specs.Keeps.{Keeps, IsLoose, is_open, is_slot, NamesSymbol, NamesExternal, IsNamedIn}
 use Rattle.mach_ir.specs.Placed.{IsPlaced, in_colour, in_slot, MayShare, WellPlaced, FullyPlaced}
@@ -21,10 +23,9 @@ use Rattle.mach_ir.specs.declared.mach.MachOp.TheVariants as mach
 use Rattle.mach_ir.specs.declared.reg.Reg.{Reg}
 use Rattle.mach_ir.specs.declared.mach.Instr.{Instr}
 use Rattle.mach_ir.specs.declared.mach.Mach.{Mach}
-use Rattle.mach_laws.proofs.Walking.{none_in, first_in, later_in, in_cons}
 use Rattle.places_rules.specs.Places.{Placing, IsPlacing, placed, all_placed, placed_instr, placed_code, with_places, IsSlot, SlotsGrow}
 use Rattle.places_rules.proofs.Kept.{does_placed}
-use Rattle.places_rules.proofs.Lists.{was, mapped, length_mapped}
+use Rattle.places_rules.proofs.Lists.{was}
 use Rattle.places_rules.proofs.Text.{was_register}
 use Rattle.places_rules.proofs.Open.{slot_open, machine_slot, same_slot}
 use Rattle.places_rules.proofs.Walked.{machine_stays, colour_stays, joined_before, no_addr_before}
@@ -107,15 +108,15 @@ module _ (m : Mach) (place : Placing) where
   same_count [] = refl
   same_count (i ∷ is) =
       ap (λ n. n + length (all_placed place i.results) + operand_count (placed_code place is))
-      (length_mapped (placed place) i.args)
-      ∙ ap (λ n. length i.args + n + operand_count (placed_code place is)) (length_mapped (placed place) i.results)
+      (length-map i.args (placed place))
+      ∙ ap (λ n. length i.args + n + operand_count (placed_code place is)) (length-map i.results (placed place))
       ∙ ap (λ n. length i.args + length i.results + n) (same_count is)
 
   -- It is as large as it was, wherever its registers stand.
   pub placed_size : (s : Size) → HasSize m s → HasSize (with_places place m) s
   placed_size s h =
       record {
-        instrs = subst (λ n. n ≤ s.instrs) (sym (length_mapped (placed_instr place) m.code)) h.instrs;
+        instrs = subst (λ n. n ≤ s.instrs) (sym (length-map m.code (placed_instr place))) h.instrs;
         operands = subst (λ n. n ≤ s.operands) (sym (same_count m.code)) h.operands;
         numbers = λ r i.
             let w = was_register place m r i in
@@ -348,7 +349,7 @@ module _ (m : Mach) (well : WellFormed m) where
   placed_slots place is k few =
       record {
         others = map (origin_of m) few.numbers;
-        few = subst (λ n. n ≤ k) (sym (length_mapped (origin_of m) few.numbers)) few.few;
+        few = subst (λ n. n ≤ k) (sym (length-map few.numbers (origin_of m))) few.few;
         all = λ slot s.
             let w = was_register place m s.register s.among in
             by w.register slot w.among (ap (λ (r : Reg). r.loc) w.same ∙ s.stands) (is.fixed w.register w.among)

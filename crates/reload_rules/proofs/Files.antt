@@ -1,14 +1,17 @@
 -- What fresh registers hold where they are read and written in place of others.
 use Rattle.std.proofs.Common.{◌≡◌, ℕ, suc, ◌<◌, Bool, true, false, cond, ⊎_elim, List, [], ◌∷◌, Option, Some, None, refl, sym, ap, ◌∙◌, subst, arith}
 use Rattle.std.specs.List.{Contains}
+use Rattle.std.proofs.lemmas.Bool.{both_ways}
+use Rattle.std.proofs.lemmas.Option.{none-some, same_Some}
 use Rattle.bs_words.specs.Fits.{fits, type_of_comp}
 use Rattle.bs_words.specs.declared.values.Value.{Value}
+use Rattle.bs_words.proofs.Lists.{none_in, first_in, later_in, in_cons}
 use Rattle.mach_ir.specs.Formed.{AreDistinct}
 use Rattle.mach_ir.specs.Meaning.{File, put, put_if, put_all, with_held, values}
 use Rattle.mach_ir.specs.Walks.{Among, first, later}
 use Rattle.mach_ir.specs.declared.reg.Reg.{Reg}
-use Rattle.mach_laws.proofs.Walking.{none_in, first_in, later_in, in_cons}
-use Rattle.places_rules.proofs.Files.{differ, none_some, some_same, put_here, put_other}
+use Rattle.places_rules.proofs.Files.{put_here}
+use Rattle.mach_laws.proofs.Files.{put_other}
 use Rattle.reload_rules.specs.Reloaded.{is_renewed, fresh, number_after, renewed}
 use Rattle.reload_rules.proofs.Numbers.{IsFor, for_this, for_other, after_true, after_rises, for_from, for_in}
 
@@ -71,11 +74,11 @@ module _ (end : ℕ) where
         puts = refl;
         own = λ r c t. absurd (none_in r c);
         made = λ x w h. elim h [ ];
-        others = λ y h. ap (λ (x : File). x y) (sym (some_same e));
+        others = λ y h. ap (λ (x : File). x y) (sym (same_Some _ _ e));
         others_new = λ y h. refl;
       }
-  put_renewed b n [] (v ∷ vs) f g d apart low e = absurd (none_some e)
-  put_renewed b n (r ∷ rs) [] f g d apart low e = absurd (none_some e)
+  put_renewed b n [] (v ∷ vs) f g d apart low e = absurd (none-some _ e)
+  put_renewed b n (r ∷ rs) [] f g d apart low e = absurd (none-some _ e)
   put_renewed b n (r ∷ rs) (v ∷ vs) f g d (apart_more once apart) low e =
       by (fits end (type_of_comp r.comp) v) (put_all end rs vs f) refl refl e
       (λ c h.
@@ -113,7 +116,7 @@ module _ (end : ℕ) where
           own_here k s h = of stood
             where
               of : Stood b n r x → put r v c k.number ≡ put x v p.file k.number
-              of (as_fresh t g) = absurd (differ (is_renewed b r) t (subst (λ k. is_renewed b k ≡ false) (sym h) s))
+              of (as_fresh t g) = absurd (both_ways (is_renewed b r) (subst (λ k. is_renewed b k ≡ false) (sym h) s) t)
               of (as_itself t g) =
                   written k.number k.number (ap (λ (x : Reg). x.number) h) (ap (λ (x : Reg). x.number) (sym g ∙ h))
 
@@ -150,7 +153,7 @@ module _ (end : ℕ) where
             where
               of : Stood b n r x → put r v c r.number ≡ put x v p.file n
               of (as_fresh t g) = written r.number n refl (sym (ap (λ (x : Reg). x.number) g))
-              of (as_itself s g) = absurd (differ (is_renewed b r) t s)
+              of (as_itself s g) = absurd (both_ways (is_renewed b r) s t)
           made_at y w (for_other h) =
               put_other r v c w.number (once w (for_in b h)) ∙ p.made y w h ∙ sym (put_other x v p.file y (not_made y w h))
 
@@ -158,7 +161,7 @@ module _ (end : ℕ) where
           put_if t r v o ≡ Some d →
           ((c : File) → put_all end rs vs f ≡ Some c → PutsRenewed b (number_after b n r) rs vs f g c) →
           PutsRenewed b n (r ∷ rs) (v ∷ vs) f g d
-      by false o t e h again = absurd (none_some h)
-      by true None t e h again = absurd (none_some h)
+      by false o t e h again = absurd (none-some _ h)
+      by true None t e h again = absurd (none-some _ h)
       by true (Some c) t e h again =
-          one c (again c e) (some_same h) t (cond (is_renewed b r) (fresh n r) r) refl (stood b n r)
+          one c (again c e) (same_Some _ _ h) t (cond (is_renewed b r) (fresh n r) r) refl (stood b n r)

@@ -2,7 +2,8 @@
 use Rattle.std.proofs.Common.{◌≡◌, ◌≢◌, ℕ, zero, suc, ◌<◌, ◌≤◌, Bool, true, false, cond, ⊎_elim, List, [], ◌∷◌, length, refl, sym, ap, ◌∙◌, subst, arith}
 use Rattle.std.specs.List.{All, AllPairs, Contains}
 use Rattle.std.specs.Prelude.{slice_index_or}
-use Rattle.std.proofs.lemmas.List.Elements.{Contains-get_or}
+use Rattle.std.proofs.lemmas.List.Elements.{Contains-get_or, All-contains}
+use Rattle.std.proofs.lemmas.Bool.{both_ways}
 use Rattle.mach_ir.specs.Acts.{On, At}
 use Rattle.mach_ir.specs.Forms as form
 use Rattle.mach_ir.specs.Formed.{comps, MarkHasForm, IsFormed, formed_op, formed_mark, AreDistinct, LeadsTo, LabelsStand, tries_left, leaves, is_exit, IsNested, CasesAgree, WellFormed}
@@ -17,13 +18,11 @@ use Rattle.mach_ir.specs.declared.mach.Mark.TheVariants as mark
 use Rattle.mach_ir.specs.declared.mach.MachOp.TheVariants as mach
 use Rattle.mach_ir.specs.declared.mach.Instr.{Instr}
 use Rattle.mach_ir.specs.declared.mach.Mach.{Mach}
-use Rattle.mach_laws.proofs.Places.{label_expand, handler_expand, tries_expand}
-use Rattle.mach_laws.proofs.Walking.{first_in, later_in}
-use Rattle.split_rules.proofs.Formed.{contains_of, of_each}
-use Rattle.split_rules.proofs.Text.{results_in}
+use Rattle.mach_laws.proofs.Places.{label_expand, handler_expand, tries_expand, results_in}
+use Rattle.split_rules.proofs.Formed.{contains_of}
 use Rattle.spill_rules.specs.Spilled.{copied}
-use Rattle.places_rules.proofs.Files.{differ}
 use Rattle.spill_rules.proofs.Formed.{one_distinct}
+use Rattle.bs_words.proofs.Lists.{first_in, later_in}
 use Rattle.reload_rules.specs.Reloaded.{reads_registers, writes_registers, is_renewed, fresh, number_after, renewed}
 use Rattle.reload_rules.proofs.Files.{Apart, apart_more, apart_of}
 use Rattle.reload_rules.proofs.Live.{IsNumbering, reloaded_by}
@@ -121,10 +120,10 @@ module _ (m : Mach) (s : ℕ → ℕ) (free top : ℕ) (formed : WellFormed m) (
   no_mark i k e (is_copy kind from to h) = op_mark kind from to k (ap (λ (i : Instr). i.op) h ∙ e)
 
   no_raise : (i : Instr) → may_raise i.op ≡ true → Copy i → ⊥
-  no_raise i r (is_copy kind from to h) = differ false (ap (λ (i : Instr). may_raise i.op) h ∙ r) refl
+  no_raise i r (is_copy kind from to h) = both_ways false refl (ap (λ (i : Instr). may_raise i.op) h ∙ r)
 
   no_leaving : (i : Instr) → leaves i.op ≡ true → Copy i → ⊥
-  no_leaving i r (is_copy kind from to h) = differ false (ap (λ (i : Instr). leaves i.op) h ∙ r) refl
+  no_leaving i r (is_copy kind from to h) = both_ways false refl (ap (λ (i : Instr). leaves i.op) h ∙ r)
 
   op_return : (kind : CopyKind) (from to : Reg) → (copied kind from to).op ≡ mach.Op (op.Leaving leaving.Return) → ⊥
   op_return kind from to e = cc
@@ -218,7 +217,7 @@ module _ (m : Mach) (s : ℕ → ℕ) (free top : ℕ) (formed : WellFormed m) (
   main_distinct : (i : Instr) (next : List Instr) → Stands i next m.code → AreDistinct (over i next).results
   main_distinct i next t =
       renewed_distinct (writes_registers i.op) (first_result m s free top formed placed is i next) i.results
-      (apart_of i.results (of_each (λ (i : Instr). AreDistinct i.results) m.code i formed.distinct (contains_of t)))
+      (apart_of i.results (All-contains (λ (i : Instr). AreDistinct i.results) m.code i formed.distinct (contains_of t)))
       (λ r c.
       let lt = is.above r (is_in_code (results_in t c)) in
       let from = is.from i next t in
@@ -235,7 +234,7 @@ module _ (m : Mach) (s : ℕ → ℕ) (free top : ℕ) (formed : WellFormed m) (
         params = formed.params;
         params_distinct = formed.params_distinct;
         instrs = each_in m s free top formed placed is IsFormed copy_formed
-            (λ i next t. main_formed i next (of_each IsFormed m.code i formed.instrs (contains_of t)));
+            (λ i next t. main_formed i next (All-contains IsFormed m.code i formed.instrs (contains_of t)));
         distinct = each_in m s free top formed placed is (λ (i : Instr). AreDistinct i.results) (λ kind from to. one_distinct to) main_distinct;
         returns = λ i c e.
             let w = (main_at i c (no_return i e)).1 in

@@ -1,12 +1,15 @@
 -- A function with its reloads and spills does what it did: what is live holds what it held, and so do the fresh registers of the
 -- instruction that is near.
 use Rattle.std.proofs.Common.{◌≡◌, ℕ, suc, ◌<◌, ◌≤◌, Bool, true, false, cond, inl, inr, ◌⊎◌, ⊎_elim, List, [], ◌∷◌, ◌++◌, length, Option, Some, None, refl, sym, ap, ◌∙◌, subst, arith}
-use Rattle.std.proofs.lemmas.Bool.{cases_Bool, eq-eqb, eqb-true}
+use Rattle.std.proofs.lemmas.Bool.{cases_Bool, eq-eqb, eqb-true, both_ways}
 use Rattle.std.specs.List.{Contains}
 use Rattle.std.specs.Prelude.{nat_eq}
+use Rattle.std.proofs.lemmas.Option.{none-some, same_Some}
+use Rattle.std.proofs.lemmas.List.Elements.{All-contains}
 use Rattle.bs_words.specs.Fits.{fits, type_of_comp}
 use Rattle.bs_words.specs.Memory.{Memory}
 use Rattle.bs_words.specs.declared.values.Value.{Value}
+use Rattle.bs_words.proofs.Lists.{none_in, in_cons, head_same, tail_same}
 use Rattle.mach_ir.specs.Acts.{Around, Target, On, At, Landing, AtLabel, AtHandler, Act, Goes, Pushes, Jumps, Unwinds, Asks, Replaces, Ends, EndsRaising, Stuck}
 use Rattle.mach_ir.specs.Formed.{IsFormed, WellFormed, AreDistinct}
 use Rattle.mach_ir.specs.Placed.{WellPlaced}
@@ -28,19 +31,16 @@ use Rattle.mach_laws.proofs.General as general
 use Rattle.mach_laws.proofs.General.{at}
 use Rattle.mach_laws.proofs.Leads.{IsTry, is_try, MayLand, lands_at_label, lands_at_handler, Within, goes_in, pushes_in, jumps_in, unwinds_in, asks_in, within}
 use Rattle.mach_laws.proofs.Level.{begins_at}
-use Rattle.mach_laws.proofs.Places.{ending_next, ending_label, ending_land, ending_from_handler, label_expand, handler_expand}
+use Rattle.mach_laws.proofs.Places.{ending_next, ending_label, ending_land, ending_from_handler, label_expand, handler_expand, stands_of, args_in, results_in}
 use Rattle.mach_laws.proofs.Simulate.{Agrees}
-use Rattle.mach_laws.proofs.Walking.{none_in, in_cons}
-use Rattle.places_rules.proofs.Lists.{head_same, tail_same}
-use Rattle.places_rules.proofs.Files.{none_some, some_same, past_same, cleared, not_cleared, among_or_not, put_here, put_other, put_both}
-use Rattle.places_rules.proofs.Walked.{left_among, right_among, split_among, stands_of}
+use Rattle.mach_laws.proofs.Among.{left_among, right_among, split_among, number_among, among_of}
+use Rattle.mach_laws.proofs.Files.{put_other}
+use Rattle.places_rules.proofs.Files.{past_same, cleared, not_cleared, among_or_not, put_here, put_both}
 use Rattle.places_rules.proofs.Raised.{IsRaised, Told, told_jump, told_unwind, told_ask, IsSilent, told, label_silent, try_silent}
 use Rattle.liveness.proofs.Bounds.{killed_is_colour}
-use Rattle.split_rules.proofs.Formed.{contains_of, of_each}
-use Rattle.split_rules.proofs.Text.{number_among, number_in, args_in, results_in}
+use Rattle.split_rules.proofs.Formed.{contains_of}
 use Rattle.spill_rules.specs.Spilled.{copied}
 use Rattle.spill_rules.proofs.Kept.{values_held, FitsIn, put_fits, put_holds, clear_fits, frame_fits}
-use Rattle.places_rules.proofs.Files.{differ}
 use Rattle.reload_rules.specs.Reloaded.{reads_registers, writes_registers, is_renewed, fresh, number_after, reloads, spills}
 use Rattle.reload_rules.proofs.Calm.{Calm, calm_go, calm_push, calm_label, calm_handler, calm_unwind, calm_ask, IsHandler, is_handler, calm, calm_at_handler}
 use Rattle.reload_rules.proofs.Files.{values_renewed, Apart, apart_of, PutsRenewed, put_renewed}
@@ -55,18 +55,18 @@ data IsCaught : List Instr → Type 0 where
   handled : {i : Instr} {next : List Instr} → IsHandler i.op → IsCaught (i ∷ next)
 
 handler_of : (l : ℕ) (f : MachOp) → is_handler_of l f ≡ true → IsHandler f
-handler_of l (mach.Op f) e = absurd (differ false e refl)
-handler_of l (mach.Mark (mark.Exit k n)) e = absurd (differ false e refl)
-handler_of l (mach.Mark (mark.If t k)) e = absurd (differ false e refl)
-handler_of l (mach.Mark (mark.Else k end)) e = absurd (differ false e refl)
-handler_of l (mach.Mark (mark.Switch ls)) e = absurd (differ false e refl)
-handler_of l (mach.Mark (mark.Case ns k end)) e = absurd (differ false e refl)
-handler_of l (mach.Mark mark.Catch) e = absurd (differ false e refl)
-handler_of l (mach.Mark (mark.With k end)) e = absurd (differ false e refl)
-handler_of l (mach.Mark (mark.Try k)) e = absurd (differ false e refl)
-handler_of l (mach.Mark (mark.Leave k end)) e = absurd (differ false e refl)
+handler_of l (mach.Op f) e = absurd (both_ways false refl e)
+handler_of l (mach.Mark (mark.Exit k n)) e = absurd (both_ways false refl e)
+handler_of l (mach.Mark (mark.If t k)) e = absurd (both_ways false refl e)
+handler_of l (mach.Mark (mark.Else k end)) e = absurd (both_ways false refl e)
+handler_of l (mach.Mark (mark.Switch ls)) e = absurd (both_ways false refl e)
+handler_of l (mach.Mark (mark.Case ns k end)) e = absurd (both_ways false refl e)
+handler_of l (mach.Mark mark.Catch) e = absurd (both_ways false refl e)
+handler_of l (mach.Mark (mark.With k end)) e = absurd (both_ways false refl e)
+handler_of l (mach.Mark (mark.Try k)) e = absurd (both_ways false refl e)
+handler_of l (mach.Mark (mark.Leave k end)) e = absurd (both_ways false refl e)
 handler_of l (mach.Mark (mark.Handler k)) e = is_handler
-handler_of l (mach.Mark (mark.End k)) e = absurd (differ false e refl)
+handler_of l (mach.Mark (mark.End k)) e = absurd (both_ways false refl e)
 
 caught_from : (l : ℕ) (code : List Instr) → IsCaught (from_handler l code)
 caught_from l [] = nowhere
@@ -121,7 +121,7 @@ module _ (m : Mach) (s : ℕ → ℕ) (free top : ℕ) (formed : WellFormed m) (
   Unspilled = NotSpilled m s free top formed placed is
 
   form_of : {i : Instr} {next : List Instr} → Ending (i ∷ next) m.code → IsFormed i
-  form_of {i} e = of_each IsFormed m.code i formed.instrs (contains_of (stands_of e))
+  form_of {i} e = All-contains IsFormed m.code i formed.instrs (contains_of (stands_of e))
 
   pub laid_after : (i : Instr) (next : List Instr) → Ending (i ∷ next) m.code →
       Lay (Storing i next (first_result i next) i.results) (spills (writes_registers i.op) (first_result i next) i.results ++ expand f next)
@@ -201,8 +201,7 @@ module _ (m : Mach) (s : ℕ → ℕ) (free top : ℕ) (formed : WellFormed m) (
         record {
           written = λ j ys e frame r one val v none.
               absurd
-              (differ (passes_frame j.op) frame
-              (ap (λ (i : Instr). passes_frame i.op) (sym (head_same e))));
+              (both_ways (passes_frame j.op) (ap (λ (i : Instr). passes_frame i.op) (sym (head_same e))) frame);
         }
 
     -- ---- before an instruction
@@ -236,7 +235,7 @@ module _ (m : Mach) (s : ℕ → ℕ) (free top : ℕ) (formed : WellFormed m) (
           register = w;
           among = made_register m s free top formed placed is (stands_of ending) (for_operand g);
           origin = made_origin m s free top formed placed is r j (stands_of ending) (for_operand g);
-          live = read (number_in w i.args (for_in (reads_registers i.op) g));
+          live = read (among_of w i.args (for_in (reads_registers i.op) g));
           value = h.made r.number w g lt;
         }
 
@@ -321,7 +320,7 @@ module _ (m : Mach) (s : ℕ → ℕ) (free top : ℕ) (formed : WellFormed m) (
               made_here = known.0 n r (for_this t)
 
               among : Among r.number i.args
-              among = number_in r i.args (for_in (reads_registers i.op) made_here)
+              among = among_of r i.args (for_in (reads_registers i.op) made_here)
 
               is_reg : IsRegister m r
               is_reg = made_register m s free top formed placed is (stands_of ending) (for_operand made_here)
@@ -359,7 +358,7 @@ module _ (m : Mach) (s : ℕ → ℕ) (free top : ℕ) (formed : WellFormed m) (
                         ap (λ (k : Reg). a k.number) (sym (for_same (reads_registers i.op) made_here g same)) ∙ as_put
                         ∙ sym (put_here (fresh n r) h.value b x same))
                         (λ e.
-                        let ne = λ (z : n ≡ x). differ (nat_eq n x) (eq-eqb n x z) e in
+                        let ne = λ (z : n ≡ x). both_ways (nat_eq n x) e (eq-eqb n x z) in
                         holds.made x w g (less n x lt ne) ∙ sym (put_other (fresh n r) h.value b x ne))
                         (cases_Bool (nat_eq n x));
                   }
@@ -394,7 +393,7 @@ module _ (m : Mach) (s : ℕ → ℕ) (free top : ℕ) (formed : WellFormed m) (
             origin = made_origin m s free top formed placed is r j (stands_of ending) (for_result g);
             live = inr
                 (wrote_all y.raised quiet (written m i) w.number
-                (left_among i.results (killed m i) (number_in w i.results (for_in (writes_registers i.op) g))));
+                (left_among i.results (killed m i) (among_of w i.results (for_in (writes_registers i.op) g))));
             value = same;
           }
 
@@ -452,7 +451,7 @@ module _ (m : Mach) (s : ℕ → ℕ) (free top : ℕ) (formed : WellFormed m) (
                 itself = λ x v free. holds.itself x v
                     (λ j z g h.
                     ⊎_elim
-                    (λ a. differ (is_renewed (writes_registers i.op) r) (subst (λ j. is_renewed (writes_registers i.op) j ≡ true) (sym a) g) t)
+                    (λ a. both_ways (is_renewed (writes_registers i.op) r) t (subst (λ j. is_renewed (writes_registers i.op) j ≡ true) (sym a) g))
                     (λ z. free j z g h) (in_cons r j rs z));
                 made = holds.made;
               }) in
@@ -499,10 +498,10 @@ module _ (m : Mach) (s : ℕ → ℕ) (free top : ℕ) (formed : WellFormed m) (
               is_reg = made_register m s free top formed placed is (stands_of ending) (for_result made_here)
 
               h : Held
-              h = (held r.number (number_in r i.results result)).0
+              h = (held r.number (among_of r i.results result)).0
 
               holds_h : d r.number ≡ Some h
-              holds_h = (held r.number (number_in r i.results result)).1
+              holds_h = (held r.number (among_of r i.results result)).1
 
               fits_so : (h.comp ≡ r.comp) × (fits limit (type_of_comp h.comp) h.value ≡ true)
               fits_so = fit r is_reg h holds_h
@@ -527,7 +526,7 @@ module _ (m : Mach) (s : ℕ → ℕ) (free top : ℕ) (formed : WellFormed m) (
                         let same : r.number ≡ x = eqb-true r.number x g in
                         ap d (sym same) ∙ as_put ∙ sym (put_here r h.value e x same))
                         (λ g.
-                        let ne = λ (z : r.number ≡ x). differ (nat_eq r.number x) (eq-eqb r.number x z) g in
+                        let ne = λ (z : r.number ≡ x). both_ways (nat_eq r.number x) g (eq-eqb r.number x z) in
                         holds.itself x v
                         (λ j z u w.
                         ⊎_elim (λ a. ne (ap (λ (r : Reg). r.number) a ∙ w)) (λ z. free j z u w) (in_cons r j rs z))
@@ -544,7 +543,7 @@ module _ (m : Mach) (s : ℕ → ℕ) (free top : ℕ) (formed : WellFormed m) (
                     origin = refl;
                     live = inr
                         (wrote_all y.raised quiet (written m i) k.number
-                        (left_among i.results (killed m i) (subst (λ n. Among n i.results) g (number_in r i.results result))));
+                        (left_among i.results (killed m i) (subst (λ n. Among n i.results) g (among_of r i.results result))));
                     value = ap d (sym g) ∙ as_put ∙ sym (put_here r h.value e k.number g);
                   }
 
@@ -587,7 +586,7 @@ module _ (m : Mach) (s : ℕ → ℕ) (free top : ℕ) (formed : WellFormed m) (
             of k.0 k.2 (was_in (writes_registers i.op) (first_result i next) i.results k.0 k.1)
           where
             of : (k : Reg) → k.number ≡ x → WasIn (writes_registers i.op) (first_result i next) i.results k → Among x i.results
-            of k e (was_own c t) = subst (λ n. Among n i.results) e (number_in k i.results c)
+            of k e (was_own c t) = subst (λ n. Among n i.results) e (among_of k i.results c)
             of k e (was_fresh y w g h) =
                 let le = made_free m s free top formed placed is stands (for_result g) in
                 let number : y ≡ k.number = ap (λ (r : Reg). r.number) h in absurd (omega (arith, lt, le, number, e))
@@ -659,9 +658,9 @@ module _ (m : Mach) (s : ℕ → ℕ) (free top : ℕ) (formed : WellFormed m) (
             (split_among x (main_for i next).results (killed q (main_for i next)) z)
           where
             of : (k : Reg) → WasIn (writes_registers i.op) (first_result i next) i.results k → ⊥
-            of k (was_own c t) = silent k.number (left_among i.results (killed m i) (number_in k i.results c))
+            of k (was_own c t) = silent k.number (left_among i.results (killed m i) (among_of k i.results c))
             of k (was_fresh y w g h) =
-                silent w.number (left_among i.results (killed m i) (number_in w i.results (for_in (writes_registers i.op) g)))
+                silent w.number (left_among i.results (killed m i) (among_of w i.results (for_in (writes_registers i.op) g)))
 
         silent_none : IsSilent m i → (o : Option Value) → (x : ℕ) → Among x (wrote_unless o (written q (main_for i next))) → ⊥
         silent_none silent o x z = main_silent silent x (unless_among o (written q (main_for i next)) x z)
@@ -693,8 +692,7 @@ module _ (m : Mach) (s : ℕ → ℕ) (free top : ℕ) (formed : WellFormed m) (
             ⊎_elim (λ h. absurd (none h))
             (λ h.
             absurd
-            (none_some
-            (sym (cleared (killed m i) b' r.number (subst (Among r.number) (killed_same m s free top formed placed is i next) h))
+            (none-some _ (sym (cleared (killed m i) b' r.number (subst (Among r.number) (killed_same m s free top formed placed is i next) h))
             ∙ sym (p.others_new r.number none) ∙ e)))
             (split_among r.number (main_for i next).results (killed q (main_for i next))
             (unless_among y.raised (written q (main_for i next)) r.number z)))
@@ -708,7 +706,7 @@ module _ (m : Mach) (s : ℕ → ℕ) (free top : ℕ) (formed : WellFormed m) (
                   origin = refl;
                   live = inr
                       (wrote_all y.raised quiet (written m i) r.number
-                      (left_among i.results (killed m i) (subst (λ n. Among n i.results) g (number_in k i.results c))));
+                      (left_among i.results (killed m i) (subst (λ n. Among n i.results) g (among_of k i.results c))));
                   value = ap d (sym g) ∙ p.own k c t ∙ ap p.file g;
                 }
             of k g (was_fresh x w h t) =
@@ -740,7 +738,7 @@ module _ (m : Mach) (s : ℕ → ℕ) (free top : ℕ) (formed : WellFormed m) (
         past_to vs d e p y quiet (At l) o =
             let silent = label_silent m (form_of ending) l o in
             let unspilled = λ (x : ℕ) (r : Reg) (z : Contains i.results r) (t : is_renewed (writes_registers i.op) r ≡ true) (g : r.number ≡ x).
-            silent r.number (left_among i.results (killed m i) (number_in r i.results z)) in
+            silent r.number (left_among i.results (killed m i) (among_of r i.results z)) in
             let rel : Agrees m (written m i) (at (after_label l m.code) d y) → Linked (after_label l m.code) y y d p.file =
             λ (agreed : Agrees m (written m i) (at (after_label l m.code) d y)).
             record {
@@ -801,7 +799,7 @@ module _ (m : Mach) (s : ℕ → ℕ) (free top : ℕ) (formed : WellFormed m) (
             }
 
         apart_results : Apart i.results
-        apart_results = apart_of i.results (of_each (λ (i : Instr). AreDistinct i.results) m.code i formed.distinct (contains_of stands))
+        apart_results = apart_of i.results (All-contains (λ (i : Instr). AreDistinct i.results) m.code i formed.distinct (contains_of stands))
 
         low_results : (r : Reg) → Contains i.results r → r.number < first_result i next
         low_results r z =
@@ -891,7 +889,7 @@ module _ (m : Mach) (s : ℕ → ℕ) (free top : ℕ) (formed : WellFormed m) (
             read = vs;
             reads = sym
                 (values_renewed a gone.file (reads_registers i.op) (first_operand next) i.args
-                (λ r z t. ((gone.holds).holds).itself r.number (read (number_in r i.args z)))
+                (λ r z t. ((gone.holds).holds).itself r.number (read (among_of r i.args z)))
                 (λ x w g. (gone.holds).made x w g (for_below (reads_registers i.op) g)))
                 ∙ e;
             alike = acts_same i next a gone.file ending gone.holds y (mach_act c.setting i.op vs y) (within c.setting i.op vs y)
@@ -914,10 +912,10 @@ module _ (m : Mach) (s : ℕ → ℕ) (free top : ℕ) (formed : WellFormed m) (
         record {
           itself = λ n v. refl;
           fit = λ r j.
-              put_fits limit m.params vs (λ n. None) a e r (λ k z g. formed.numbers k r (is_param z) j g) (λ h g. absurd (none_some g));
+              put_fits limit m.params vs (λ n. None) a e r (λ k z g. formed.numbers k r (is_param z) j g) (λ h g. absurd (none-some _ g));
           agree = λ r k i j origin v w x y g h.
               let same : r ≡ k = one_param r k i j origin x y g h in
-              ap (λ (h : Held). h.value) (some_same (sym g ∙ ap (λ (r : Reg). a r.number) same ∙ h));
+              ap (λ (h : Held). h.value) (same_Some _ _ (sym g ∙ ap (λ (r : Reg). a r.number) same ∙ h));
         }
       where
         unwritten_one : (n : ℕ) → (Among n m.params → ⊥) → a n ≡ None
@@ -930,8 +928,8 @@ module _ (m : Mach) (s : ℕ → ℕ) (free top : ℕ) (formed : WellFormed m) (
             (λ z.
             let p = number_among m.params z in
             let same = formed.numbers p.0 r (is_param p.1) i p.2 in
-            subst (λ (r : Reg). r.origin ≡ r.number) same (of_each (λ (r : Reg). r.origin ≡ r.number) m.params p.0 formed.params p.1))
-            (λ none. absurd (none_some (sym (unwritten_one r.number none) ∙ g))) (among_or_not r.number m.params)
+            subst (λ (r : Reg). r.origin ≡ r.number) same (All-contains (λ (r : Reg). r.origin ≡ r.number) m.params p.0 formed.params p.1))
+            (λ none. absurd (none-some _ (sym (unwritten_one r.number none) ∙ g))) (among_or_not r.number m.params)
 
         one_param : (r k : Reg) → IsRegister m r → IsRegister m k → r.origin ≡ k.origin → (x y : Held) → a r.number ≡ Some x →
             a k.number ≡ Some y → r ≡ k

@@ -1,6 +1,7 @@
 -- An instruction over its fresh registers destroys what it did: slots and open places are no colours.
 use Rattle.std.proofs.Common.{◌≡◌, ℕ, Bool, true, false, cond, not, ◌&&◌, List, [], ◌∷◌, refl, sym, ap, ◌∙◌}
 use Rattle.std.specs.Prelude.{◌||◌}
+use Rattle.std.proofs.lemmas.Bool.{false≢true}
 use Rattle.bs_words.specs.declared.types.Loc.{Loc}
 use Rattle.bs_words.specs.declared.types.Loc.TheVariants as loc
 use Rattle.mach_ir.specs.Meaning.{Destroyed, Nothing, Temporaries, Everything, is_destroyed, same_colour, is_at_one_of, killed_among, killed_by}
@@ -12,19 +13,16 @@ open_apart (loc.Machine n) = refl
 open_apart (loc.Slot n) = refl
 open_apart loc.Unset = refl
 
-not_true : false ≡ true → ⊥
-not_true e = cc
-
 slot_apart : (l o : Loc) → is_in_slot o ≡ true → same_colour l o ≡ false
-slot_apart l (loc.Machine n) e = absurd (not_true e)
-slot_apart l loc.Unset e = absurd (not_true e)
+slot_apart l (loc.Machine n) e = absurd (false≢true e)
+slot_apart l loc.Unset e = absurd (false≢true e)
 slot_apart (loc.Machine n) (loc.Slot k) e = refl
 slot_apart (loc.Slot n) (loc.Slot k) e = refl
 slot_apart loc.Unset (loc.Slot k) e = refl
 
 pub renewed_slot : (b : Bool) (r : Reg) → is_renewed b r ≡ true → is_in_slot r.loc ≡ true
 renewed_slot true r e = e
-renewed_slot false r e = absurd (not_true e)
+renewed_slot false r e = absurd (false≢true e)
 
 same_at : (l : Loc) (b : Bool) (n : ℕ) (rs : List Reg) → is_at_one_of l (renewed b n rs) ≡ is_at_one_of l rs
 same_at l b n [] = refl

@@ -1,9 +1,10 @@
 -- What is live in a function with its reloads and spills was live before, but for the fresh registers of the instruction that is
 -- near.
 use Rattle.std.proofs.Common.{◌≡◌, ℕ, suc, ◌<◌, ◌≤◌, Bool, true, false, cond, ◌⊎◌, inl, inr, ⊎_elim, List, [], ◌∷◌, ◌++◌, length, refl, sym, ap, ◌∙◌, subst, arith, append_assoc}
-use Rattle.std.proofs.lemmas.Bool.{cases_Bool, eq-eqb, eqb-true}
+use Rattle.std.proofs.lemmas.Bool.{cases_Bool, eq-eqb, eqb-true, both_ways}
 use Rattle.std.specs.List.{Contains}
 use Rattle.std.specs.Prelude.{nat_eq}
+use Rattle.std.proofs.lemmas.List.Elements.{All-contains}
 use Rattle.mach_ir.specs.Acts.{Target, On, At}
 use Rattle.mach_ir.specs.Formed.{IsFormed, WellFormed}
 use Rattle.mach_ir.specs.Meaning.{after_label, from_handler, code_at, tries_at, tries_past, destroyed_by, killed}
@@ -14,14 +15,12 @@ use Rattle.mach_ir.specs.declared.reg.Reg.{Reg}
 use Rattle.mach_ir.specs.declared.mach.Instr.{Instr}
 use Rattle.mach_ir.specs.declared.mach.Mach.{Mach}
 use Rattle.mach_laws.specs.Expand.{expand, Ending}
-use Rattle.mach_laws.proofs.Places.{label_expand, handler_expand, ending_next, ending_label, ending_from_handler}
-use Rattle.mach_laws.proofs.Walking.{none_in, in_cons}
+use Rattle.mach_laws.proofs.Places.{label_expand, handler_expand, ending_next, ending_label, ending_from_handler, stands_of}
+use Rattle.mach_laws.proofs.Among.{left_among, right_among, split_among, number_among, among_of}
 use Rattle.places_rules.proofs.Raised.{label_silent}
-use Rattle.places_rules.proofs.Walked.{left_among, right_among, split_among, stands_of}
-use Rattle.split_rules.proofs.Formed.{contains_of, of_each}
-use Rattle.split_rules.proofs.Text.{number_among, number_in}
+use Rattle.split_rules.proofs.Formed.{contains_of}
 use Rattle.spill_rules.specs.Spilled.{copied}
-use Rattle.places_rules.proofs.Files.{differ}
+use Rattle.bs_words.proofs.Lists.{none_in, in_cons}
 use Rattle.reload_rules.specs.Reloaded.{reads_registers, writes_registers, is_renewed, fresh, number_after, number_past, reloads, spills, results_from, past_instr, renewed_instr}
 use Rattle.reload_rules.proofs.Killed.{same_killed}
 use Rattle.reload_rules.proofs.Numbers.{IsFor, for_this, for_other, WasIn, was_own, was_fresh, after_true, after_false, for_from, for_below, for_in, was_in, own_stays, for_stands}
@@ -191,7 +190,7 @@ module _ (m : Mach) (s : ℕ → ℕ) (free top : ℕ) (formed : WellFormed m) (
   -- ---- what an instruction writes
 
   form_of : {i : Instr} {next : List Instr} → Ending (i ∷ next) m.code → IsFormed i
-  form_of {i} e = of_each IsFormed m.code i formed.instrs (contains_of (stands_of e))
+  form_of {i} e = All-contains IsFormed m.code i formed.instrs (contains_of (stands_of e))
 
   pub killed_same : (i : Instr) (next : List Instr) → killed q (main_of i next) ≡ killed m i
   killed_same i next = same_killed m.colours (destroyed_by i.op) (writes_registers i.op) (results_at i next) i.results
@@ -207,7 +206,7 @@ module _ (m : Mach) (s : ℕ → ℕ) (free top : ℕ) (formed : WellFormed m) (
       free
       (left_among (main_of i next).results (killed q (main_of i next))
       (subst (λ x. Among x (main_of i next).results) r.2
-      (number_in r.0 (main_of i next).results (own_stays (writes_registers i.op) (results_at i next) i.results r.0 r.1 t)))))
+      (among_of r.0 (main_of i next).results (own_stays (writes_registers i.op) (results_at i next) i.results r.0 r.1 t)))))
       (cases_Bool (is_renewed (writes_registers i.op) r.0)))
       (λ a. free (right_among (main_of i next).results (killed q (main_of i next)) (subst (Among x) (sym (killed_same i next)) a)))
       (split_among x i.results (killed m i) w)
@@ -215,7 +214,7 @@ module _ (m : Mach) (s : ℕ → ℕ) (free top : ℕ) (formed : WellFormed m) (
   pub writes_fresh : (x : ℕ) (i : Instr) (next : List Instr) (w : Reg) → ForResult i next x w → Writes q (main_of i next) x
   writes_fresh x i next w h =
       left_among (main_of i next).results (killed q (main_of i next))
-      (number_in (fresh x w) (main_of i next).results (for_stands (writes_registers i.op) h))
+      (among_of (fresh x w) (main_of i next).results (for_stands (writes_registers i.op) h))
 
   -- ---- one step
 
@@ -227,20 +226,20 @@ module _ (m : Mach) (s : ℕ → ℕ) (free top : ℕ) (formed : WellFormed m) (
       Says x (Storing i next n rs) → Says x (Storing i next n (r ∷ rs))
   passed_by x i next n r rs e (inl h) = inl h
   passed_by x i next n r rs e (inr h) =
-      inr (h.0, more_spilled i x r rs (λ t g. differ (is_renewed (writes_registers i.op) r) t e) h.1)
+      inr (h.0, more_spilled i x r rs (λ t g. both_ways (is_renewed (writes_registers i.op) r) e t) h.1)
 
   read_case : {x : ℕ} {j : Instr} {ys : List Instr} (z : Stage) → Laid z (j ∷ ys) → Among x j.args → Says x z
   read_case {x} z (begins {i = i} {next = next} ending h) a = narrowed x i next (read_case (Reading i next (operands_at next) i.args) h a)
   read_case z (reload {i = i} r ending g h) a =
       inl
       (read
-      (subst (λ n. Among n i.args) (one_number r a) (number_in r i.args (for_in (reads_registers i.op) g))))
+      (subst (λ n. Among n i.args) (one_number r a) (among_of r i.args (for_in (reads_registers i.op) g))))
   read_case z (passes_operand {i = i} {next = next} {n = n} {rs = rs} r h) a = read_case (Reading i next n rs) h a
   read_case {x} z (main {i = i} {next = next} ending h) a = by (number_among (main_of i next).args a)
     where
       of : (k : Reg) → k.number ≡ x → WasIn (reads_registers i.op) (operands_at next) i.args k →
           Live m x (i ∷ next) ⊎ FreshOperand i next (results_at i next) x
-      of k e (was_own c t) = inl (read (subst (λ n. Among n i.args) e (number_in k i.args c)))
+      of k e (was_own c t) = inl (read (subst (λ n. Among n i.args) e (among_of k i.args c)))
       of k e (was_fresh y w g same) =
           let number : y ≡ x = ap (λ (r : Reg). r.number) same ∙ e in
           inr
@@ -288,7 +287,7 @@ module _ (m : Mach) (s : ℕ → ℕ) (free top : ℕ) (formed : WellFormed m) (
           absurd
           (w (left_among (fresh n r ∷ []) (killed q (copied copy.Reload r (fresh n r))) (first (eqb-true n x e)))))
           (λ e.
-          let ne : (n ≡ x → ⊥) = λ d. differ (nat_eq n x) (eq-eqb n x d) e in
+          let ne : (n ≡ x → ⊥) = λ d. both_ways (nat_eq n x) e (eq-eqb n x d) in
           inr (is_operand k a (less n x lt ne)))
           (cases_Bool (nat_eq n x))
         where
@@ -340,11 +339,11 @@ module _ (m : Mach) (s : ℕ → ℕ) (free top : ℕ) (formed : WellFormed m) (
       tries_at (j ∷ ys) ≡ l ∷ tries → ((z : Stage) → Laid z (from_handler l q.code) → Says x z) → Says x z
   aside_case {x} z l tries (begins {i = i} {next = next} ending h) b e ih =
       narrowed x i next (aside_case (Reading i next (operands_at next) i.args) l tries h b e ih)
-  aside_case z l tries (reload r ending g h) b e ih = absurd (differ false b refl)
+  aside_case z l tries (reload r ending g h) b e ih = absurd (both_ways false refl b)
   aside_case z l tries (passes_operand {i = i} {next = next} {n = n} {rs = rs} r h) b e ih = aside_case (Reading i next n rs) l tries h b e ih
   aside_case z l tries (main {i = i} {next = next} ending h) b e ih =
       inl (aside (raises b (sym (laid_tries (main ending h)) ∙ e)) (ih (Before (from_handler l m.code)) (at_handler l)))
-  aside_case z l tries (spill r ending g h) b e ih = absurd (differ false b refl)
+  aside_case z l tries (spill r ending g h) b e ih = absurd (both_ways false refl b)
   aside_case {x} z l tries (passes_result {i = i} {next = next} {n = n} {rs = rs} r t h) b e ih =
       passed_by x i next n r rs t (aside_case (Storing i next n rs) l tries h b e ih)
   aside_case {x} z l tries (ends {i = i} {next = next} h) b e ih =

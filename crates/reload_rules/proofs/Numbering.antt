@@ -8,6 +8,7 @@ use Rattle.mach_ir.specs.declared.reg.Reg.{Reg}
 use Rattle.mach_ir.specs.declared.mach.Instr.{Instr}
 use Rattle.mach_ir.specs.declared.mach.Mach.{Mach}
 use Rattle.mach_laws.specs.Expand.{expand}
+use Rattle.mach_laws.proofs.Places.{shorter}
 use Rattle.reload_rules.specs.Reloaded.{reads_registers, writes_registers, number_after, number_past, past_instr, reloaded_instr, reloaded_code, reloaded}
 use Rattle.reload_rules.proofs.Live.{IsNumbering, reloaded_by}
 use Rattle.reload_rules.proofs.Numbers.{after_few, past_rises}
@@ -46,14 +47,10 @@ at_tail i is n k lt = by (nat_eq k (length is)) refl
     by true e = absurd (not_equal k (length is) lt (eqb-true k (length is) e))
     by false e = refl
 
-short : {i : Instr} {next code : List Instr} → Stands i next code → length next < length code
-short here = omega arith
-short (below s) = let lt = short s in omega (arith, lt)
-
 from_start : (code : List Instr) (n : ℕ) (i : Instr) (next : List Instr) → Stands i next code → n ≤ start_at code n (length next)
 from_start (j ∷ is) n i next here = let e = at_head i is n in omega (arith, e)
 from_start (j ∷ is) n i next (below s) =
-    let e = at_tail j is n (length next) (short s) in
+    let e = at_tail j is n (length next) (shorter s) in
     let x = from_start is (past_instr n j) i next s in
     let y = instr_rises n j in omega (arith, e, x, y)
 from_start [] n i next s = elim s [ ]
@@ -63,10 +60,10 @@ rises_past : (code : List Instr) (n : ℕ) (i j : Instr) (next rest : List Instr
 rises_past (k ∷ is) n i j next rest here t =
     let x = from_start is (past_instr n i) j rest t in
     subst (λ a. past_instr a i ≤ start_at (i ∷ is) n (length rest)) (sym (at_head i is n))
-    (subst (λ a. past_instr n i ≤ a) (sym (at_tail i is n (length rest) (short t))) x)
+    (subst (λ a. past_instr n i ≤ a) (sym (at_tail i is n (length rest) (shorter t))) x)
 rises_past (k ∷ is) n i j next rest (below s) t =
-    let shorter = short t in
-    let lt = short s in
+    let shorter = shorter t in
+    let lt = shorter s in
     subst (λ a. past_instr a i ≤ start_at (k ∷ is) n (length rest)) (sym (at_tail k is n (length next) lt))
     (subst (λ a. past_instr (start_at is (past_instr n k) (length next)) i ≤ a)
     (sym (at_tail k is n (length rest) (omega (arith, shorter, lt)))) (rises_past is (past_instr n k) i j next rest s t))
@@ -81,7 +78,7 @@ below_all (k ∷ is) n i next here =
     more : (n p h c : ℕ) → p ≤ n + h → p ≤ n + (h + c)
     more n p h c x = omega (arith, x)
 below_all (k ∷ is) n i next (below s) =
-    subst (λ a. past_instr a i ≤ n + operand_count (k ∷ is)) (sym (at_tail k is n (length next) (short s)))
+    subst (λ a. past_instr a i ≤ n + operand_count (k ∷ is)) (sym (at_tail k is n (length next) (shorter s)))
     (more n (past_instr (start_at is (past_instr n k) (length next)) i) (past_instr n k) (length k.args + length k.results) (operand_count is)
     (instr_few n k) (below_all is (past_instr n k) i next s))
   where

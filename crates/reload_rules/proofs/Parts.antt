@@ -15,11 +15,10 @@ use Rattle.mach_ir.specs.declared.mach.MachOp.TheVariants as mach
 use Rattle.mach_ir.specs.declared.mach.Instr.{Instr}
 use Rattle.mach_ir.specs.declared.mach.Mach.{Mach}
 use Rattle.mach_laws.specs.Expand.{expand}
-use Rattle.mach_laws.proofs.Places.{ending_next, tries_expand}
-use Rattle.mach_laws.proofs.Walking.{none_in, first_in, later_in, in_cons}
+use Rattle.mach_laws.proofs.Places.{ending_next, tries_expand, ending_of}
 use Rattle.split_rules.proofs.Formed.{stands_in}
 use Rattle.spill_rules.specs.Spilled.{copied}
-use Rattle.spill_rules.proofs.Chosen.{ending_of}
+use Rattle.bs_words.proofs.Lists.{none_in, first_in, later_in, in_cons}
 use Rattle.reload_rules.specs.Reloaded.{reads_registers, writes_registers, is_renewed, fresh, number_after, reloads, spills}
 use Rattle.reload_rules.proofs.Live.{IsNumbering, reloaded_by, operands_at, results_at, main_of, ForOperand, ForResult, Storing, Laid, LastOperands, LastResults, fewer_operands, fewer_results, all_operands, all_results, laid_results, laid_of}
 use Rattle.reload_rules.proofs.Numbers.{for_this, after_true, after_false}

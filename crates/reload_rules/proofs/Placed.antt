@@ -1,9 +1,12 @@
 -- A well-placed function is so with its reloads and spills, and what the conventions place stands there.
 use Rattle.std.proofs.Common.{◌≡◌, ◌≢◌, ℕ, suc, ◌<◌, Bool, true, false, cond, ◌⊎◌, inl, inr, ⊎_elim, List, [], ◌∷◌, ◌++◌, refl, sym, ap, ◌∙◌, subst, arith}
 use Rattle.std.specs.List.{Contains}
+use Rattle.std.proofs.lemmas.List.Elements.{All-contains}
+use Rattle.std.proofs.lemmas.Bool.{false≢true}
 use Rattle.bs_words.specs.declared.types.Comp.{Comp}
 use Rattle.bs_words.specs.declared.types.Loc.{Loc}
 use Rattle.bs_words.specs.declared.types.Loc.TheVariants as loc
+use Rattle.bs_words.proofs.Lists.{mapped}
 use Rattle.mach_ir.specs.Acts.{Target, On, At}
 use Rattle.mach_ir.specs.Forms.{HasForm, copies, constant, symbol, operates, loads, stores, allocates, calls, tail_calls, calls_out, checks, raises, returns}
 use Rattle.mach_ir.specs.Formed.{comps, MarkHasForm, exit_form, if_form, else_form, switch_form, case_form, catch_form, with_form, try_form, leave_form, handler_form, end_form, IsFormed, formed_op, formed_mark, WellFormed}
@@ -19,16 +22,15 @@ use Rattle.mach_ir.specs.declared.mach.MachOp.TheVariants as mach
 use Rattle.mach_ir.specs.declared.mach.Instr.{Instr}
 use Rattle.mach_ir.specs.declared.mach.Mach.{Mach}
 use Rattle.mach_laws.specs.Expand.{all}
-use Rattle.mach_laws.proofs.Places.{label_expand, ending_label}
+use Rattle.mach_laws.proofs.Places.{label_expand, ending_label, ending_of}
+use Rattle.mach_laws.proofs.Among.{left_among, right_among, split_among, number_among, among_of}
 use Rattle.places_rules.specs.Places.{ColoursLow}
 use Rattle.places_rules.proofs.Open.{machine_open}
-use Rattle.places_rules.proofs.Lists.{was, mapped}
-use Rattle.places_rules.proofs.Walked.{left_among, right_among, split_among}
+use Rattle.places_rules.proofs.Lists.{was}
 use Rattle.places_rules.proofs.Whole.{AreRegisters, FixedSeats, fixed_in_order, fixed_after_first, fixed_operands, fixed_results, tail_fixed, head_fixed}
-use Rattle.split_rules.proofs.Formed.{contains_of, of_each}
-use Rattle.split_rules.proofs.Text.{number_among, number_in}
+use Rattle.split_rules.proofs.Formed.{contains_of}
 use Rattle.spill_rules.specs.Spilled.{copied}
-use Rattle.spill_rules.proofs.Chosen.{no_result, ending_of}
+use Rattle.spill_rules.proofs.Chosen.{no_result}
 use Rattle.reload_rules.specs.Reloaded.{reads_registers, writes_registers, is_in_slot, is_renewed, fresh, number_after, renewed}
 use Rattle.reload_rules.proofs.Kept.{laid_after}
 use Rattle.reload_rules.proofs.Live.{IsNumbering, reloaded_by, ForResult, Storing, Laid, FreshResult, is_result, killed_same, live_back, live_before}
@@ -36,9 +38,6 @@ use Rattle.reload_rules.proofs.Numbers.{WasIn, was_own, was_fresh, for_in, for_s
 use Rattle.reload_rules.proofs.Parts.{first_operand, first_result, main_for, Part, part_reload, part_main, part_spill, part_at, IsCopy, is_copy, part_in}
 use Rattle.reload_rules.proofs.Registers.{for_operand, for_result, made_free, WasRegister, is_old, is_new, was_register}
 use Rattle.reload_rules.proofs.Text.{laid_instr, keeps_marks}
-
-not_true : false ≡ true → ⊥
-not_true e = cc
 
 -- ---- what has results goes on
 
@@ -113,7 +112,7 @@ module _ (m : Mach) (s : ℕ → ℕ) (free top : ℕ) (formed : WellFormed m) (
   Result = ForResult m s free top formed placed is
 
   form_of : {i : Instr} {next : List Instr} → Stands i next m.code → IsFormed i
-  form_of {i} t = of_each IsFormed m.code i formed.instrs (contains_of t)
+  form_of {i} t = All-contains IsFormed m.code i formed.instrs (contains_of t)
 
   only_number : {x : ℕ} (r : Reg) → Among x (r ∷ []) → r.number ≡ x
   only_number r (first e) = e
@@ -136,7 +135,7 @@ module _ (m : Mach) (s : ℕ → ℕ) (free top : ℕ) (formed : WellFormed m) (
       (split_among x (over i next).results (killed q (over i next)) w)
     where
       of : (k : Reg) → k.number ≡ x → WasIn (writes_registers i.op) (first_result m s free top formed placed is i next) i.results k → Writes m i x
-      of k e (was_own c u) = left_among i.results (killed m i) (subst (λ n. Among n i.results) e (number_in k i.results c))
+      of k e (was_own c u) = left_among i.results (killed m i) (subst (λ n. Among n i.results) e (among_of k i.results c))
       of k e (was_fresh y w g h) =
           let high = made_free m s free top formed placed is t (for_result g) in
           let number : y ≡ k.number = ap (λ (r : Reg). r.number) h in absurd (omega (arith, lt, high, number, e))
@@ -169,7 +168,7 @@ module _ (m : Mach) (s : ℕ → ℕ) (free top : ℕ) (formed : WellFormed m) (
   move_over next (is_move e h) = is_move e h
 
   move_none : {k n x : ℕ} {i : Instr} (next : List Instr) {w : Reg} → IsMove k n i → Result i next x w → ⊥
-  move_none next (is_move e h) g = not_true (for_slot false g)
+  move_none next (is_move e h) g = false≢true (for_slot false g)
 
   meets_back : (n k : ℕ) → n < free → k < free → Meets q n k → Meets m n k
   meets_back n k low lt (at_params a v) = at_params a (live_before m s free top formed placed is all v)
@@ -189,7 +188,7 @@ module _ (m : Mach) (s : ℕ → ℕ) (free top : ℕ) (formed : WellFormed m) (
       by (part_spill i next x r rs t g e l) =
           let number = only_number r (subst (λ j. Writes q j n) (sym e) w) in
           at_write i next t
-          (left_among i.results (killed m i) (subst (λ n. Among n i.results) number (number_in r i.results (for_in (writes_registers i.op) g))))
+          (left_among i.results (killed m i) (subst (λ n. Among n i.results) number (among_of r i.results (for_in (writes_registers i.op) g))))
           (after_step (goes On (results_go_on r (form_of t) (for_in (writes_registers i.op) g)))
           (after_copy k x r i next ys rs t lt l (subst (λ j. LiveAfter q k j ys) (sym e) v)))
           (λ move. move_none next move g)

@@ -9,10 +9,10 @@ use Rattle.mach_ir.specs.declared.reg.Reg.{Reg}
 use Rattle.mach_ir.specs.declared.mach.Instr.{Instr}
 use Rattle.mach_ir.specs.declared.mach.Mach.{Mach}
 use Rattle.mach_laws.specs.Expand.{expand}
-use Rattle.mach_laws.proofs.Walking.{none_in, first_in, later_in, in_cons}
-use Rattle.split_rules.proofs.Text.{args_in, results_in}
+use Rattle.mach_laws.proofs.Places.{args_in, results_in}
 use Rattle.spill_rules.specs.Spilled.{copied}
 use Rattle.spill_rules.proofs.Kept.{in_append}
+use Rattle.bs_words.proofs.Lists.{none_in, first_in, later_in, in_cons}
 use Rattle.reload_rules.specs.Reloaded.{reads_registers, writes_registers, is_in_slot, is_renewed, fresh, number_after, number_past, reloads, spills, past_instr}
 use Rattle.reload_rules.proofs.Killed.{renewed_slot}
 use Rattle.reload_rules.proofs.Live.{IsNumbering, reloaded_by, results_at, main_of, ForOperand, ForResult}

@@ -4,16 +4,16 @@ use Rattle.std.specs.List.{Contains}
 use Rattle.std.specs.Prelude.{◌||◌}
 use Rattle.bs_words.specs.declared.types.Loc.{Loc}
 use Rattle.bs_words.specs.declared.types.Loc.TheVariants as loc
+use Rattle.bs_words.proofs.Lists.{first_in, later_in, mapped}
 use Rattle.mach_ir.specs.Formed.{WellFormed}
 use Rattle.mach_ir.specs.Placed.{Colouring, IsColouring, IsPlaced, in_colour, in_slot, MayShare, WellPlaced, colours}
 use Rattle.mach_ir.specs.Walks.{InCode, in_args, in_results, further, IsRegister, is_in_code, Joined}
 use Rattle.mach_ir.specs.declared.reg.Reg.{Reg}
 use Rattle.mach_ir.specs.declared.mach.Instr.{Instr}
 use Rattle.mach_ir.specs.declared.mach.Mach.{Mach}
-use Rattle.mach_laws.proofs.Walking.{first_in, later_in}
 use Rattle.places_rules.specs.Places.{Placing, IsPlacing, ColoursLow, placed, all_placed, placed_code}
 use Rattle.places_rules.proofs.Open.{slot_open, machine_slot}
-use Rattle.places_rules.proofs.Lists.{was, mapped}
+use Rattle.places_rules.proofs.Lists.{was}
 use Rattle.places_rules.proofs.Text.{was_register}
 use Rattle.reload_rules.specs.Reloaded.{reads_registers, writes_registers, is_in_slot, is_renewed, any_renewed, any_needs, slot_or, to_slots, in_slots}
 

@@ -1,5 +1,6 @@
 -- The text of a function with its reloads and spills: labels, handlers and tries stand where they did.
 use Rattle.std.proofs.Common.{◌≡◌, ℕ, suc, Bool, true, false, cond, List, [], ◌∷◌, ◌++◌, refl, ap, ◌∙◌, subst}
+use Rattle.std.proofs.lemmas.Bool.{false≢true}
 use Rattle.mach_ir.specs.Meaning.{has_label, is_handler_of}
 use Rattle.mach_ir.specs.declared.op.CopyKind.{CopyKind}
 use Rattle.mach_ir.specs.declared.op.CopyKind.TheVariants as copy
@@ -56,46 +57,43 @@ none_renewed n (r ∷ rs) = ap (λ xs. r ∷ xs) (none_renewed n rs)
 
 -- ---- marks
 
-not_true : false ≡ true → ⊥
-not_true e = cc
-
 abbrev IsBare : MachOp → Type 0
 IsBare f = (reads_registers f ≡ false) × (writes_registers f ≡ false)
 
 label_bare : (l : ℕ) (f : MachOp) → has_label l f ≡ true → IsBare f
-label_bare l (mach.Op f) e = absurd (not_true e)
-label_bare l (mach.Mark (mark.Exit k n)) e = absurd (not_true e)
-label_bare l (mach.Mark (mark.If t k)) e = absurd (not_true e)
+label_bare l (mach.Op f) e = absurd (false≢true e)
+label_bare l (mach.Mark (mark.Exit k n)) e = absurd (false≢true e)
+label_bare l (mach.Mark (mark.If t k)) e = absurd (false≢true e)
 label_bare l (mach.Mark (mark.Else k end)) e = (refl, refl)
-label_bare l (mach.Mark (mark.Switch ls)) e = absurd (not_true e)
+label_bare l (mach.Mark (mark.Switch ls)) e = absurd (false≢true e)
 label_bare l (mach.Mark (mark.Case ns k end)) e = (refl, refl)
-label_bare l (mach.Mark mark.Catch) e = absurd (not_true e)
+label_bare l (mach.Mark mark.Catch) e = absurd (false≢true e)
 label_bare l (mach.Mark (mark.With k end)) e = (refl, refl)
-label_bare l (mach.Mark (mark.Try k)) e = absurd (not_true e)
-label_bare l (mach.Mark (mark.Leave k end)) e = absurd (not_true e)
-label_bare l (mach.Mark (mark.Handler k)) e = absurd (not_true e)
+label_bare l (mach.Mark (mark.Try k)) e = absurd (false≢true e)
+label_bare l (mach.Mark (mark.Leave k end)) e = absurd (false≢true e)
+label_bare l (mach.Mark (mark.Handler k)) e = absurd (false≢true e)
 label_bare l (mach.Mark (mark.End k)) e = (refl, refl)
 
 bound_bare : (f : MachOp) → bounds_try f ≡ true → IsBare f
-bound_bare (mach.Op f) e = absurd (not_true e)
-bound_bare (mach.Mark (mark.Exit k n)) e = absurd (not_true e)
-bound_bare (mach.Mark (mark.If t k)) e = absurd (not_true e)
-bound_bare (mach.Mark (mark.Else k end)) e = absurd (not_true e)
-bound_bare (mach.Mark (mark.Switch ls)) e = absurd (not_true e)
-bound_bare (mach.Mark (mark.Case ns k end)) e = absurd (not_true e)
-bound_bare (mach.Mark mark.Catch) e = absurd (not_true e)
-bound_bare (mach.Mark (mark.With k end)) e = absurd (not_true e)
+bound_bare (mach.Op f) e = absurd (false≢true e)
+bound_bare (mach.Mark (mark.Exit k n)) e = absurd (false≢true e)
+bound_bare (mach.Mark (mark.If t k)) e = absurd (false≢true e)
+bound_bare (mach.Mark (mark.Else k end)) e = absurd (false≢true e)
+bound_bare (mach.Mark (mark.Switch ls)) e = absurd (false≢true e)
+bound_bare (mach.Mark (mark.Case ns k end)) e = absurd (false≢true e)
+bound_bare (mach.Mark mark.Catch) e = absurd (false≢true e)
+bound_bare (mach.Mark (mark.With k end)) e = absurd (false≢true e)
 bound_bare (mach.Mark (mark.Try k)) e = (refl, refl)
 bound_bare (mach.Mark (mark.Leave k end)) e = (refl, refl)
-bound_bare (mach.Mark (mark.Handler k)) e = absurd (not_true e)
-bound_bare (mach.Mark (mark.End k)) e = absurd (not_true e)
+bound_bare (mach.Mark (mark.Handler k)) e = absurd (false≢true e)
+bound_bare (mach.Mark (mark.End k)) e = absurd (false≢true e)
 
 handler_reads_none : (l : ℕ) (f : MachOp) → is_handler_of l f ≡ true → reads_registers f ≡ false
-handler_reads_none l (mach.Op f) e = absurd (not_true e)
+handler_reads_none l (mach.Op f) e = absurd (false≢true e)
 handler_reads_none l (mach.Mark (mark.Exit k n)) e = refl
-handler_reads_none l (mach.Mark (mark.If t k)) e = absurd (not_true e)
+handler_reads_none l (mach.Mark (mark.If t k)) e = absurd (false≢true e)
 handler_reads_none l (mach.Mark (mark.Else k end)) e = refl
-handler_reads_none l (mach.Mark (mark.Switch ls)) e = absurd (not_true e)
+handler_reads_none l (mach.Mark (mark.Switch ls)) e = absurd (false≢true e)
 handler_reads_none l (mach.Mark (mark.Case ns k end)) e = refl
 handler_reads_none l (mach.Mark mark.Catch) e = refl
 handler_reads_none l (mach.Mark (mark.With k end)) e = refl

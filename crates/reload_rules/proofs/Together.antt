@@ -1,5 +1,7 @@
 -- What reloading makes of a function is kept, and is one function.
 use Rattle.std.proofs.Common.{◌≡◌, ℕ, ◌+◌, ◌*◌, ◌≤◌, Bool, true, false, refl, ap, subst, arith}
+use Rattle.std.proofs.lemmas.Bool.{both_ways}
+use Rattle.std.proofs.Math.Nat.{le_antisymm}
 use Rattle.mach_ir.specs.Formed.{WellFormed}
 use Rattle.mach_ir.specs.Placed.{Colouring, IsColouring, WellPlaced}
 use Rattle.mach_ir.specs.Sizes.{operand_count}
@@ -13,7 +15,6 @@ use Rattle.places_rules.proofs.Open.{not_open}
 use Rattle.places_rules.proofs.Text.{placed_formed}
 use Rattle.places_rules.proofs.Walked.{no_addr_before}
 use Rattle.places_rules.proofs.Whole.{placed_keeps, placed_well, placed_seated, placed_size, placed_slots}
-use Rattle.places_rules.proofs.Files.{differ}
 use Rattle.reload_rules.specs.Kept.{IsKept}
 use Rattle.reload_rules.specs.Reloaded.{any_needs, reloaded, to_slots, in_slots, IsFree, IsReloadedBy, is_coloured, asks_again}
 use Rattle.reload_rules.proofs.Formed.{reloaded_formed}
@@ -77,7 +78,7 @@ module _ (m : Mach) (place : Colouring) (formed : WellFormed m) (well : WellPlac
               (reloaded_keeps m1 s free top formed_there well_there numbers);
           formed = reloaded_formed m1 s free top formed_there well_there numbers;
           placed = reloaded_placed m1 s free top formed_there well_there numbers;
-          all_placed = λ e. absurd (differ true refl e);
+          all_placed = λ e. absurd (both_ways true e refl);
           seated = λ h.
               reloaded_seated m1 s free top formed_there well_there numbers
               (placed_seated m (to_slots place) formed well (slots_placing m place formed well colouring) h);
@@ -112,14 +113,11 @@ reloaded_kept m q place asks formed well low colouring (is_coloured e) = of_colo
 reloaded_kept m q place asks formed well low colouring (asks_again {free = free} e h) =
     of_reloaded m place formed well low colouring free h
 
-same_least : (a b : ℕ) → a ≤ b → b ≤ a → a ≡ b
-same_least a b x y = omega (arith, x, y)
-
 -- It makes one of each.
 pub one_reloaded : (m q k : Mach) (place : Colouring) (a b : Bool) → IsReloadedBy m place q a → IsReloadedBy m place k b →
     (q ≡ k) × (a ≡ b)
 one_reloaded m q k place a b (is_coloured e) (is_coloured h) = (refl, refl)
-one_reloaded m q k place a b (is_coloured e) (asks_again h g) = absurd (differ (any_needs (in_slots place m).code) h e)
-one_reloaded m q k place a b (asks_again h g) (is_coloured e) = absurd (differ (any_needs (in_slots place m).code) h e)
+one_reloaded m q k place a b (is_coloured e) (asks_again h g) = absurd (both_ways (any_needs (in_slots place m).code) e h)
+one_reloaded m q k place a b (asks_again h g) (is_coloured e) = absurd (both_ways (any_needs (in_slots place m).code) e h)
 one_reloaded m q k place a b (asks_again {free = x} e g) (asks_again {free = y} h f) =
-    (ap (λ n. reloaded n (in_slots place m)) (same_least x y (g.least y f.above) (f.least x g.above)), refl)
+    (ap (λ n. reloaded n (in_slots place m)) (le_antisymm (g.least y f.above) (f.least x g.above)), refl)

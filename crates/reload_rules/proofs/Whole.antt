@@ -4,6 +4,7 @@ use Rattle.std.specs.Prelude.{◌||◌}
 use Rattle.bs_words.specs.declared.types.Loc.{Loc}
 use Rattle.bs_words.specs.declared.types.Loc.TheVariants as loc
 use Rattle.std.proofs.lemmas.List.{length-append}
+use Rattle.std.proofs.lemmas.Bool.{both_ways, false≢true}
 use Rattle.mach_ir.specs.Acts.{Target, On, At}
 use Rattle.mach_ir.specs.Formed.{WellFormed}
 use Rattle.mach_ir.specs.Keeps.{Keeps, IsLoose, is_slot, HasOrigin, NamesSymbol, NamesExternal, IsNamedIn}
@@ -24,7 +25,6 @@ use Rattle.places_rules.specs.Places.{IsSlot}
 use Rattle.places_rules.proofs.Open.{slot_open}
 use Rattle.split_rules.proofs.Formed.{contains_of}
 use Rattle.spill_rules.specs.Spilled.{copied}
-use Rattle.places_rules.proofs.Files.{differ}
 use Rattle.reload_rules.specs.Reloaded.{reads_registers, writes_registers, is_in_slot, is_renewed, fresh, number_after, renewed, reloads, spills, any_renewed, needs_registers, any_needs, results_from, renewed_instr}
 use Rattle.reload_rules.proofs.Kept.{live_register, does_reloaded}
 use Rattle.reload_rules.proofs.Live.{IsNumbering, reloaded_by, Stage, Before, Reading, Storing, Laid, begins, reload, passes_operand, main, spill, passes_result, ends, laid_of, laid_tries, across_back}
@@ -32,13 +32,10 @@ use Rattle.reload_rules.proofs.Parts.{first_operand, first_result, main_for, spi
 use Rattle.reload_rules.proofs.Registers.{WasRegister, is_old, is_new, made_register, made_slot, made_top, was_register, old_register}
 use Rattle.reload_rules.proofs.Text.{before_reloads, before_spills, laid_instr, keeps_marks}
 
-not_true : false ≡ true → ⊥
-not_true e = cc
-
 pub slot_of : (l : Loc) → is_in_slot l ≡ true → (k : ℕ) × (l ≡ loc.Slot k)
 slot_of (loc.Slot k) e = (k, refl)
-slot_of (loc.Machine n) e = absurd (not_true e)
-slot_of loc.Unset e = absurd (not_true e)
+slot_of (loc.Machine n) e = absurd (false≢true e)
+slot_of loc.Unset e = absurd (false≢true e)
 
 -- ---- how many
 
@@ -185,11 +182,11 @@ module _ (m : Mach) (s : ℕ → ℕ) (free top : ℕ) (formed : WellFormed m) (
       may_raise j.op ≡ true → tries_at (j ∷ ys) ≡ l ∷ tries → WasReached (from_handler l q.code)
   raise_back z l tries (begins {i = i} {next = next} ending h) r b e =
       raise_back (Reading i next (first_operand m s free top formed placed is next) i.args) l tries h r b e
-  raise_back z l tries (reload k ending g h) r b e = absurd (differ false b refl)
+  raise_back z l tries (reload k ending g h) r b e = absurd (both_ways false refl b)
   raise_back z l tries (passes_operand {i = i} {next = next} {n = n} {rs = rs} k h) r b e = raise_back (Reading i next n rs) l tries h r b e
   raise_back z l tries (main {i = i} {next = next} ending h) r b e =
       reached_handler l (by_raise r (raises b (sym (laid_tries m s free top formed placed is (main ending h)) ∙ e)))
-  raise_back z l tries (spill k ending g h) r b e = absurd (differ false b refl)
+  raise_back z l tries (spill k ending g h) r b e = absurd (both_ways false refl b)
   raise_back z l tries (passes_result {i = i} {next = next} {n = n} {rs = rs} k t h) r b e = raise_back (Storing i next n rs) l tries h r b e
   raise_back z l tries (ends {i = i} {next = next} h) r b e = raise_back (Before next) l tries h r b e
 
@@ -211,11 +208,11 @@ module _ (m : Mach) (s : ℕ → ℕ) (free top : ℕ) (formed : WellFormed m) (
   frame_main : {j : Instr} {ys : List Instr} (z : At_stage) → Lay z (j ∷ ys) → IsReachedAt z → passes_frame j.op ≡ true → IsFrame j ys
   frame_main z (begins {i = i} {next = next} ending h) r t =
       frame_main (Reading i next (first_operand m s free top formed placed is next) i.args) h r t
-  frame_main z (reload k ending g h) r t = absurd (differ false t refl)
+  frame_main z (reload k ending g h) r t = absurd (both_ways false refl t)
   frame_main z (passes_operand {i = i} {next = next} {n = n} {rs = rs} k h) r t = frame_main (Reading i next n rs) h r t
   frame_main z (main {i = i} {next = next} ending h) r t =
       record { instr = i; next = next; ending = ending; same = refl; laid = h; reached = r }
-  frame_main z (spill k ending g h) r t = absurd (differ false t refl)
+  frame_main z (spill k ending g h) r t = absurd (both_ways false refl t)
   frame_main z (passes_result {i = i} {next = next} {n = n} {rs = rs} k e h) r t = frame_main (Storing i next n rs) h r t
   frame_main z (ends {i = i} {next = next} h) r t = frame_main (Before next) h r t
 

@@ -1,6 +1,7 @@
 -- What an operator gives, and what straight code leaves of it: blocks are only added.
 use Rattle.std.proofs.Common.{◌≡◌, ℕ, Bool, true, false, List, [], ◌∷◌, ◌++◌, length, map, Result, refl, sym, ap, ◌∙◌, subst, append_assoc}
 use Rattle.std.proofs.lemmas.List.{append-nil, map-append}
+use Rattle.std.proofs.lemmas.Bool.{both_ways}
 use Rattle.bs_words.specs.Memory.{HeapBlock, sizes}
 use Rattle.bs_words.specs.Operators.{apply}
 use Rattle.bs_words.specs.declared.values.Kind.{Kind}
@@ -21,7 +22,6 @@ use Rattle.mach_ir.specs.declared.op.Right.TheVariants as right
 use Rattle.mach_ir.specs.declared.mach.MachOp.{MachOp}
 use Rattle.mach_ir.specs.declared.mach.MachOp.TheVariants as mach
 use Rattle.repeat_rules.specs.Repeated.{is_operator}
-use Rattle.places_rules.proofs.Files.{differ}
 
 -- ---- surroundings with more blocks
 
@@ -107,9 +107,9 @@ module _ (c : Setting) where
       steady_on (mach.Op (op.Access (access.Store k n))) refl (no_alloc_store k n) vs x
   straight_on (mach.Op (op.Access (access.Alloc blocks))) st [] x = only_on x (is_complete x) (blocks_on blocks [] x)
   straight_on (mach.Op (op.Access (access.Alloc blocks))) st (v ∷ vs) x = is_stuck refl
-  straight_on (mach.Op (op.Calling f)) st vs x = absurd (differ false st refl)
-  straight_on (mach.Op (op.Leaving f)) st vs x = absurd (differ false st refl)
-  straight_on (mach.Mark f) st vs x = absurd (differ false st refl)
+  straight_on (mach.Op (op.Calling f)) st vs x = absurd (both_ways false refl st)
+  straight_on (mach.Op (op.Leaving f)) st vs x = absurd (both_ways false refl st)
+  straight_on (mach.Mark f) st vs x = absurd (both_ways false refl st)
 
   -- ---- operators
 
@@ -138,13 +138,13 @@ module _ (c : Setting) where
   operator_grown (mach.Op (op.Pure (pure.Operator f (right.Constant w)))) o (a ∷ []) x y g =
       apply_grown x y g f a (value.Word w)
   operator_grown (mach.Op (op.Pure (pure.Operator f (right.Constant w)))) o (a ∷ b ∷ vs) x y g = stuck_there
-  operator_grown (mach.Op (op.Pure (pure.Copy kind))) o vs x y g = absurd (differ false o refl)
-  operator_grown (mach.Op (op.Pure (pure.Constant w))) o vs x y g = absurd (differ false o refl)
-  operator_grown (mach.Op (op.Pure (pure.Symbol name))) o vs x y g = absurd (differ false o refl)
-  operator_grown (mach.Op (op.Access f)) o vs x y g = absurd (differ false o refl)
-  operator_grown (mach.Op (op.Calling f)) o vs x y g = absurd (differ false o refl)
-  operator_grown (mach.Op (op.Leaving f)) o vs x y g = absurd (differ false o refl)
-  operator_grown (mach.Mark f) o vs x y g = absurd (differ false o refl)
+  operator_grown (mach.Op (op.Pure (pure.Copy kind))) o vs x y g = absurd (both_ways false refl o)
+  operator_grown (mach.Op (op.Pure (pure.Constant w))) o vs x y g = absurd (both_ways false refl o)
+  operator_grown (mach.Op (op.Pure (pure.Symbol name))) o vs x y g = absurd (both_ways false refl o)
+  operator_grown (mach.Op (op.Access f)) o vs x y g = absurd (both_ways false refl o)
+  operator_grown (mach.Op (op.Calling f)) o vs x y g = absurd (both_ways false refl o)
+  operator_grown (mach.Op (op.Leaving f)) o vs x y g = absurd (both_ways false refl o)
+  operator_grown (mach.Mark f) o vs x y g = absurd (both_ways false refl o)
 
   stuck_goes : {A : Type 0} (ws : List Value) (t : _) (after : Around) → Stuck ≡ Goes ws t after → A
   stuck_goes {A} ws t after e = absurd (never e)

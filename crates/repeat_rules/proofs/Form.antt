@@ -1,7 +1,10 @@
 -- A function whose repeats are moves is well-formed, and stands where it did.
 use Rattle.std.proofs.Common.{◌≡◌, ◌≢◌, ℕ, ◌<◌, ◌≤◌, Bool, true, false, cond, ◌⊎◌, inl, inr, ⊎_elim, List, [], ◌∷◌, ◌++◌, length, Option, Some, None, refl, sym, ap, ◌∙◌, subst, arith}
 use Rattle.std.specs.List.{All, AllPairs, Contains}
+use Rattle.std.proofs.lemmas.Bool.{both_ways}
+use Rattle.std.proofs.lemmas.List.Elements.{All-contains}
 use Rattle.bs_words.specs.declared.types.Comp.{Comp}
+use Rattle.bs_words.proofs.Lists.{none_in, first_in, later_in, in_cons, head_same, tail_same, none_there}
 use Rattle.mach_ir.specs.Forms as form
 use Rattle.mach_ir.specs.Forms.{HasForm, results_of}
 use Rattle.mach_ir.specs.Formed.{comps, IsFormed, formed_op, formed_mark, AreDistinct, WellFormed}
@@ -18,11 +21,8 @@ use Rattle.mach_ir.specs.declared.mach.MachOp.TheVariants as mach
 use Rattle.mach_ir.specs.declared.mach.Instr.{Instr}
 use Rattle.mach_ir.specs.declared.mach.Mach.{Mach}
 use Rattle.mach_laws.specs.Expand.{expand, KeepsMarks}
-use Rattle.mach_laws.proofs.Walking.{none_in, first_in, later_in, in_cons}
-use Rattle.split_rules.proofs.Formed.{contains_of, stands_in, of_each}
-use Rattle.places_rules.proofs.Lists.{head_same, tail_same, none_there}
-use Rattle.places_rules.proofs.Files.{differ}
-use Rattle.split_rules.proofs.Text.{args_in, results_in}
+use Rattle.mach_laws.proofs.Places.{args_in, results_in}
+use Rattle.split_rules.proofs.Formed.{contains_of, stands_in}
 use Rattle.repeat_rules.specs.Repeated.{is_operator, Repeats, from_earlier, again, in_place, IsBefore, IsRepeated, IsFormKept}
 use Rattle.repeat_rules.proofs.OneForOne as one
 use Rattle.repeat_rules.proofs.OneForOne.{in_append, in_front, in_code_stands, IsPure, is_pure, same_op, both_pure, StandsFor, IsMain, was_main, each_in, all_in, before_of, same_length, same_labels}
@@ -31,10 +31,10 @@ use Rattle.repeat_rules.proofs.OneForOne.{in_append, in_front, in_code_stands, I
 
 pub operator_pure : (g : MachOp) → is_operator g ≡ true → IsPure g
 operator_pure (mach.Op (op.Pure f)) e = is_pure
-operator_pure (mach.Op (op.Access f)) e = absurd (differ false e refl)
-operator_pure (mach.Op (op.Calling f)) e = absurd (differ false e refl)
-operator_pure (mach.Op (op.Leaving f)) e = absurd (differ false e refl)
-operator_pure (mach.Mark f) e = absurd (differ false e refl)
+operator_pure (mach.Op (op.Access f)) e = absurd (both_ways false refl e)
+operator_pure (mach.Op (op.Calling f)) e = absurd (both_ways false refl e)
+operator_pure (mach.Op (op.Leaving f)) e = absurd (both_ways false refl e)
+operator_pure (mach.Mark f) e = absurd (both_ways false refl e)
 
 -- the components of an operator
 one_result : (f : _) (r : _) (cs ds : List Comp) → HasForm (op.Pure (pure.Operator f r)) cs ds → (to : Comp) × (ds ≡ to ∷ [])
@@ -56,13 +56,13 @@ operator_form : {i : Instr} → IsFormed i → is_operator i.op ≡ true → Ope
 operator_form (formed_op {f = op.Pure (pure.Operator f r)} {args = args} {results = results} h) e =
     let t = one_result f r (comps args) (comps results) h in
     record { to = t.0; result = t.1; operands = some_operand f r (comps args) (comps results) h }
-operator_form (formed_op {f = op.Pure (pure.Copy kind)} h) e = absurd (differ false e refl)
-operator_form (formed_op {f = op.Pure (pure.Constant w)} h) e = absurd (differ false e refl)
-operator_form (formed_op {f = op.Pure (pure.Symbol name)} h) e = absurd (differ false e refl)
-operator_form (formed_op {f = op.Access f} h) e = absurd (differ false e refl)
-operator_form (formed_op {f = op.Calling f} h) e = absurd (differ false e refl)
-operator_form (formed_op {f = op.Leaving f} h) e = absurd (differ false e refl)
-operator_form (formed_mark h) e = absurd (differ false e refl)
+operator_form (formed_op {f = op.Pure (pure.Copy kind)} h) e = absurd (both_ways false refl e)
+operator_form (formed_op {f = op.Pure (pure.Constant w)} h) e = absurd (both_ways false refl e)
+operator_form (formed_op {f = op.Pure (pure.Symbol name)} h) e = absurd (both_ways false refl e)
+operator_form (formed_op {f = op.Access f} h) e = absurd (both_ways false refl e)
+operator_form (formed_op {f = op.Calling f} h) e = absurd (both_ways false refl e)
+operator_form (formed_op {f = op.Leaving f} h) e = absurd (both_ways false refl e)
+operator_form (formed_mark h) e = absurd (both_ways false refl e)
 
 some_length : (rs : List Reg) → comps rs ≢ [] → 1 ≤ length rs
 some_length [] h = absurd (h refl)
@@ -85,7 +85,7 @@ module _ (plan : ℕ → Option Reg) where
   fate k i = by (is_operator i.op) (plan k) refl refl
     where
       by : (b : Bool) (o : Option Reg) → is_operator i.op ≡ b → plan k ≡ o → Fate k i
-      by false o e h = unchanged (alone k i e) (λ g. absurd (differ (is_operator i.op) g e))
+      by false o e h = unchanged (alone k i e) (λ g. absurd (both_ways (is_operator i.op) e g))
       by true None e h =
           unchanged (ap (λ b. cond b (from_earlier (plan k) i) i) e ∙ ap (λ o. from_earlier o i) h) (λ g. h)
       by true (Some r) e h =
@@ -148,7 +148,7 @@ module _ (m : Mach) (plan : ℕ → Option Reg) where
             of_fate (unchanged e h) =
                 is_in_code (results_in w.stands (subst (λ (x : Instr). Contains x.results r) (sym (sym e ∙ w.same)) d))
             of_fate (moved k g h e) =
-                absurd (differ (is_operator j.op) o (ap (λ (x : Instr). is_operator x.op) (sym (sym e ∙ w.same))))
+                absurd (both_ways (is_operator j.op) (ap (λ (x : Instr). is_operator x.op) (sym (sym e ∙ w.same))) o)
 
     -- what is moved from
     pub moved_from : (i : Instr) (next : List Instr) (r : Reg) → Stands i next m.code → is_operator i.op ≡ true → plan (length next) ≡ Some r →
@@ -231,7 +231,7 @@ module _ (m : Mach) (plan : ℕ → Option Reg) where
                 (k (ap (λ (x : Instr). is_operator x.op) same ∙ operates)) r
                 (subst (λ x. Repeats made x r) (sym same) w)
             of_fate (moved k g h d) =
-                differ (is_operator j.op) operates (ap (λ (x : Instr). is_operator x.op) (sym (sym d ∙ t.same)))
+                both_ways (is_operator j.op) (ap (λ (x : Instr). is_operator x.op) (sym (sym d ∙ t.same))) operates
 
   module _ (formed : WellFormed m)
       (moves : (i : Instr) (next made : List Instr) → IsBefore plan m i next made → is_operator i.op ≡ true → (r : Reg) →
@@ -242,7 +242,7 @@ module _ (m : Mach) (plan : ℕ → Option Reg) where
     was r i = was_register moves r i
 
     form_of : (i : Instr) → Contains m.code i → IsFormed i
-    form_of i c = of_each IsFormed m.code i formed.instrs c
+    form_of i c = All-contains IsFormed m.code i formed.instrs c
 
     formed_again : (k : ℕ) (i : Instr) → Contains m.code i → IsFormed (again plan k i)
     formed_again k i c = by (fate plan k i)
@@ -275,7 +275,7 @@ module _ (m : Mach) (plan : ℕ → Option Reg) where
           instrs = all_in (again plan) m.code IsFormed (λ i next s. formed_again (length next) i (contains_of s));
           distinct = all_in (again plan) m.code (λ (i : Instr). AreDistinct i.results)
               (λ i next s.
-              let d = of_each (λ (i : Instr). AreDistinct i.results) m.code i formed.distinct (contains_of s) in
+              let d = All-contains (λ (i : Instr). AreDistinct i.results) m.code i formed.distinct (contains_of s) in
               either_way plan (λ (i : Instr). AreDistinct i.results) (length next) i d (λ r. d));
           returns = each_in (again plan) m.code (λ j. j.op ≡ mach.Op (op.Leaving leaving.Return) → comps j.args ≡ results_of m.result)
               (λ i next s. returns_same (length next) i (contains_of s));

@@ -1,10 +1,13 @@
 -- A result that still stands holds what its operator would give now.
 use Rattle.std.proofs.Common.{◌≡◌, ◌≢◌, ℕ, Bool, true, false, cond, List, [], ◌∷◌, Option, Some, None, refl, sym, ap, ◌∙◌, subst}
 use Rattle.std.specs.List.{Contains}
+use Rattle.std.proofs.lemmas.Bool.{both_ways}
+use Rattle.std.proofs.lemmas.Option.{same_Some}
 use Rattle.bs_words.specs.declared.types.Comp.{Comp}
 use Rattle.bs_words.specs.declared.types.Comp.TheVariants as comp
 use Rattle.bs_words.specs.declared.values.Value.{Value}
-use Rattle.combine_rules.proofs.Files.{PutAll, nil, cons, put_view, put_of, put_same, values_has, frame_loses}
+use Rattle.bs_words.proofs.Lists.{first_in}
+use Rattle.combine_rules.proofs.Files.{values_has, frame_loses}
 use Rattle.mach_ir.specs.Acts.{Around, On, Goes}
 use Rattle.mach_ir.specs.Meaning.{Held, File, put, put_all, clear, killed, values, past_frame, unless_addr, is_addr, passes_frame, mach_act}
 use Rattle.mach_ir.specs.Placed.{is_straight}
@@ -14,12 +17,10 @@ use Rattle.mach_ir.specs.declared.reg.Reg.{Reg}
 use Rattle.mach_ir.specs.declared.mach.Instr.{Instr}
 use Rattle.mach_ir.specs.declared.mach.Mach.{Mach}
 use Rattle.mach_laws.specs.Expand.{Ending}
-use Rattle.mach_laws.proofs.Walking.{first_in}
-use Rattle.places_rules.proofs.Files.{some_same, put_other}
+use Rattle.mach_laws.proofs.Among.{number_among}
+use Rattle.mach_laws.proofs.Files.{PutAll, nil, cons, put_other, put_same, put_of}
 use Rattle.repeat_rules.specs.Repeated.{is_operator, allocates, Ends, itself}
-use Rattle.places_rules.proofs.Files.{differ}
 use Rattle.repeat_rules.proofs.Acting.{Grown, gives_value, gives_still}
-use Rattle.split_rules.proofs.Text.{number_among}
 use Rattle.repeat_rules.proofs.Standing.{operator_straight, operator_same, straight_kills, straight_frame, Standing, Earlier, just_now, earlier, earlier_of}
 
 -- ---- files
@@ -42,9 +43,6 @@ record PutOne (r : Reg) (vs : List Value) (a d : File) : Type 0 where
 put_one : {end : ℕ} {a : File} {r : Reg} {vs : List Value} {d : File} → PutAll end a (r ∷ []) vs d → PutOne r vs a d
 put_one (cons {v = v} e nil) = record { value = v; is = refl; file = refl }
 
-pub put_all_of : (end : ℕ) (rs : List Reg) (vs : List Value) (a d : File) → put_all end rs vs a ≡ Some d → PutAll end a rs vs d
-put_all_of end rs vs a d e = put_of (put_all end rs vs a) (put_view end rs vs a) e
-
 values_stay : (a d : File) (rs : List Reg) → ((n : ℕ) → Among n rs → d n ≡ a n) → (vs : List Value) →
     values d rs ≡ Some vs → values a rs ≡ Some vs
 values_stay a d rs h vs e = values_has d a rs (λ n z v g. sym (h n z) ∙ g) vs e
@@ -56,7 +54,7 @@ past_kept false r v a h e = e
 past_kept true r v a h e = ap unless_addr e ∙ by r.comp refl
   where
     by : (t : Comp) → r.comp ≡ t → cond (is_addr r.comp) None (Fresh r v) ≡ Fresh r v
-    by comp.Addr s = absurd (differ true refl (h s))
+    by comp.Addr s = absurd (both_ways true (h s) refl)
     by comp.Int s = ap (λ t. cond (is_addr t) None (Fresh r v)) s
     by comp.Val s = ap (λ t. cond (is_addr t) None (Fresh r v)) s
     by comp.Float s = ap (λ t. cond (is_addr t) None (Fresh r v)) s
@@ -87,7 +85,7 @@ module _ (m : Mach) (plan : ℕ → Option Reg) (c : Place) where
     where
       written : PutAll c.setting.end a (r ∷ []) ws d
       written =
-          put_all_of c.setting.end (r ∷ []) ws a d
+          put_of c.setting.end (r ∷ []) ws a d
           (ap (λ rs. put_all c.setting.end rs ws a) (sym one)
           ∙ ap (put_all c.setting.end j.results ws)
           (sym (calm j a (operator_straight j.op o) (operator_same allocates false (λ f. refl) j.op o)))
@@ -108,7 +106,7 @@ module _ (m : Mach) (plan : ℕ → Option Reg) (c : Place) where
             value = p.value;
             holds = ap (λ (file : File). file r.number) p.file ∙ put_same r p.value a;
             gives = λ us h.
-                let same : us ≡ vs = some_same (sym (values_stay a d j.args kept us h) ∙ e) in
+                let same : us ≡ vs = same_Some _ _ (sym (values_stay a d j.args kept us h) ∙ e) in
                 ap (λ zs. mach_act c.setting j.op zs after) same ∙ ap (mach_act c.setting j.op vs) g.same ∙ acts
                 ∙ ap (λ zs. Goes zs On after) p.is;
           }
@@ -133,7 +131,7 @@ module _ (m : Mach) (plan : ℕ → Option Reg) (c : Place) where
 
       there : (n : ℕ) → (Among n i.results → ⊥) → d n ≡ a' n
       there n free =
-          stays (put_all_of c.setting.end i.results ws (clear (killed m i) a') d puts) n free
+          stays (put_of c.setting.end i.results ws (clear (killed m i) a') d puts) n free
           ∙ ap (λ ks. clear ks a' n) (straight_kills m i st)
 
       not_written : (n : ℕ) → Among n j.args → Among n i.results → ⊥

@@ -1,9 +1,11 @@
 -- A function whose repeats are moves does what it did, step by step, over registers that hold the same.
 use Rattle.std.proofs.Common.{◌≡◌, ℕ, true, false, inl, inr, ◌⊎◌, ⊎_elim, List, [], ◌∷◌, length, Option, Some, None, refl, sym, ap, ◌∙◌, subst}
 use Rattle.std.proofs.lemmas.Bool.{cases_Bool}
+use Rattle.std.proofs.lemmas.Option.{none-some}
 use Rattle.bs_words.specs.Memory.{Memory}
 use Rattle.bs_words.specs.declared.types.Comp.TheVariants as comp
 use Rattle.bs_words.specs.declared.values.Value.{Value}
+use Rattle.bs_words.proofs.Lists.{head_same, tail_same}
 use Rattle.cmm_meaning.specs.State.{Doing}
 use Rattle.mach_ir.specs.Acts.{Around, Target, On, At, AtHandler, Act, Goes, Pushes, Jumps, Unwinds, Asks, Replaces, Ends, EndsRaising, Stuck}
 use Rattle.mach_ir.specs.Keeps.{ValsWritten, Ahead, Trails, Proper, Follows, Begins, Does}
@@ -20,11 +22,8 @@ use Rattle.mach_laws.proofs.General as general
 use Rattle.mach_laws.proofs.General.{at}
 use Rattle.mach_laws.proofs.Leads.{Within, asks_in, within}
 use Rattle.mach_laws.proofs.Level as levels
-use Rattle.mach_laws.proofs.Places.{tries_expand}
+use Rattle.mach_laws.proofs.Places.{tries_expand, stands_of}
 use Rattle.mach_laws.proofs.Simulate.{Agrees}
-use Rattle.places_rules.proofs.Lists.{head_same, tail_same}
-use Rattle.places_rules.proofs.Files.{none_some}
-use Rattle.places_rules.proofs.Walked.{stands_of}
 use Rattle.repeat_rules.specs.Kept.{OwnOrigins}
 use Rattle.repeat_rules.specs.Repeated.{is_operator, allocates, Repeats, from_earlier, again, in_place, with_moves, IsBefore}
 use Rattle.repeat_rules.proofs.OneForOne as one
@@ -73,7 +72,7 @@ module _ (m : Mach) (plan : ℕ → Option Reg) (own : OwnOrigins m)
         by r one val frame none (inl l) = known.written i next refl frame r one val l none
         by r one val frame none (inr s) =
             let b = s.before in
-            let h = holds b.instr b.register b.standing in none_some (sym none ∙ ap a (sym b.number) ∙ h.holds)
+            let h = holds b.instr b.register b.standing in none-some _ (sym none ∙ ap a (sym b.number) ∙ h.holds)
 
     module _ (Suit : Around → Around → Type 0) where
       abbrev Acts : (i main : Instr) (next : List Instr) (x : Around) (a b : File) → Act → Act → Type 0

@@ -1,7 +1,9 @@
 -- What is live in a function whose repeats are moves was live, or is a result that still stands.
 use Rattle.std.proofs.Common.{◌≡◌, ◌≢◌, ℕ, true, false, ◌⊎◌, inl, inr, ⊎_elim, List, [], ◌∷◌, length, Option, Some, refl, sym, ap, ◌∙◌, subst}
 use Rattle.std.specs.List.{Contains}
+use Rattle.std.proofs.lemmas.Bool.{both_ways}
 use Rattle.bs_words.specs.declared.types.Comp.TheVariants as comp
+use Rattle.bs_words.proofs.Lists.{first_in}
 use Rattle.mach_ir.specs.Meaning.{killed, written, passes_frame}
 use Rattle.mach_ir.specs.Placed.{is_straight}
 use Rattle.mach_ir.specs.Walks.{Among, first, later, Writes, Live, read, LiveAfter, LiveAcross, IsRegister, is_in_code, NoAddrLive, Stands, IsMove, is_move, Meets, at_write, at_params}
@@ -9,22 +11,17 @@ use Rattle.mach_ir.specs.declared.reg.Reg.{Reg}
 use Rattle.mach_ir.specs.declared.mach.Instr.{Instr}
 use Rattle.mach_ir.specs.declared.mach.Mach.{Mach}
 use Rattle.mach_laws.specs.Expand.{Ending, all, expand}
-use Rattle.mach_laws.proofs.Walking.{first_in}
-use Rattle.places_rules.proofs.Walked.{ending_of, left_among, split_among, stands_of}
-use Rattle.split_rules.proofs.Text.{number_in, number_among, results_in}
-use Rattle.places_rules.proofs.Files.{differ}
+use Rattle.mach_laws.proofs.Places.{stands_of, ending_of, results_in}
+use Rattle.mach_laws.proofs.Among.{none_among, left_among, split_among, number_among, among_of}
 use Rattle.repeat_rules.specs.Repeated.{is_operator, allocates, Ends, Repeats, again, in_place, with_moves, IsBefore}
 use Rattle.repeat_rules.proofs.OneForOne as one
 use Rattle.repeat_rules.proofs.OneForOne.{in_append, in_front, was_main, written_same}
 use Rattle.repeat_rules.proofs.Form.{Fate, unchanged, moved, fate, alike, operator_result, was_register}
 use Rattle.repeat_rules.proofs.Standing.{operator_straight, straight_kills, straight_frame, Standing, Earlier, just_now, earlier, earlier_of, not_at_entry, not_at_label, not_at_handler, repeated}
 
-among_none : {n : ℕ} → Among n [] → ⊥
-among_none a = elim a [ ]
-
 among_one : {n : ℕ} {r : Reg} → Among n (r ∷ []) → r.number ≡ n
 among_one (first e) = e
-among_one (later a) = absurd (among_none a)
+among_one (later a) = absurd (none_among a)
 
 module _ (m : Mach) (plan : ℕ → Option Reg)
     (moves : (i : Instr) (next made : List Instr) → IsBefore plan m i next made → is_operator i.op ≡ true → (r : Reg) →
@@ -73,7 +70,7 @@ module _ (m : Mach) (plan : ℕ → Option Reg)
           (free
           (left_among i.results (killed m i)
           (subst (λ k. Among k i.results) x.number
-          (number_in x.register i.results
+          (among_of x.register i.results
           (subst (λ (j : Instr). Contains j.results x.register) e
           (subst (λ rs. Contains rs x.register) (sym ((x.standing).stands).result) (first_in x.register [])))))))
       by (earlier w st apart ends kept) =
@@ -134,7 +131,7 @@ module _ (m : Mach) (plan : ℕ → Option Reg)
     where
       in_results_of : is_straight i.op ≡ true → Among n i.results
       in_results_of st =
-          ⊎_elim (λ a. a) (λ a. absurd (among_none (subst (Among n) (straight_kills m i st) a)))
+          ⊎_elim (λ a. a) (λ a. absurd (none_among (subst (Among n) (straight_kills m i st) a)))
           (split_among n i.results (killed m i) w)
 
       by : Earlier m plan i next x.instr x.register → Apart n k
@@ -173,7 +170,7 @@ module _ (m : Mach) (plan : ℕ → Option Reg)
         where
           of_fate : Fate plan p i → ⊥
           of_fate (unchanged e s) = h (subst (IsMove k n) (sym e) x)
-          of_fate (moved r g s e) = differ (is_operator i.op) g (move_plain x)
+          of_fate (moved r g s e) = both_ways (is_operator i.op) (move_plain x) g
 
       by : (i : Instr) (next : List Instr) → Stands i next m.code → Writes m i n →
           LiveAfter q k (again plan (length next) i) (expand f next) → (IsMove k n i → ⊥) → Meets m n k ⊎ Apart n k
@@ -192,8 +189,7 @@ module _ (m : Mach) (plan : ℕ → Option Reg)
         let b = s.before in
         let same : r ≡ b.register =
         numbers r b.register one (standing_register b.instr b.register b.standing) (sym b.number) in
-        differ (passes_frame i.op) frame
-        (straight_frame i.op s.straight ∙ s.kept (ap (λ (x : Reg). x.comp) (sym same) ∙ addr))
+        both_ways (passes_frame i.op) (straight_frame i.op s.straight ∙ s.kept (ap (λ (x : Reg). x.comp) (sym same) ∙ addr)) frame
 
     pub no_addr_back : NoAddrLive m → NoAddrLive (record m { code = with_moves plan m.code })
     no_addr_back none =

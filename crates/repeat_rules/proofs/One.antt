@@ -10,7 +10,7 @@ use Rattle.repeat_rules.proofs.Form.{alone, left_none}
 use Rattle.repeat_rules.proofs.Runs.{Order, together, first_one, first_other, order}
 use Rattle.repeat_rules.proofs.Standing.{restricted}
 
-only_same : {r s : Reg} → r ∷ [] ≡ s ∷ [] → r ≡ s
+pub only_same : {r s : Reg} → r ∷ [] ≡ s ∷ [] → r ≡ s
 only_same e = cc
 
 -- no operator of this code repeats one before it

@@ -4,8 +4,11 @@ use Rattle.std.proofs.Common.{◌≡◌, ◌≢◌, ℕ, suc, Bool, true, false,
 use Rattle.std.proofs.lemmas.List.Elements.{Contains-get_or}
 use Rattle.std.specs.List.{All, Contains}
 use Rattle.std.specs.Prelude.{◌≤◌, slice_index_or}
+use Rattle.std.proofs.lemmas.Bool.{both_ways}
+use Rattle.std.proofs.lemmas.Option.{same_Some}
 use Rattle.bs_words.specs.declared.types.Comp.TheVariants as comp
 use Rattle.bs_words.specs.declared.types.Loc.TheVariants as loc
+use Rattle.bs_words.proofs.Lists.{none_in, first_in, later_in, in_cons, head_same, tail_same, none_there}
 use Rattle.mach_ir.specs.Acts.{Target, On, At}
 use Rattle.mach_ir.specs.Formed.{labels_in, labels_of, LeadsTo, HasPlace, place_here, place_below, HasHandler, handler_here, handler_below, is_exit, LabelsStand, tries_left, leaves, IsNested, CasesAgree, WellFormed}
 use Rattle.mach_ir.specs.Placed.{MayShare, WellPlaced}
@@ -22,10 +25,8 @@ use Rattle.mach_ir.specs.declared.mach.Instr.{Instr}
 use Rattle.mach_ir.specs.declared.mach.Mach.{Mach}
 use Rattle.mach_laws.specs.Expand.{expand, Ending, all, more, KeepsMarks, no_label, not_labelled, no_handler, not_handled, bounds_try, no_bound, not_bound}
 use Rattle.mach_laws.proofs.Places.{label_expand, handler_expand, tries_expand, ending_from_handler}
-use Rattle.mach_laws.proofs.Walking.{none_in, first_in, later_in, in_cons, ending_at}
-use Rattle.places_rules.proofs.Lists.{head_same, tail_same, none_there}
+use Rattle.mach_laws.proofs.Walking.{ending_at}
 use Rattle.mach_laws.proofs.Simulate.{Agrees}
-use Rattle.places_rules.proofs.Files.{differ, some_same}
 use Rattle.repeat_rules.specs.Kept.{OwnOrigins}
 use Rattle.split_rules.proofs.Formed.{contains_of, stands_in}
 
@@ -84,7 +85,7 @@ mark_is f (both_pure p r) e = absurd (no_mark f p e)
 -- what no pure operation is
 same_where : (F : MachOp → Bool) → ((f : Pure) → F (mach.Op (op.Pure f)) ≡ false) → {g h : MachOp} → AreAlike g h → F g ≡ true → h ≡ g
 same_where F e (same_op s) t = s
-same_where F e (both_pure p r) t = absurd (differ (F _) t (of_pure F false e p))
+same_where F e (both_pure p r) t = absurd (both_ways (F _) (of_pure F false e p) t)
 
 abbrev labels_here : MachOp → List ℕ
 labels_here (mach.Op f) = []
@@ -402,7 +403,7 @@ module _ (again : ℕ → Instr → Instr) (alike : (k : ℕ) (i : Instr) → St
           record {
             agree = λ r k i j origin l e x y h t.
                 let same : r.number ≡ k.number = sym (own r (was r i)) ∙ origin ∙ own k (was k j) in
-                ap (λ (z : Held). z.value) (some_same (sym h ∙ ap s.file same ∙ t));
+                ap (λ (z : Held). z.value) (same_Some _ _ (sym h ∙ ap s.file same ∙ t));
           }
 
       -- Where more registers meet, they are not at one place.

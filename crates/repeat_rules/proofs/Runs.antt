@@ -2,6 +2,7 @@
 -- comes to from elsewhere.
 use Rattle.std.proofs.Common.{◌≡◌, ℕ, Bool, true, false, cond, List, [], ◌∷◌, ◌++◌, refl, sym, ap, ◌∙◌, subst, append_assoc}
 use Rattle.std.proofs.lemmas.List.{same_from_push}
+use Rattle.std.proofs.lemmas.Bool.{both_ways}
 use Rattle.mach_ir.specs.Acts.{Landing, AtLabel, AtHandler}
 use Rattle.mach_ir.specs.Meaning.{has_label, is_handler_of, after_label, from_handler, at_handler, tries_at, landing_code}
 use Rattle.mach_ir.specs.Placed.{is_straight}
@@ -10,8 +11,7 @@ use Rattle.mach_ir.specs.declared.mach.MachOp.TheVariants as mach
 use Rattle.mach_ir.specs.declared.mach.Instr.{Instr}
 use Rattle.mach_ir.specs.declared.mach.Mach.{Mach}
 use Rattle.mach_laws.specs.Expand.{Ending, all, more}
-use Rattle.places_rules.proofs.Files.{differ}
-use Rattle.places_rules.proofs.Lists.{head_same, tail_same, none_there}
+use Rattle.bs_words.proofs.Lists.{head_same, tail_same, none_there}
 
 -- ---- the code before a place
 
@@ -62,7 +62,7 @@ order (x ∷ xs) (y ∷ ys) j k us vs e = order xs ys j k us vs (tail_same e)
 -- ---- where control comes to
 
 label_crooked : (l : ℕ) (g : MachOp) → has_label l g ≡ true → is_straight g ≡ false
-label_crooked l (mach.Op g) e = absurd (differ false e refl)
+label_crooked l (mach.Op g) e = absurd (both_ways false refl e)
 label_crooked l (mach.Mark g) e = refl
 
 -- the code after a label is nothing, or stands after the mark that has it

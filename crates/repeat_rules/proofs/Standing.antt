@@ -1,10 +1,12 @@
 -- Which results still stand where a code is left, and what an instruction leaves of them.
 use Rattle.std.proofs.Common.{◌≡◌, ◌≢◌, ℕ, true, false, ⊎_elim, List, [], ◌∷◌, ◌++◌, length, Option, Some, refl, sym, ap, ◌∙◌, subst, append_assoc}
 use Rattle.std.proofs.lemmas.List.{append_cancel_right}
-use Rattle.std.proofs.lemmas.List.Elements.{Contains-get_or}
+use Rattle.std.proofs.lemmas.List.Elements.{Contains-get_or, All-contains}
 use Rattle.std.specs.List.{Contains}
 use Rattle.std.specs.Prelude.{slice_index_or}
+use Rattle.std.proofs.lemmas.Bool.{both_ways}
 use Rattle.bs_words.specs.declared.types.Comp.TheVariants as comp
+use Rattle.bs_words.proofs.Lists.{first_in, later_in, in_cons}
 use Rattle.mach_ir.specs.Acts.{Landing}
 use Rattle.mach_ir.specs.Meaning.{Nothing, is_handler_of, after_label, from_handler, landing_code, destroyed_by, killed_by, killed, passes_frame}
 use Rattle.mach_ir.specs.Placed.{is_straight}
@@ -18,9 +20,6 @@ use Rattle.mach_ir.specs.declared.mach.MachOp.TheVariants as mach
 use Rattle.mach_ir.specs.declared.mach.Instr.{Instr}
 use Rattle.mach_ir.specs.declared.mach.Mach.{Mach}
 use Rattle.mach_laws.specs.Expand.{Ending, expand}
-use Rattle.mach_laws.proofs.Walking.{first_in, later_in, in_cons}
-use Rattle.split_rules.proofs.Formed.{of_each}
-use Rattle.places_rules.proofs.Files.{differ}
 use Rattle.repeat_rules.specs.Repeated.{is_operator, allocates, Ends, StillStands, Repeats, again, in_place, with_moves, IsBefore}
 use Rattle.repeat_rules.proofs.OneForOne.{in_append, in_front, of_pure, op_same, Made, made_to, before_of}
 use Rattle.repeat_rules.proofs.Form.{operator_pure, Fate, unchanged, moved, fate, alike}
@@ -37,16 +36,16 @@ pub operator_straight : (g : MachOp) → is_operator g ≡ true → is_straight 
 operator_straight g o = operator_same is_straight true (λ f. refl) g o
 
 handler_crooked : (l : ℕ) (g : MachOp) → is_handler_of l g ≡ true → is_straight g ≡ false
-handler_crooked l (mach.Op g) e = absurd (differ false e refl)
+handler_crooked l (mach.Op g) e = absurd (both_ways false refl e)
 handler_crooked l (mach.Mark g) e = refl
 
 -- nothing that may stand in a straight run destroys a register, and only an allocation is a frame point
 pub straight_destroys : (g : MachOp) → is_straight g ≡ true → destroyed_by g ≡ Nothing
 straight_destroys (mach.Op (op.Pure f)) e = refl
 straight_destroys (mach.Op (op.Access f)) e = refl
-straight_destroys (mach.Op (op.Calling f)) e = absurd (differ false e refl)
-straight_destroys (mach.Op (op.Leaving f)) e = absurd (differ false e refl)
-straight_destroys (mach.Mark f) e = absurd (differ false e refl)
+straight_destroys (mach.Op (op.Calling f)) e = absurd (both_ways false refl e)
+straight_destroys (mach.Op (op.Leaving f)) e = absurd (both_ways false refl e)
+straight_destroys (mach.Mark f) e = absurd (both_ways false refl e)
 
 pub straight_kills : (m : Mach) (i : Instr) → is_straight i.op ≡ true → killed m i ≡ []
 straight_kills m i e = ap (λ d. killed_by m.colours d i.results) (straight_destroys i.op e)
@@ -56,9 +55,9 @@ straight_frame (mach.Op (op.Pure f)) e = refl
 straight_frame (mach.Op (op.Access (access.Load k n))) e = refl
 straight_frame (mach.Op (op.Access (access.Store k n))) e = refl
 straight_frame (mach.Op (op.Access (access.Alloc blocks))) e = refl
-straight_frame (mach.Op (op.Calling f)) e = absurd (differ false e refl)
-straight_frame (mach.Op (op.Leaving f)) e = absurd (differ false e refl)
-straight_frame (mach.Mark f) e = absurd (differ false e refl)
+straight_frame (mach.Op (op.Calling f)) e = absurd (both_ways false refl e)
+straight_frame (mach.Op (op.Leaving f)) e = absurd (both_ways false refl e)
+straight_frame (mach.Mark f) e = absurd (both_ways false refl e)
 
 -- ---- one instruction more
 
@@ -78,7 +77,7 @@ restricted j r s ys zs e =
       run = ys;
       within = refl;
       straight = λ k d lt.
-          of_each (λ (i : Instr). is_straight i.op ≡ true) s.run (slice_index_or ys k d) s.straight
+          All-contains (λ (i : Instr). is_straight i.op ≡ true) s.run (slice_index_or ys k d) s.straight
           (to_run (slice_index_or ys k d) (Contains-get_or ys k d lt));
       operates = s.operates;
       result = s.result;
@@ -103,7 +102,7 @@ since made x j r s = by (last_of made x s.others j s.run s.within)
     by (in_run ys e h) =
         stood
         (subst (λ xs. StillStands xs j r) (sym h) (restricted j r s ys (x ∷ []) e))
-        (of_each (λ (i : Instr). is_straight i.op ≡ true) s.run x s.straight x_in)
+        (All-contains (λ (i : Instr). is_straight i.op ≡ true) s.run x s.straight x_in)
         (λ w k c d. s.operands x (later_in j x s.run x_in) w k c d)
         (λ w c. s.stands x x_in w c)
         (λ e. s.kept e x x_in)
@@ -168,7 +167,7 @@ module _ (m : Mach) (plan : ℕ → Option Reg) where
           by (unchanged h s) = just_now (e ∙ h)
           by (moved k g s h) =
               absurd
-              (differ (is_operator j.op) (w.stands).operates (ap (λ (y : Instr). is_operator y.op) (e ∙ h)))
+              (both_ways (is_operator j.op) (ap (λ (y : Instr). is_operator y.op) (e ∙ h)) (w.stands).operates)
       of_since (stood s st apart ends kept) =
           let straight : is_straight i.op ≡ true = sym (op_same (again plan) (alike plan) is_straight true (λ f. refl) (length next) i) ∙ st in
           let results : x.results ≡ i.results = (alike plan (length next) i).results in
@@ -184,8 +183,8 @@ module _ (m : Mach) (plan : ℕ → Option Reg) where
     where
       by : Earlier i next j r → ⊥
       by (just_now h) =
-          differ (is_straight j.op) (operator_straight j.op (w.stands).operates) (ap (λ (x : Instr). is_straight x.op) h ∙ e)
-      by (earlier s st apart ends kept) = differ (is_straight i.op) st e
+          both_ways (is_straight j.op) (ap (λ (x : Instr). is_straight x.op) h ∙ e) (operator_straight j.op (w.stands).operates)
+      by (earlier s st apart ends kept) = both_ways (is_straight i.op) e st
 
   pub not_at_entry : (j : Instr) (r : Reg) → Standing m.code j r → ⊥
   not_at_entry j r w =
@@ -197,7 +196,7 @@ module _ (m : Mach) (plan : ℕ → Option Reg) where
       record {
         nothing = λ w. not_nothing w.begins;
         past = λ i next ending e w. not_past ending e j r w;
-        handler = λ l i next e w. differ (is_straight i.op) (starts_with w.begins) (handler_crooked l i.op e);
+        handler = λ l i next e w. both_ways (is_straight i.op) (handler_crooked l i.op e) (starts_with w.begins);
       }
 
   pub not_at_label : (l : ℕ) (j : Instr) (r : Reg) → Standing (after_label l m.code) j r → ⊥

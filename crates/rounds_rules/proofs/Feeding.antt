@@ -2,12 +2,12 @@
 -- the last stands in its slot, so only the last copy has words.
 use Rattle.std.proofs.Common.{◌≡◌, ◌≢◌, ℕ, suc, ◌+◌, ◌*◌, ◌≤◌, Bool, true, false, cond, ◌&&◌, List, [], ◌∷◌, ◌++◌, length, map, refl, sym, ap, ◌∙◌, subst, arith}
 use Rattle.std.proofs.lemmas.Bool.{eq-eqb}
-use Rattle.bs_words.specs.declared.types.Comp.{Comp}
 use Rattle.bs_words.specs.declared.types.Comp.TheVariants as comp
 use Rattle.bs_words.specs.declared.types.Loc.{Loc}
 use Rattle.bs_words.specs.declared.types.Loc.TheVariants as loc
 use Rattle.lin_ir.specs.Meaning.{same_loc}
 use Rattle.linear_rules.specs.Lowered.{same_spot, same_comp}
+use Rattle.linear_rules.proofs.Moves.{same_comp_is}
 use Rattle.mach_ir.specs.declared.op.CopyKind.{CopyKind}
 use Rattle.mach_ir.specs.declared.op.CopyKind.TheVariants as copy
 use Rattle.mach_ir.specs.declared.reg.Reg.{Reg}
@@ -121,19 +121,13 @@ pub data Feeds : List Instr → Reg → Type 0 where
   itself : {r : Reg} → Feeds [] r
   by_copies : {c : Instr} {idles : List Instr} {r : Reg} → IsBetween r c → AreIdle idles → Feeds (c ∷ idles) r
 
-comp_itself : (c : Comp) → same_comp c c ≡ true
-comp_itself comp.Int = refl
-comp_itself comp.Val = refl
-comp_itself comp.Addr = refl
-comp_itself comp.Float = refl
-
 spot_itself : (a b : Reg) (k : ℕ) → a.loc ≡ loc.Slot k → b.loc ≡ loc.Slot k → a.comp ≡ b.comp → same_spot (a ∷ []) (b ∷ []) ≡ true
 spot_itself a b k e g same =
     ap (λ l. same_loc l b.loc && same_comp a.comp b.comp) e
     ∙ ap (λ l. same_loc (loc.Slot k) l && same_comp a.comp b.comp) g
     ∙ ap (λ t. t && same_comp a.comp b.comp) (eq-eqb k k refl)
     ∙ ap (same_comp a.comp) (sym same)
-    ∙ comp_itself a.comp
+    ∙ same_comp_is a.comp
 
 idle_words : {c : Instr} → IsIdle c → instr_words c ≡ 0
 idle_words (idle {a = a} {b = b} {k = k} e g same) = ap (λ t. cond t 0 copy_words) (spot_itself a b k e g same)

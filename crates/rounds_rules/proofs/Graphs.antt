@@ -1,6 +1,7 @@
 -- A function has one graph.
 use Rattle.std.proofs.Common.{◌≡◌, ℕ, ◌<◌, List, refl, sym, ap, ◌∙◌, subst, arith}
 use Rattle.std.specs.List.{AllPairs, Contains}
+use Rattle.std.proofs.lemmas.List.Elements.{All-contains}
 use Rattle.mach_ir.specs.Graph.{InGraph, IsGraph, moves_of, uses_of}
 use Rattle.mach_ir.specs.declared.graph.Graph.{Graph}
 use Rattle.mach_ir.specs.declared.graph.Node.{Node}
@@ -8,7 +9,8 @@ use Rattle.mach_ir.specs.declared.mach.Mach.{Mach}
 use Rattle.mach_ir.specs.declared.reg.Reg.{Reg}
 use Rattle.colouring.proofs.Found.{one_of_number}
 use Rattle.lin_laws.proofs.Unique.{ordered_same}
-use Rattle.places_rules.proofs.Lists.{was, mapped, of_all}
+use Rattle.places_rules.proofs.Lists.{was}
+use Rattle.bs_words.proofs.Lists.{mapped}
 
 abbrev Lower : Node → Node → Type 0
 Lower x y = x.reg.number < y.reg.number
@@ -55,17 +57,17 @@ module _ {m : Mach} where
       let e : x.reg ≡ y.reg = sym w.same in
       let number : x.reg.number ≡ y.reg.number = ap (λ (r : Reg). r.number) e in
       let neighbours : x.neighbours ≡ y.neighbours =
-      ordered_same ◌<◌ below_once x.neighbours y.neighbours (of_all (λ (v : Node). AllPairs ◌<◌ v.neighbours) g.nodes x is.sorted c)
-      (of_all (λ (v : Node). AllPairs ◌<◌ v.neighbours) h.nodes y it.sorted w.among)
+      ordered_same ◌<◌ below_once x.neighbours y.neighbours (All-contains (λ (v : Node). AllPairs ◌<◌ v.neighbours) g.nodes x is.sorted c)
+      (All-contains (λ (v : Node). AllPairs ◌<◌ v.neighbours) h.nodes y it.sorted w.among)
       (over is it x y c w.among e) (over it is y x w.among c (sym e)) in
       let moves : x.moves ≡ y.moves =
-      of_all (λ (v : Node). v.moves ≡ moves_of v.reg.number m.code) g.nodes x is.moves c
+      All-contains (λ (v : Node). v.moves ≡ moves_of v.reg.number m.code) g.nodes x is.moves c
       ∙ ap (λ n. moves_of n m.code) number
-      ∙ sym (of_all (λ (v : Node). v.moves ≡ moves_of v.reg.number m.code) h.nodes y it.moves w.among) in
+      ∙ sym (All-contains (λ (v : Node). v.moves ≡ moves_of v.reg.number m.code) h.nodes y it.moves w.among) in
       let uses : x.uses ≡ y.uses =
-      of_all (λ (v : Node). v.uses ≡ uses_of v.reg.number m.code) g.nodes x is.uses c
+      All-contains (λ (v : Node). v.uses ≡ uses_of v.reg.number m.code) g.nodes x is.uses c
       ∙ ap (λ n. uses_of n m.code) number
-      ∙ sym (of_all (λ (v : Node). v.uses ≡ uses_of v.reg.number m.code) h.nodes y it.uses w.among) in
+      ∙ sym (All-contains (λ (v : Node). v.uses ≡ uses_of v.reg.number m.code) h.nodes y it.uses w.among) in
       subst (Contains h.nodes) (sym (same_fields x.reg y.reg x.neighbours y.neighbours x.moves y.moves x.uses y.uses e neighbours moves uses)) w.among
 
   -- A function has one graph.

@@ -18,6 +18,7 @@ use Rattle.mach_ir.specs.declared.op.Leaving.TheVariants as leaving
 use Rattle.pass_rules.specs.Carried.{OffsetFits, EndsInReturn, at_return, further}
 use Rattle.pass_rules.specs.Measures.{one_if, words_with, code_words, code_points, exits, instr_words, copy_words, operands_with, other_operands}
 use Rattle.pass_rules.proofs.Words.{words_append}
+use Rattle.pass_rules.proofs.Carried.{ends_second, returns_alone}
 use Rattle.places_rules.specs.Places.{Placing, placed, all_placed, placed_instr, placed_code}
 use Rattle.reload_rules.specs.Reloaded.{is_copy, reads_registers, writes_registers, renewed, reloads, spills, number_past, results_from, past_instr, renewed_instr, reloaded_instr, reloaded_code}
 use Rattle.reload_rules.proofs.Text.{no_reloads, no_spills, none_renewed}
@@ -68,9 +69,6 @@ pub data Grown : List Instr → List Instr → Type 0 where
 
 -- ---- placed
 
-abbrev instr : MachOp → List Reg → List Reg → Instr
-instr f args results = record { op = f; args = args; results = results }
-
 module _ (place : Placing) (sound : IsSound place) where
   no_results : (rs : List Reg) {behind : List Instr} → length (all_placed place rs) ≡ length rs → (rs ≡ [] → behind ≡ []) → rs ≡ [] → placed_code place behind ≡ []
   no_results rs e h none = ap (placed_code place) (h none)
@@ -101,10 +99,6 @@ pub data HomedCode : List Instr → Type 0 where
 homed_rest : (xs : List Instr) {ys : List Instr} → HomedCode (xs ++ ys) → HomedCode ys
 homed_rest [] h = h
 homed_rest (x ∷ xs) (homed_then a b h) = homed_rest xs h
-
-is_false : (b : Bool) → not b ≡ false → b ≡ true
-is_false true e = refl
-is_false false e = cc
 
 copy_reads : (f : MachOp) → copies f ≡ true → reads_registers f ≡ false
 copy_reads (mach.Op f) e = ap not e
@@ -437,17 +431,10 @@ grown_fit (grown_other {j = j} {behind = behind} {q = q} c e args results one tw
 
 -- ---- the end
 
-ends_after : (xs : List Instr) {ys : List Instr} → EndsInReturn ys → EndsInReturn (xs ++ ys)
-ends_after [] e = e
-ends_after (x ∷ xs) e = further (ends_after xs e)
-
 -- a return has no results
 abbrev pub ReturnsNothing : List Instr → Type 0
 ReturnsNothing [] = Unit {0}
 ReturnsNothing (i ∷ is) = (i.op ≡ mach.Op (op.Leaving leaving.Return) → i.results ≡ []) × ReturnsNothing is
-
-last_of : (j : Instr) → j.op ≡ mach.Op (op.Leaving leaving.Return) → EndsInReturn (j ∷ [])
-last_of j e = subst (λ f. EndsInReturn (record { op = f; args = j.args; results = j.results } ∷ [])) (sym e) at_return
 
 none_grown : {q : List Instr} → Grown [] q → q ≡ []
 none_grown grown_none = refl
@@ -458,6 +445,6 @@ grown_ends (grown_copy c e words g) r at_return = cc
 grown_ends (grown_copy c e words g) r (further x) = further (grown_ends g r.1 x)
 grown_ends (grown_other {j = j} {before = before} {behind = behind} {q = q} c e args results one two only also none g) r at_return =
     let nothing : behind ++ q ≡ [] = ap (λ (is : List Instr). is ++ q) (none (r.0 refl)) ∙ none_grown g in
-    subst (λ (is : List Instr). EndsInReturn (before ++ (j ∷ is))) (sym nothing) (ends_after before (last_of j e))
+    subst (λ (is : List Instr). EndsInReturn (before ++ (j ∷ is))) (sym nothing) (ends_second before _ (returns_alone j e))
 grown_ends (grown_other {j = j} {before = before} {behind = behind} c e args results one two only also none g) r (further x) =
-    ends_after before (further (ends_after behind (grown_ends g r.1 x)))
+    ends_second before _ (further (ends_second behind _ (grown_ends g r.1 x)))

@@ -2,11 +2,10 @@
 use Rattle.std.proofs.Common.{◌≡◌, ◌⊎◌, inl, inr, ℕ, suc, ◌+◌, ◌*◌, ◌≤◌, Bool, true, false, cond, List, [], ◌∷◌, ◌++◌, length, All, refl, sym, ap, ◌∙◌, subst, arith}
 use Rattle.std.specs.Prelude.{Contains}
 use Rattle.std.proofs.Math.Nat.{mul-le-mul_right, suc-mul}
-use Rattle.std.proofs.lemmas.List.{length-map}
 use Rattle.std.proofs.lemmas.List.Elements.{All-nil, All-cons, All-head, All-tail}
 use Rattle.bs_words.specs.declared.types.Loc.{Loc}
 use Rattle.bs_words.specs.declared.types.Loc.TheVariants as loc
-use Rattle.mach_ir.specs.Formed.{WellFormed, IsFormed, formed_op, formed_mark}
+use Rattle.mach_ir.specs.Formed.{WellFormed, IsFormed}
 use Rattle.mach_ir.specs.Forms as forms
 use Rattle.mach_ir.specs.Forms.{HasForm, constant, symbol, operates, loads, stores, allocates, calls, tail_calls, calls_out, checks, raises, returns}
 use Rattle.mach_ir.specs.Graph.{place_in}
@@ -20,13 +19,14 @@ use Rattle.mach_ir.specs.declared.op.Leaving.TheVariants as leaving
 use Rattle.mach_ir.specs.declared.op.Op.{Op}
 use Rattle.mach_ir.specs.declared.op.Op.TheVariants as op
 use Rattle.bs_words.specs.declared.types.Comp.{Comp}
+use Rattle.bs_words.proofs.Lists.{first_in, later_in}
 use Rattle.mach_ir.specs.declared.reg.Reg.{Reg}
 use Rattle.mach_ir.specs.declared.mach.MachOp.TheVariants as mach
 use Rattle.mach_ir.specs.declared.mach.Instr.{Instr}
 use Rattle.mach_ir.specs.declared.mach.Mach.{Mach}
 use Rattle.mach_ir.proofs.Keeping.{keeps_itself, keeps_then}
 use Rattle.mach_laws.proofs.Colouring.{colouring_of}
-use Rattle.mach_laws.proofs.Walking.{first_in, later_in}
+use Rattle.mach_laws.proofs.Instructions.{return_results}
 use Rattle.pass_rules.specs.Carried.{IsCarried, OffsetFits}
 use Rattle.pass_rules.specs.Measures.{code_words, copy_words, other_operands}
 use Rattle.places_rules.specs.Places.{Placing, all_placed, placed_code, recoloured, rest_in_slots, last_resort, or_slot, ColoursLow}
@@ -248,17 +248,9 @@ form_of_return (checks r) e = cc
 form_of_return raises e = cc
 form_of_return (returns result) e = refl
 
-same_op : (f g : Op) → mach.Op f ≡ mach.Op g → f ≡ g
-same_op f g e = cc
-
-return_form : {i : Instr} → IsFormed i → i.op ≡ mach.Op (op.Leaving leaving.Return) → i.results ≡ []
-return_form (formed_op {f = f} {args = args} {results = results} h) e =
-    none_of results (sym (length-map results (λ (r : Reg). r.comp)) ∙ ap length (form_of_return h (same_op f (op.Leaving leaving.Return) e)))
-return_form (formed_mark h) e = cc
-
 nothing_returned : (code : List Instr) → All IsFormed code → ReturnsNothing code
 nothing_returned [] all = tt
-nothing_returned (i ∷ is) all = (return_form (All-head IsFormed i is all), nothing_returned is (All-tail IsFormed i is all))
+nothing_returned (i ∷ is) all = (return_results (All-head IsFormed i is all), nothing_returned is (All-tail IsFormed i is all))
 
 -- ---- rounds
 

@@ -1,7 +1,7 @@
 -- Allocation makes one function of each: a function has one graph, that one colouring by its order, and by that reloading makes one
 -- function and one answer.
 use Rattle.std.proofs.Common.{◌≡◌, ⊎_elim, ℕ, ◌<◌, ◌≤◌, Bool, true, false, refl, sym, subst, arith}
-use Rattle.std.proofs.lemmas.Bool.{cases_lt}
+use Rattle.std.proofs.lemmas.Bool.{cases_lt, true≢false}
 use mathlib.Core.Path.{fun_ext}
 use Rattle.colouring.specs.Chosen.{IsColouredBy}
 use Rattle.colouring.proofs.Ordered.{one_colouring}
@@ -13,9 +13,6 @@ use Rattle.reload_rules.specs.Reloaded.{IsFree, IsReloadedBy}
 use Rattle.reload_rules.proofs.Together.{one_reloaded}
 use Rattle.rounds_rules.specs.Rounds.{IsRound, Asked, none_yet, one_more, Ends, asks_no_more, gives_up, IsAllocated}
 use Rattle.rounds_rules.proofs.Graphs.{graph_once}
-
-true_is_not_false : true ≡ false → ⊥
-true_is_not_false e = cc
 
 module _ {fresh : ℕ} where
   same_place : {m q k : Mach} {a b : Bool} (r : IsRound fresh m q a) (s : IsRound fresh m k b) → place_in r.colours ≡ place_in s.colours
@@ -43,7 +40,7 @@ module _ {fresh : ℕ} where
   no_later : {first q m : Mach} (n : ℕ) {more : ℕ} {p : Mach} → Asked fresh first n p → IsRound fresh p q false → n < more → Asked fresh first more m → ⊥
   no_later {q = q} n {p = p} a r less b =
       let x = asked_before n less b in
-      true_is_not_false (both_once (subst (λ (k : Mach). IsRound fresh k x.1 true) (asked_once x.2 a) x.3) r).1
+      true≢false (both_once (subst (λ (k : Mach). IsRound fresh k x.1 true) (asked_once x.2 a) x.3) r).1
 
   ends_once : {first q k : Mach} {n m : ℕ} {a b : Bool} → Ends fresh first q n a → Ends fresh first k m b → q ≡ k
   ends_once {k = k} (asks_no_more {rounds = n} few a r) (asks_no_more {rounds = m} less b s) =

@@ -1,11 +1,10 @@
 -- Selection keeps its promise.
-use Rattle.std.proofs.Common.{◌≡◌, ℕ, suc, ◌+◌, ◌*◌, ◌≤◌, Bool, true, false, List, [], ◌∷◌, length, Option, refl, arith}
-use Rattle.std.specs.Prelude.{nat_le, not, map}
+use Rattle.std.proofs.Common.{◌≡◌, ℕ, suc, ◌+◌, ◌*◌, ◌≤◌, List, [], ◌∷◌, length, Option, refl, arith}
+use Rattle.std.specs.Prelude.{nat_le, map}
 use Rattle.std.proofs.lemmas.Bool.{leb-true}
-use Rattle.bs_fault.specs.declared.fault.Fault.{Fault}
 use Rattle.bs_fault.specs.declared.fault.Fault.TheVariants as fault
 use Rattle.bs_fault.specs.Limits.{most_tokens}
-use Rattle.bs_fault.specs.Reported.{Faultless, here, one_if}
+use Rattle.bs_fault.specs.Reported.{Faultless, here}
 use Rattle.bs_words.specs.Fits.{type_of_comp}
 use Rattle.bs_words.specs.declared.types.Comp.{Comp}
 use Rattle.bs_words.specs.declared.types.Comp.TheVariants as comp
@@ -17,7 +16,7 @@ use Rattle.cmm_types.specs.Gathered.{comp_faults, params_faults}
 use Rattle.mach_ir.specs.Formed.{comps}
 use Rattle.mach_ir.specs.Sizes.{HasSize, IsSmall}
 use Rattle.selection_rules.specs.Select.{selected, first, comp_of, params_from, seats, width}
-use Rattle.selection_laws.proofs.Accepting.{left, right, accepted_fits}
+use Rattle.selection_laws.proofs.Accepting.{left, right, accepted_fits, holds_if}
 use Rattle.selection_laws.proofs.Proper.{selected_seated}
 use Rattle.selection_laws.proofs.Widths.{few_numbers}
 use Rattle.selection_places.proofs.Formed.{selected_well_formed}
@@ -34,10 +33,6 @@ use Rattle.selection_promise.proofs.Offsets.{selected_offsets}
 use Rattle.selection_promise.proofs.Played.{plays_as}
 
 -- ---- limits
-
-holds_if : (b : Bool) (f : Fault) → Faultless (one_if (not b) f) → b ≡ true
-holds_if true f none = refl
-holds_if false f none = absurd (none f here)
 
 pub few_tokens : (f : FunctionTree) → Faultless (limits.function_faults f) → f.tokens ≤ 32000
 few_tokens f none = leb-true f.tokens 32000 (holds_if (nat_le f.tokens most_tokens) _ (left (right none)))

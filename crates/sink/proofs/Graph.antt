@@ -4,6 +4,7 @@ use Rattle.std.proofs.lemmas.Bool.{cases_lt}
 use Rattle.std.specs.List.{Contains}
 use Rattle.std.specs.Prelude.{slice_index_or}
 use Rattle.bs_words.specs.Contents.{contents}
+use Rattle.bs_words.proofs.Lists.{none_in}
 use Rattle.dataflow.specs.Flow.{graph}
 use Rattle.dataflow.specs.declared.flow.Flow as flow
 use Rattle.dataflow.specs.declared.flow.Place as place
@@ -13,7 +14,7 @@ use Rattle.mach_ir.specs.declared.mach.Instr.{Instr}
 use Rattle.mach_ir.specs.declared.mach.Mach.{Mach}
 use Rattle.mach_laws.specs.Expand.{Ending, all, more}
 use Rattle.mach_laws.specs.Graph.{place_of, next_places, raise_places}
-use Rattle.mach_laws.proofs.Walking.{none_in, ending_at, place_is}
+use Rattle.mach_laws.proofs.Walking.{ending_at, place_is}
 use Rattle.sink.specs.Graphs.{AreNodes}
 use Rattle.sink.proofs.Nodes.{At, at_place, past}
 use Rattle.sink.proofs.Steps.{target_of, place_back, ending_place, steps_to, Raised, raised_of, raises_to}

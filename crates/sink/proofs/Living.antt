@@ -5,8 +5,8 @@ use Rattle.std.specs.List.{Contains}
 use Rattle.std.specs.Prelude.{nat_eq}
 use Rattle.bs_bits.specs.Set.{has, HasNoneFrom, IsNext}
 use Rattle.dataflow.specs.Rows.{row}
-use Rattle.mach_laws.proofs.Walking.{none_in, first_in, later_in, in_cons}
 use Rattle.liveness.proofs.Bounds.{split_in}
+use Rattle.bs_words.proofs.Lists.{none_in, first_in, later_in, in_cons}
 use Rattle.sink.specs.Graphs.{held, LivesAt, AreLiving, AreOver}
 use Rattle.mach_ir.specs.declared.mach.MachOp.{MachOp}
 

@@ -10,9 +10,10 @@ use Rattle.mach_ir.specs.declared.mach.Instr.{Instr}
 use Rattle.mach_ir.specs.declared.mach.Mach.{Mach}
 use Rattle.mach_laws.specs.Expand.{expand}
 use Rattle.mach_laws.specs.Graph.{place_of}
-use Rattle.mach_laws.proofs.Walking.{none_in, first_in, later_in, in_cons, place_is}
+use Rattle.mach_laws.proofs.Walking.{place_is}
 use Rattle.sink_rules.specs.Chosen.{IsSunkAt, IsChosen, IsSunk}
 use Rattle.sink_rules.specs.Sunk.{Plan, to_itself, moves_of, sunk_instr}
+use Rattle.bs_words.proofs.Lists.{none_in, first_in, later_in, in_cons}
 use Rattle.sink.specs.Chosen.{AreMoves}
 use Rattle.sink.specs.Runs.{begins_at}
 use Rattle.sink.specs.Moves.{moves_before, instr_at, code_at}

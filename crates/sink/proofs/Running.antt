@@ -15,8 +15,9 @@ use Rattle.mach_ir.specs.declared.mach.MachOp.{MachOp}
 use Rattle.mach_ir.specs.declared.mach.MachOp.TheVariants as mach
 use Rattle.mach_laws.specs.Expand.{Ending, all, more}
 use Rattle.mach_laws.specs.Graph.{place_of}
-use Rattle.mach_laws.proofs.Walking.{place_is, in_cons}
+use Rattle.mach_laws.proofs.Walking.{place_is}
 use Rattle.sink_rules.specs.Chosen.{IsRunTo}
+use Rattle.bs_words.proofs.Lists.{in_cons}
 use Rattle.sink.specs.Runs.{some_straight, begins_at, is_among, some_result, run_start}
 use Rattle.sink.proofs.Held.{ending_of, stands_of}
 use Rattle.sink.proofs.Living.{not_both}

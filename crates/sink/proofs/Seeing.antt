@@ -5,9 +5,9 @@ use Rattle.std.specs.List.{Contains}
 use Rattle.std.specs.Prelude.{nat_eq, slice_index_or, slice_set}
 use Rattle.bs_bits.specs.Set.{has}
 use Rattle.bs_words.specs.Contents.{contents}
+use Rattle.bs_words.proofs.Lists.{none_in, first_in, later_in, in_cons}
 use Rattle.dataflow.specs.Rows.{row}
 use Rattle.dataflow.specs.declared.flow.Place as place
-use Rattle.mach_laws.proofs.Walking.{none_in, first_in, later_in, in_cons}
 use Rattle.sink.specs.Sights.{noted, noted_number, noted_numbers, noted_places}
 use Rattle.sink.specs.declared.sights.Sight.{Sight}
 use Rattle.sink.specs.declared.sights.Sight.TheVariants.{Unseen, Once, Often}

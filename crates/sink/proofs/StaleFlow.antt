@@ -3,6 +3,7 @@ use Rattle.std.proofs.Common.{◌≡◌, ℕ, zero, suc, ◌<◌, ◌≤◌, Boo
 use Rattle.std.specs.List.{All, Contains}
 use Rattle.std.specs.Prelude.{slice_index_or}
 use Rattle.bs_words.specs.Contents.{contents}
+use Rattle.bs_words.proofs.Lists.{none_in, first_in, in_cons}
 use Rattle.dataflow.specs.Flow.{Graph, graph, IsPlace}
 use Rattle.dataflow.specs.Flow as flows
 use Rattle.dataflow.specs.Reach.{ComesIn, ComesTo, IsReaching}
@@ -18,7 +19,7 @@ use Rattle.mach_ir.specs.declared.mach.Mach.{Mach}
 use Rattle.mach_laws.specs.Expand.{Ending, all}
 use Rattle.mach_laws.specs.Graph.{place_of, numbers, next_places, raise_places, numbers_written, IsFlowOf}
 use Rattle.mach_laws.proofs.Places.{ending_next}
-use Rattle.mach_laws.proofs.Walking.{none_in, first_in, in_cons, place_is, ending_drop}
+use Rattle.mach_laws.proofs.Walking.{place_is, ending_drop}
 use Rattle.liveness.proofs.Bounds.{no_items, one_more}
 use Rattle.sink_rules.specs.Walks.{Stale, at_entry, over, on, aside}
 use Rattle.sink.specs.Graphs.{held, LivesAt, IsOver, IsEntry, IsStaleNode, AreStaleNodes}

@@ -5,6 +5,7 @@ use Rattle.std.proofs.lemmas.List.Elements.{Contains-get_or}
 use Rattle.std.specs.List.{All, Contains}
 use Rattle.std.specs.Prelude.{slice_index_or}
 use Rattle.bs_words.specs.Contents.{contents}
+use Rattle.bs_words.proofs.Lists.{none_in, first_in, later_in, in_cons}
 use Rattle.dataflow.specs.Flow.{Graph, graph, IsPlace}
 use Rattle.dataflow.specs.Flow as flows
 use Rattle.dataflow.specs.declared.flow.Flow as flow
@@ -21,7 +22,7 @@ use Rattle.mach_ir.specs.declared.mach.Mach.{Mach}
 use Rattle.mach_laws.specs.Expand.{Ending}
 use Rattle.mach_laws.specs.Graph.{place_of, numbers, handler_places, next_places, raise_places, numbers_read, numbers_written, IsFlowOf}
 use Rattle.mach_laws.proofs.Places.{ending_from_handler}
-use Rattle.mach_laws.proofs.Walking.{none_in, first_in, later_in, in_cons, ending_at, place_is, ending_drop}
+use Rattle.mach_laws.proofs.Walking.{ending_at, place_is, ending_drop}
 use Rattle.liveness.proofs.Bounds.{no_items}
 
 pub member : {A : Type 0} (P : A → Type 0) (xs : List A) (y : A) → All P xs → Contains xs y → P y

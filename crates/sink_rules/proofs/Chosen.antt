@@ -1,5 +1,5 @@
 -- What is chosen is a plan, and there is one way to choose.
-use Rattle.std.proofs.Common.{◌≡◌, ◌↔◌, ℕ, suc, ◌<◌, Bool, true, false, cond, ⊎_elim, List, [], ◌∷◌, ◌++◌, length, refl, sym, ap, ◌∙◌, subst, arith}
+use Rattle.std.proofs.Common.{◌≡◌, ℕ, suc, ◌<◌, true, cond, ⊎_elim, List, [], ◌∷◌, ◌++◌, length, refl, sym, ap, ◌∙◌, subst, arith}
 use Rattle.std.specs.List.{AllPairs, Contains}
 use Rattle.mach_ir.specs.Acts.{Target, has_descriptor}
 use Rattle.mach_ir.specs.Formed.{WellFormed, AreDistinct}
@@ -13,11 +13,11 @@ use Rattle.mach_ir.specs.declared.mach.MachOp.TheVariants as mach
 use Rattle.mach_ir.specs.declared.mach.Instr.{Instr}
 use Rattle.mach_ir.specs.declared.mach.Mach.{Mach}
 use Rattle.mach_laws.specs.Expand.{expand, Ending, all}
-use Rattle.mach_laws.proofs.Places.{ending_from_handler}
-use Rattle.mach_laws.proofs.Walking.{none_in, first_in, later_in, in_cons, ending_at}
-use Rattle.places_rules.proofs.Lists.{tail_same}
-use Rattle.places_rules.proofs.Walked.{stands_of, ending_of}
+use Rattle.mach_laws.proofs.Places.{ending_from_handler, stands_of, ending_of}
+use Rattle.mach_laws.proofs.Walking.{ending_at}
 use Rattle.spill_rules.specs.Chosen.{LivesOver, lives}
+use Rattle.spill_rules.proofs.Chosen.{same_answer}
+use Rattle.bs_words.proofs.Lists.{none_in, first_in, later_in, in_cons, tail_same}
 use Rattle.sink_rules.specs.Chosen.{IsRunTo, IsSunkAt, IsSunkSomewhere, IsChosen, IsSunk}
 use Rattle.sink_rules.specs.Sunk.{Plan, to_itself, moves_of, sunk_instr, IsPlan, IsKept}
 use Rattle.sink_rules.proofs.Runs.{stale_at_call, reached_at_call, live_from_call, run_operation, begins_once}
@@ -166,12 +166,6 @@ module _ (p q : Plan) where
       ap (λ xs. (xs ++ i ∷ []) ++ expand (sunk_instr p) is)
       (moves_same (length is) p.registers (h i is here) ∙ ap (moves_of q (length is)) same)
       ∙ ap (λ xs. sunk_instr q (length is) i ++ xs) (code_same same is (λ j next s. h j next (below s)))
-
-same_answer : {P : Type 0} (a b : Bool) → (a ≡ true) ↔ P → (b ≡ true) ↔ P → a ≡ b
-same_answer true true x y = refl
-same_answer true false x y = sym (y.1 (x.0 refl))
-same_answer false true x y = x.1 (y.0 refl)
-same_answer false false x y = refl
 
 -- One function is made of each.
 pub one_sunk : (m q k : Mach) → IsSunk m q → IsSunk m k → q ≡ k

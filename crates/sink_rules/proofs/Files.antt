@@ -1,22 +1,23 @@
 -- What registers hold: values of their own components, and something wherever they surely were written.
 use Rattle.std.proofs.Common.{◌≡◌, ◌≢◌, ℕ, Bool, true, false, cond, not, ◌&&◌, ◌⊎◌, inl, inr, ⊎_elim, List, [], ◌∷◌, Option, Some, None, refl, sym, ap, ◌∙◌}
 use Rattle.std.proofs.Math.Path.{fun_ext}
-use Rattle.std.proofs.lemmas.Bool.{cases_Bool, eq-eqb, eqb-true}
+use Rattle.std.proofs.lemmas.Bool.{cases_Bool, eq-eqb, eqb-true, both_ways}
 use Rattle.std.specs.List.{Contains}
 use Rattle.std.specs.Prelude.{nat_eq}
 use Rattle.bs_words.specs.declared.types.Comp.{Comp}
 use Rattle.bs_words.specs.declared.types.Comp.TheVariants as comp
 use Rattle.bs_words.specs.declared.types.Loc.TheVariants as loc
+use Rattle.bs_words.proofs.Lists.{none_in, in_cons}
 use Rattle.mach_ir.specs.Formed.{WellFormed}
 use Rattle.mach_ir.specs.Meaning.{Held, File, put, is_addr, past_frame, unless_addr, Destroyed, Nothing, Temporaries, Everything, destroyed_by, is_destroyed, is_at_one_of, killed_among, killed_by, killed}
 use Rattle.mach_ir.specs.Walks.{Among, IsRegister, is_colour}
 use Rattle.mach_ir.specs.declared.reg.Reg.{Reg}
 use Rattle.mach_ir.specs.declared.mach.Instr.{Instr}
 use Rattle.mach_ir.specs.declared.mach.Mach.{Mach}
-use Rattle.mach_laws.proofs.Walking.{none_in, in_cons}
 use Rattle.liveness.proofs.Bounds.{killed_is_colour}
-use Rattle.places_rules.proofs.Files.{differ, put_here, put_other}
-use Rattle.split_rules.proofs.Text.{number_among}
+use Rattle.places_rules.proofs.Files.{put_here}
+use Rattle.mach_laws.proofs.Among.{number_among}
+use Rattle.mach_laws.proofs.Files.{put_other}
 
 -- ---- a register that is put back
 
@@ -29,7 +30,7 @@ put_back r h a e c = fun_ext (λ n. by n (cases_Bool (nat_eq r.number n)))
 
     by : (n : ℕ) → (nat_eq r.number n ≡ true) ⊎ (nat_eq r.number n ≡ false) → put r h.value a n ≡ a n
     by n (inl t) = let s = eqb-true r.number n t in put_here r h.value a n s ∙ sym as_put ∙ ap a s
-    by n (inr t) = put_other r h.value a n (λ s. differ (nat_eq r.number n) (eq-eqb r.number n s) t)
+    by n (inr t) = put_other r h.value a n (λ s. both_ways (nat_eq r.number n) t (eq-eqb r.number n s))
 
 -- ---- what is destroyed has a place
 
@@ -47,7 +48,7 @@ fixed_among (x ∷ cs) d rs r c e =
         Contains (cond (b && t) (x ∷ killed_among cs d rs) (killed_among cs d rs)) r → ⊥
     by true s true old c =
         ⊎_elim
-        (λ g. differ (is_destroyed d x.loc) s (ap (λ (r : Reg). is_destroyed d r.loc) g ∙ ap (is_destroyed d) e ∙ open_stays d))
+        (λ g. both_ways (is_destroyed d x.loc) (ap (λ (r : Reg). is_destroyed d r.loc) g ∙ ap (is_destroyed d) e ∙ open_stays d) s)
         old (in_cons x r (killed_among cs d rs) c)
     by true s false old c = old c
     by false s t old c = old c
@@ -68,9 +69,9 @@ open_kept m formed i r one e a =
 
 addr_is : (t : Comp) → is_addr t ≡ true → t ≡ comp.Addr
 addr_is comp.Addr e = refl
-addr_is comp.Int e = absurd (differ false e refl)
-addr_is comp.Val e = absurd (differ false e refl)
-addr_is comp.Float e = absurd (differ false e refl)
+addr_is comp.Int e = absurd (both_ways false refl e)
+addr_is comp.Val e = absurd (both_ways false refl e)
+addr_is comp.Float e = absurd (both_ways false refl e)
 
 -- what holds nothing then, and is no addr, held nothing
 pub lost_nothing : (t : Bool) (a : File) (r : Reg) → ((h : Held) → a r.number ≡ Some h → h.comp ≡ r.comp) → r.comp ≢ comp.Addr →

@@ -1,8 +1,9 @@
 -- A well-formed function is so with its moves, is as well placed, and what the conventions put at fixed places stands there.
 use Rattle.std.proofs.Common.{◌≡◌, ◌≢◌, ℕ, ◌<◌, ◌≤◌, true, false, inl, List, [], ◌∷◌, length, refl, sym, ap, ◌∙◌, subst}
-use Rattle.std.proofs.lemmas.List.Elements.{Contains-get_or}
+use Rattle.std.proofs.lemmas.List.Elements.{Contains-get_or, All-contains}
 use Rattle.std.specs.List.{All, AllPairs, Contains}
 use Rattle.std.specs.Prelude.{slice_index_or}
+use Rattle.std.proofs.lemmas.Bool.{both_ways}
 use Rattle.bs_words.specs.declared.types.Loc.TheVariants as loc
 use Rattle.mach_ir.specs.Acts.{On, At}
 use Rattle.mach_ir.specs.Forms as form
@@ -13,7 +14,6 @@ use Rattle.mach_ir.specs.Placed.{WellPlaced}
 use Rattle.mach_ir.specs.Seats.{AreSeated, anywhere, places_of, mach_operand_seats, mach_result_seats, Seated}
 use Rattle.mach_ir.specs.Walks.{may_raise, IsRegister, Stands}
 use Rattle.mach_ir.specs.declared.op.Leaving.TheVariants as leaving
-use Rattle.mach_ir.specs.declared.op.Op.{Op}
 use Rattle.mach_ir.specs.declared.op.Op.TheVariants as op
 use Rattle.mach_ir.specs.declared.mach.Mark.{Mark}
 use Rattle.mach_ir.specs.declared.mach.Mark.TheVariants as mark
@@ -22,17 +22,14 @@ use Rattle.mach_ir.specs.declared.mach.MachOp.TheVariants as mach
 use Rattle.mach_ir.specs.declared.reg.Reg.{Reg}
 use Rattle.mach_ir.specs.declared.mach.Instr.{Instr}
 use Rattle.mach_ir.specs.declared.mach.Mach.{Mach}
-use Rattle.places_rules.proofs.Files.{differ}
-use Rattle.split_rules.proofs.Formed.{contains_of, stands_in, of_each}
+use Rattle.split_rules.proofs.Formed.{contains_of, stands_in}
 use Rattle.spill_rules.proofs.Formed.{one_distinct}
+use Rattle.spill_rules.proofs.Chosen.{only_on}
+use Rattle.mach_laws.proofs.Instructions.{no_op}
 use Rattle.sink_rules.specs.Sunk.{Plan, to_itself, IsPlan}
 use Rattle.sink_rules.proofs.Kept.{does_sunk}
 use Rattle.sink_rules.proofs.Live.{laid_label, laid_handler, MovedNumber, moved_number, joined_back, no_addr_back}
 use Rattle.sink_rules.proofs.Text as text
-use Rattle.sink_rules.proofs.Text.{only_on}
-
-no_mark : (f : Op) (g : Mark) → mach.Op f ≡ mach.Mark g → ⊥
-no_mark f g e = cc
 
 no_label : (l : ℕ) → At l ≡ On → ⊥
 no_label l e = cc
@@ -56,16 +53,16 @@ module _ (m : Mach) (plan : Plan) (formed : WellFormed m) (is : IsPlan m plan) w
   -- ---- a move is no mark, and goes on
 
   not_mark : {i : Instr} (r : Reg) → i ≡ to_itself r → (g : Mark) → i.op ≡ mach.Mark g → ⊥
-  not_mark r s g e = no_mark _ g (sym (ap (λ (i : Instr). i.op) s) ∙ e)
+  not_mark r s g e = no_op _ g (sym (ap (λ (i : Instr). i.op) s) ∙ e)
 
   not_leading : {i : Instr} (r : Reg) → i ≡ to_itself r → (l : ℕ) → LeadsTo i.op l → ⊥
   not_leading r s l o = no_label l (only_on (At l) (subst (λ (i : Instr). LeadsTo i.op l) s o))
 
   not_raising : {i : Instr} (r : Reg) → i ≡ to_itself r → may_raise i.op ≡ true → ⊥
-  not_raising r s b = differ false (sym (ap (λ (i : Instr). may_raise i.op) s) ∙ b) refl
+  not_raising r s b = both_ways false refl (sym (ap (λ (i : Instr). may_raise i.op) s) ∙ b)
 
   not_leaving : {i : Instr} (r : Reg) → i ≡ to_itself r → leaves i.op ≡ true → ⊥
-  not_leaving r s b = differ false (sym (ap (λ (i : Instr). leaves i.op) s) ∙ b) refl
+  not_leaving r s b = both_ways false refl (sym (ap (λ (i : Instr). leaves i.op) s) ∙ b)
 
   -- what holds of instructions of the first and of moves holds of all
   pub each_one : (P : Instr → Type 0) → ((r : Reg) → Contains plan.registers r → P (to_itself r)) → ((i : Instr) → Contains m.code i → P i) →
@@ -163,7 +160,7 @@ module _ (m : Mach) (plan : Plan) (formed : WellFormed m) (is : IsPlan m plan) w
 
   mark_back : (i : Instr) → Contains q.code i → (g : Mark) → i.op ≡ mach.Mark g → Contains m.code i
   mark_back i c g e =
-      each_one (λ (j : Instr). j.op ≡ mach.Mark g → Contains m.code j) (λ r k x. absurd (no_mark _ g x)) (λ j d x. d) i c e
+      each_one (λ (j : Instr). j.op ≡ mach.Mark g → Contains m.code j) (λ r k x. absurd (no_op _ g x)) (λ j d x. d) i c e
 
   cases : CasesAgree q
   cases =
@@ -188,9 +185,9 @@ module _ (m : Mach) (plan : Plan) (formed : WellFormed m) (is : IsPlan m plan) w
         numbers = λ r k i j e. formed.numbers r k (was r i) (was k j) e;
         params = formed.params;
         params_distinct = formed.params_distinct;
-        instrs = each_in IsFormed (λ r k. formed_op form.copies) (λ i c. of_each IsFormed m.code i formed.instrs c);
+        instrs = each_in IsFormed (λ r k. formed_op form.copies) (λ i c. All-contains IsFormed m.code i formed.instrs c);
         distinct = each_in (λ (i : Instr). AreDistinct i.results) (λ r k. one_distinct r)
-            (λ i c. of_each (λ (i : Instr). AreDistinct i.results) m.code i formed.distinct c);
+            (λ i c. All-contains (λ (i : Instr). AreDistinct i.results) m.code i formed.distinct c);
         returns = λ i c e.
             each_one (λ (j : Instr). j.op ≡ mach.Op (op.Leaving leaving.Return) → comps j.args ≡ form.results_of m.result)
             (λ r k x. absurd (no_return r x)) (λ j d x. formed.returns j d x) i c e;

@@ -2,10 +2,14 @@
 -- there, so that both hold the same all along.
 use Rattle.std.proofs.Common.{◌≡◌, ◌≢◌, ℕ, Bool, true, false, cond, inl, inr, ◌⊎◌, ⊎_elim, List, [], ◌∷◌, ◌++◌, length, Option, Some, None, refl, sym, ap, ◌∙◌, subst}
 use Rattle.std.specs.List.{Contains}
+use Rattle.std.proofs.lemmas.Bool.{both_ways}
+use Rattle.std.proofs.lemmas.Option.{none-some, same_Some}
+use Rattle.std.proofs.lemmas.List.Elements.{All-contains}
 use Rattle.bs_words.specs.Fits.{fits, type_of_comp}
 use Rattle.bs_words.specs.declared.types.Comp.TheVariants as comp
 use Rattle.bs_words.specs.declared.types.Loc.TheVariants as loc
 use Rattle.bs_words.specs.declared.values.Value.{Value}
+use Rattle.bs_words.proofs.Lists.{first_in, later_in, head_same, tail_same, none_there}
 use Rattle.mach_ir.specs.Acts.{Around, Target, On, At, Landing, AtLabel, AtHandler}
 use Rattle.mach_ir.specs.Formed.{IsFormed, WellFormed}
 use Rattle.mach_ir.specs.Runs.{Place, Continues, entered}
@@ -22,15 +26,12 @@ use Rattle.mach_laws.proofs.General as general
 use Rattle.mach_laws.proofs.General.{at}
 use Rattle.mach_laws.proofs.Leads.{IsTry, is_try, MayLand, lands_at_label, lands_at_handler}
 use Rattle.mach_laws.proofs.Level as level
-use Rattle.mach_laws.proofs.Places.{ending_next, handler_expand}
+use Rattle.mach_laws.proofs.Places.{ending_next, handler_expand, stands_of, results_in}
 use Rattle.mach_laws.proofs.Simulate.{Agrees}
-use Rattle.mach_laws.proofs.Walking.{first_in, later_in}
-use Rattle.places_rules.proofs.Files.{differ, none_some, some_same, not_cleared, among_or_not, PutsBoth, put_both}
-use Rattle.places_rules.proofs.Lists.{head_same, tail_same, none_there}
+use Rattle.mach_laws.proofs.Among.{split_among, number_among}
+use Rattle.places_rules.proofs.Files.{not_cleared, among_or_not, PutsBoth, put_both}
 use Rattle.places_rules.proofs.Raised.{IsSilent, label_silent, try_silent}
-use Rattle.places_rules.proofs.Walked.{split_among, stands_of}
-use Rattle.split_rules.proofs.Formed.{contains_of, of_each}
-use Rattle.split_rules.proofs.Text.{number_among, results_in}
+use Rattle.split_rules.proofs.Formed.{contains_of}
 use Rattle.spill_rules.proofs.Kept.{FitsIn, put_fits, put_holds, clear_fits, frame_fits}
 use Rattle.sink_rules.specs.Sunk.{Plan, to_itself, moves_of, IsPlan}
 use Rattle.sink_rules.specs.Walks as walks
@@ -41,7 +42,7 @@ use Rattle.sink_rules.proofs.Text as text
 use Rattle.sink_rules.proofs.Text.{before, laid_instr, keeps_marks, of_one}
 
 some_none : {A : Type 0} {x : A} (o : Option A) → o ≡ Some x → o ≡ None → ⊥
-some_none o e h = none_some (sym h ∙ e)
+some_none o e h = none-some _ (sym h ∙ e)
 
 module _ (m : Mach) (plan : Plan) (formed : WellFormed m) (is : IsPlan m plan) where
   abbrev q : Mach
@@ -54,7 +55,7 @@ module _ (m : Mach) (plan : Plan) (formed : WellFormed m) (is : IsPlan m plan) w
   Laid = text.Laid m plan is
 
   form_of : {i : Instr} {next : List Instr} → Ending (i ∷ next) m.code → IsFormed i
-  form_of {i} e = of_each IsFormed m.code i formed.instrs (contains_of (stands_of e))
+  form_of {i} e = All-contains IsFormed m.code i formed.instrs (contains_of (stands_of e))
 
   was : (r : Reg) → IsRegister q r → IsRegister m r
   was = text.was_register m plan is
@@ -154,8 +155,7 @@ module _ (m : Mach) (plan : Plan) (formed : WellFormed m) (is : IsPlan m plan) w
           record {
             written = λ j ys e frame k one val v none.
                 absurd
-                (differ (passes_frame j.op) frame
-                (ap (λ (i : Instr). passes_frame i.op) (sym (head_same e))));
+                (both_ways (passes_frame j.op) (ap (λ (i : Instr). passes_frame i.op) (sym (head_same e))) frame);
           }
 
       -- what a register holds where it is moved
@@ -391,7 +391,7 @@ module _ (m : Mach) (plan : Plan) (formed : WellFormed m) (is : IsPlan m plan) w
         (record {
           reached = at_entry;
           fit = λ r j.
-              put_fits limit m.params vs (λ n. None) a e r (λ k z g. formed.numbers k r (is_param z) j g) (λ h g. absurd (none_some g));
+              put_fits limit m.params vs (λ n. None) a e r (λ k z g. formed.numbers k r (is_param z) j g) (λ h g. absurd (none-some _ g));
           stale = λ r j u apart none.
               walks.at_entry
               (λ z. let h = put_holds limit m.params vs (λ n. None) a e r.number z in some_none (a r.number) h.1 none);
@@ -399,7 +399,7 @@ module _ (m : Mach) (plan : Plan) (formed : WellFormed m) (is : IsPlan m plan) w
               record {
                 agree = λ r k i j origin l w x z g h.
                     let s : r ≡ k = one_param r k i j origin x z g h in
-                    ap (λ (h : Held). h.value) (some_same (sym g ∙ ap (λ (r : Reg). a r.number) s ∙ h));
+                    ap (λ (h : Held). h.value) (same_Some _ _ (sym g ∙ ap (λ (r : Reg). a r.number) s ∙ h));
               };
         })
       where
@@ -413,8 +413,8 @@ module _ (m : Mach) (plan : Plan) (formed : WellFormed m) (is : IsPlan m plan) w
             (λ z.
             let p = number_among m.params z in
             let same = formed.numbers p.0 r (is_param p.1) i p.2 in
-            subst (λ (r : Reg). r.origin ≡ r.number) same (of_each (λ (r : Reg). r.origin ≡ r.number) m.params p.0 formed.params p.1))
-            (λ free. absurd (none_some (sym (puts.others r.number free) ∙ g))) (among_or_not r.number m.params)
+            subst (λ (r : Reg). r.origin ≡ r.number) same (All-contains (λ (r : Reg). r.origin ≡ r.number) m.params p.0 formed.params p.1))
+            (λ free. absurd (none-some _ (sym (puts.others r.number free) ∙ g))) (among_or_not r.number m.params)
 
         one_param : (r k : Reg) → IsRegister m r → IsRegister m k → r.origin ≡ k.origin → (x y : Held) → a r.number ≡ Some x →
             a k.number ≡ Some y → r ≡ k

@@ -2,6 +2,7 @@
 -- register is live there.
 use Rattle.std.proofs.Common.{◌≡◌, ℕ, true, false, List, ◌∷◌, refl, sym, ap, ◌∙◌, subst}
 use Rattle.std.specs.List.{Contains}
+use Rattle.std.proofs.lemmas.Bool.{both_ways}
 use Rattle.bs_words.specs.declared.types.Comp.TheVariants as comp
 use Rattle.mach_ir.specs.Acts.{Target, On, At}
 use Rattle.mach_ir.specs.Meaning.{after_label, from_handler, code_at, passes_frame, tries_at, tries_past, written}
@@ -10,12 +11,11 @@ use Rattle.mach_ir.specs.declared.reg.Reg.{Reg}
 use Rattle.mach_ir.specs.declared.mach.Instr.{Instr}
 use Rattle.mach_ir.specs.declared.mach.Mach.{Mach}
 use Rattle.mach_laws.specs.Expand.{expand, Ending}
-use Rattle.mach_laws.proofs.Places.{label_expand, handler_expand, ending_label, ending_from_handler}
-use Rattle.places_rules.proofs.Files.{differ}
-use Rattle.places_rules.proofs.Walked.{stands_of}
+use Rattle.mach_laws.proofs.Places.{label_expand, handler_expand, ending_label, ending_from_handler, stands_of}
+use Rattle.spill_rules.proofs.Chosen.{only_on}
 use Rattle.sink_rules.specs.Sunk.{Plan, IsPlan}
 use Rattle.sink_rules.proofs.Text as text
-use Rattle.sink_rules.proofs.Text.{laid_instr, keeps_marks, only_on, of_one}
+use Rattle.sink_rules.proofs.Text.{laid_instr, keeps_marks, of_one}
 
 module _ (m : Mach) (plan : Plan) (is : IsPlan m plan) where
   abbrev q : Mach
@@ -56,7 +56,7 @@ module _ (m : Mach) (plan : Plan) (is : IsPlan m plan) where
 
   aside_case : {n : ℕ} {rest ys : List Instr} {j : Instr} (l : ℕ) (tries : List ℕ) → Laid rest (j ∷ ys) → may_raise j.op ≡ true →
       tries_at (j ∷ ys) ≡ l ∷ tries → Onward n (from_handler l q.code) → Live m n rest
-  aside_case l tries (text.moves r e k h) b t ih = absurd (differ false b refl)
+  aside_case l tries (text.moves r e k h) b t ih = absurd (both_ways false refl b)
   aside_case l tries (text.main {i = i} e h) b t ih =
       aside (raises b (sym (ap (tries_past i.op) (text.laid_tries m plan is h)) ∙ t)) (ih (from_handler l m.code) (laid_handler l))
 
@@ -129,7 +129,7 @@ module _ (m : Mach) (plan : Plan) (is : IsPlan m plan) where
 
   raise_back : {rest ys : List Instr} {j : Instr} (l : ℕ) (tries : List ℕ) → Laid rest (j ∷ ys) → Reached m rest →
       may_raise j.op ≡ true → tries_at (j ∷ ys) ≡ l ∷ tries → WasReached (from_handler l q.code)
-  raise_back l tries (text.moves r e k h) reached b t = absurd (differ false b refl)
+  raise_back l tries (text.moves r e k h) reached b t = absurd (both_ways false refl b)
   raise_back l tries (text.main {i = i} e h) reached b t =
       record {
         rest = from_handler l m.code;
@@ -153,6 +153,6 @@ module _ (m : Mach) (plan : Plan) (is : IsPlan m plan) where
     where
       by : (j : Instr) (ys rest : List Instr) → Laid rest (j ∷ ys) → Reached m rest → passes_frame j.op ≡ true → (r : Reg) →
           IsRegister m r → r.comp ≡ comp.Addr → LiveAcross q r.number j ys → ⊥
-      by j ys rest (text.moves k e u h) reached frame r one addr v = differ false frame refl
+      by j ys rest (text.moves k e u h) reached frame r one addr v = both_ways false refl frame
       by j ys rest (text.main {next = next} e h) reached frame r one addr v =
           none.none j next reached frame r one addr (across_back j next h v)

@@ -1,6 +1,8 @@
 -- Straight runs to a call: what goes on along them, and that each code has one place where its run to a call begins.
-use Rattle.std.proofs.Common.{◌≡◌, ℕ, suc, ◌<◌, ◌≤◌, true, false, ◌⊎◌, inl, inr, ⊎_elim, List, [], ◌∷◌, ◌++◌, length, refl, sym, ap, ◌∙◌, subst, arith}
+use Rattle.std.proofs.Common.{◌≡◌, ℕ, ◌<◌, true, false, ◌⊎◌, inl, inr, ⊎_elim, List, [], ◌∷◌, ◌++◌, length, refl, sym, ap, ◌∙◌, subst, arith}
 use Rattle.std.specs.List.{All, Contains}
+use Rattle.std.proofs.lemmas.Bool.{both_ways}
+use Rattle.std.proofs.lemmas.List.Elements.{All-head, All-tail, All-contains}
 use Rattle.mach_ir.specs.Acts.{On}
 use Rattle.mach_ir.specs.Placed.{is_straight, AreStraight}
 use Rattle.mach_ir.specs.Walks.{OneOf, this, targets, goes, Reached, by_step, Writes, Leads, Live, on, Stands, here, below}
@@ -11,9 +13,8 @@ use Rattle.mach_ir.specs.declared.mach.MachOp.TheVariants as mach
 use Rattle.mach_ir.specs.declared.mach.Instr.{Instr}
 use Rattle.mach_ir.specs.declared.mach.Mach.{Mach}
 use Rattle.mach_laws.specs.Expand.{Ending, all, more}
-use Rattle.mach_laws.proofs.Walking.{first_in, later_in}
-use Rattle.places_rules.proofs.Files.{differ}
-use Rattle.places_rules.proofs.Lists.{head_same, of_all}
+use Rattle.mach_laws.proofs.Places.{ending_short}
+use Rattle.bs_words.proofs.Lists.{first_in, later_in, head_same}
 use Rattle.sink_rules.specs.Chosen.{IsRunTo}
 use Rattle.sink_rules.specs.Walks as walks
 use Rattle.sink_rules.specs.Walks.{Stale}
@@ -26,22 +27,16 @@ IsStraight i = is_straight i.op ≡ true
 straight_targets : (g : MachOp) → is_straight g ≡ true → targets g ≡ On ∷ []
 straight_targets (mach.Op (op.Pure f)) e = refl
 straight_targets (mach.Op (op.Access f)) e = refl
-straight_targets (mach.Op (op.Calling f)) e = absurd (differ false e refl)
-straight_targets (mach.Op (op.Leaving f)) e = absurd (differ false e refl)
-straight_targets (mach.Mark f) e = absurd (differ false e refl)
+straight_targets (mach.Op (op.Calling f)) e = absurd (both_ways false refl e)
+straight_targets (mach.Op (op.Leaving f)) e = absurd (both_ways false refl e)
+straight_targets (mach.Mark f) e = absurd (both_ways false refl e)
 
 straight_op : (g : MachOp) → is_straight g ≡ true → (f : Op) × (g ≡ mach.Op f)
 straight_op (mach.Op f) e = (f, refl)
-straight_op (mach.Mark f) e = absurd (differ false e refl)
+straight_op (mach.Mark f) e = absurd (both_ways false refl e)
 
 straight_leads : (m : Mach) (i : Instr) (next : List Instr) → is_straight i.op ≡ true → Leads m i next next
 straight_leads m i next e = goes On (subst (OneOf On) (sym (straight_targets i.op e)) this)
-
-all_first : (P : Instr → Type 0) (i : Instr) (is : List Instr) → All P (i ∷ is) → P i
-all_first P i is h = of_all P (i ∷ is) i h (first_in i is)
-
-all_later : (P : Instr → Type 0) (i : Instr) (is : List Instr) → All P (i ∷ is) → All P is
-all_later P i is h = λ k d lt. h (suc k) d (omega (arith, lt))
 
 -- ---- along a run
 
@@ -55,8 +50,8 @@ module _ (m : Mach) (n : ℕ) where
       (run rest : List Instr) → AreStraight run → All Unwritten run → P (run ++ rest) → P rest
   along P goes_on [] rest st w p = p
   along P goes_on (i ∷ run) rest st w p =
-      along P goes_on run rest (all_later IsStraight i run st) (all_later Unwritten i run w)
-      (goes_on i (run ++ rest) (all_first Unwritten i run w) (straight_leads m i (run ++ rest) (all_first IsStraight i run st)) p)
+      along P goes_on run rest (All-tail IsStraight i run st) (All-tail Unwritten i run w)
+      (goes_on i (run ++ rest) (All-head Unwritten i run w) (straight_leads m i (run ++ rest) (All-head IsStraight i run st)) p)
 
   module _ {from : List Instr} {call : Instr} {after : List Instr} (r : IsRunTo m n from call after) where
     to_call : (P : List Instr → Type 0) →
@@ -81,7 +76,7 @@ module _ (m : Mach) (n : ℕ) where
       by : (run : List Instr) → i ∷ next ≡ run ++ call ∷ after → AreStraight run → (f : Op) × (i.op ≡ mach.Op f)
       by [] e st = (r.operation, ap (λ (i : Instr). i.op) (head_same e) ∙ r.is_call)
       by (j ∷ run) e st =
-          let g = straight_op j.op (all_first IsStraight j run st) in (g.0, ap (λ (i : Instr). i.op) (head_same e) ∙ g.1)
+          let g = straight_op j.op (All-head IsStraight j run st) in (g.0, ap (λ (i : Instr). i.op) (head_same e) ∙ g.1)
 
 -- ---- where a run begins
 
@@ -91,19 +86,15 @@ one_ends all e = inr e
 one_ends (more d) all = inl (more d)
 one_ends (more d) (more e) = one_ends d e
 
-longer : {rest code : List Instr} → Ending rest code → length rest ≤ length code
-longer all = omega arith
-longer (more e) = let le = longer e in omega (arith, le)
-
 stands_further : {i : Instr} {next rest code : List Instr} → Ending rest code → Stands i next rest → Stands i next code
 stands_further all s = s
 stands_further (more e) s = below (stands_further e s)
 
--- an ending of a run and of what comes after, longer than that, begins the run or stands behind an instruction of it
+-- an ending of a run and of what comes after, ending_short than that, begins the run or stands behind an instruction of it
 within : (run : List Instr) (call : Instr) (after rest : List Instr) → Ending rest (run ++ call ∷ after) → length after < length rest →
     (rest ≡ run ++ call ∷ after) ⊎ ((i : Instr) × Stands i rest (run ++ call ∷ after) × Contains run i)
 within [] call after rest all lt = inl refl
-within [] call after rest (more e) lt = let le = longer e in absurd (omega (arith, lt, le))
+within [] call after rest (more e) lt = let le = ending_short e in absurd (omega (arith, lt, le))
 within (j ∷ run) call after rest all lt = inl refl
 within (j ∷ run) call after rest (more e) lt =
     ⊎_elim (λ h. inr (j, subst (λ xs. Stands j rest (j ∷ xs)) h here, first_in j run))
@@ -123,8 +114,7 @@ module _ (m : Mach) (n : ℕ) where
       ⊎_elim (λ h. h ∙ sym s.is)
       (λ h.
       absurd
-      (differ (is_straight (h.0).op) (of_all IsStraight s.run h.0 s.straight h.2)
-      (r.begins h.0 (stands_further there (subst (Stands h.0 a) (sym s.is) h.1)))))
+      (both_ways (is_straight (h.0).op) (r.begins h.0 (stands_further there (subst (Stands h.0 a) (sym s.is) h.1))) (All-contains IsStraight s.run h.0 s.straight h.2)))
       (within s.run y after a (subst (Ending a) s.is e) (past r))
 
   -- runs to what one code comes after begin at one place

@@ -8,6 +8,7 @@ use Rattle.std.proofs.lemmas.Map.Views.{Contains-from_any, list_any-from_Contain
 use Rattle.std.specs.List.{AllPairs, Contains}
 use Rattle.std.specs.Cmp.{nat_eq_equiv}
 use Rattle.std.specs.Prelude.{slice_index_or}
+use Rattle.std.proofs.lemmas.List.{length-map}
 use Rattle.mach_ir.specs.Formed.{AreDistinct}
 use Rattle.mach_ir.specs.Sizes.{operand_count, Size, HasSize, OpenAtMost}
 use Rattle.mach_ir.specs.Walks.{IsRegister, Stands, here, below}
@@ -15,10 +16,9 @@ use Rattle.mach_ir.specs.declared.reg.Reg.{Reg}
 use Rattle.mach_ir.specs.declared.mach.Instr.{Instr}
 use Rattle.mach_ir.specs.declared.mach.Mach.{Mach}
 use Rattle.mach_laws.specs.Expand.{expand, Ending, all, more}
-use Rattle.mach_laws.proofs.Places.{ending_next}
-use Rattle.mach_laws.proofs.Walking.{first_in, later_in}
-use Rattle.places_rules.proofs.Lists.{was, length_mapped}
-use Rattle.places_rules.proofs.Walked.{stands_of}
+use Rattle.mach_laws.proofs.Places.{ending_next, stands_of}
+use Rattle.places_rules.proofs.Lists.{was}
+use Rattle.bs_words.proofs.Lists.{first_in, later_in}
 use Rattle.sink_rules.specs.Sunk.{Plan, to_itself, moves_of, sunk_instr, sunk, IsPlan}
 
 -- ---- registers and their numbers
@@ -32,7 +32,7 @@ at_number (q ∷ rs) (suc k) r z lt = at_number rs k r z (omega (arith, lt))
 numbers_differ : (rs : List Reg) → AreDistinct rs → AllPairs (λ n k. n ≢ k) (map (λ (r : Reg). r.number) rs)
 numbers_differ [] h = λ i j d lt within. absurd (omega (arith, within))
 numbers_differ (r ∷ rs) h = λ i j d lt within.
-    let le : j < length (r ∷ rs) = subst (λ n. j < n) (length_mapped (λ (r : Reg). r.number) (r ∷ rs)) within in
+    let le : j < length (r ∷ rs) = subst (λ n. j < n) (length-map (r ∷ rs) (λ (r : Reg). r.number)) within in
     let under : i < length (r ∷ rs) = omega (arith, lt, le) in
     λ e.
     h i j r lt le (sym (at_number (r ∷ rs) i r d under) ∙ e ∙ at_number (r ∷ rs) j r d le)
@@ -40,7 +40,7 @@ numbers_differ (r ∷ rs) h = λ i j d lt within.
 -- registers of different numbers, all below a bound, are no more than that
 few_registers : (rs : List Reg) (bound : ℕ) → AreDistinct rs → ((r : Reg) → Contains rs r → r.number < bound) → length rs ≤ bound
 few_registers rs bound h low =
-    subst (λ n. n ≤ bound) (length_mapped (λ (r : Reg). r.number) rs)
+    subst (λ n. n ≤ bound) (length-map rs (λ (r : Reg). r.number))
     (length-le_from_distinct_below ns bound (IsDistinct-from_AllPairs Decides-eqb ns (numbers_differ rs h))
     (λ n seen.
     let w = was (λ (r : Reg). r.number) rs n (Contains-from_any eqb-true n ns seen) in
@@ -53,7 +53,7 @@ few_registers rs bound h low =
 registers_among : (rs : List Reg) (numbers : List ℕ) → AreDistinct rs → ((r : Reg) → Contains rs r → Contains numbers r.number) →
     length rs ≤ length numbers
 registers_among rs numbers h known =
-    subst (λ n. n ≤ length numbers) (length_mapped (λ (r : Reg). r.number) rs)
+    subst (λ n. n ≤ length numbers) (length-map rs (λ (r : Reg). r.number))
     (length-le_from_is_member nat_eq_equiv ns numbers (IsDistinct-from_AllPairs Decides-eqb ns (numbers_differ rs h))
     (λ n seen.
     let w = was (λ (r : Reg). r.number) rs n (Contains-from_any eqb-true n ns seen) in

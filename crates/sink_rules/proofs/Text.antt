@@ -1,10 +1,10 @@
 -- The code with its moves: they stand before operations alone, so that labels, handlers and tries stand where they did.
 use Rattle.std.proofs.Common.{◌≡◌, ℕ, Bool, true, false, cond, List, [], ◌∷◌, ◌++◌, length, ◌⊎◌, inl, inr, refl, sym, ap, ◌∙◌, subst}
 use Rattle.std.specs.List.{Contains}
-use Rattle.mach_ir.specs.Acts.{Target, On}
+use Rattle.std.proofs.lemmas.Bool.{both_ways}
 use Rattle.mach_ir.specs.Formed.{labels_in, labels_of, HasPlace, place_here, place_below, HasHandler, handler_here, handler_below}
 use Rattle.mach_ir.specs.Meaning.{has_label, is_handler_of, tries_at, tries_past}
-use Rattle.mach_ir.specs.Walks.{Among, first, later, OneOf, this, other, Stands, here, below, InCode, in_args, in_results, further, IsRegister, is_param, is_colour, is_in_code}
+use Rattle.mach_ir.specs.Walks.{Among, first, later, Stands, here, below, InCode, in_args, in_results, further, IsRegister, is_param, is_colour, is_in_code}
 use Rattle.mach_ir.specs.declared.op.Op.{Op}
 use Rattle.mach_ir.specs.declared.mach.Mark.{Mark}
 use Rattle.mach_ir.specs.declared.reg.Reg.{Reg}
@@ -13,17 +13,9 @@ use Rattle.mach_ir.specs.declared.mach.MachOp.TheVariants as mach
 use Rattle.mach_ir.specs.declared.mach.Instr.{Instr}
 use Rattle.mach_ir.specs.declared.mach.Mach.{Mach}
 use Rattle.mach_laws.specs.Expand.{expand, Ending, all, KeepsMarks, NoLabel, no_label, not_labelled, NoHandler, no_handler, not_handled, bounds_try, NoBound, no_bound, not_bound}
-use Rattle.mach_laws.proofs.Places.{ending_next}
-use Rattle.mach_laws.proofs.Walking.{none_in, first_in, later_in, in_cons}
-use Rattle.places_rules.proofs.Files.{differ}
-use Rattle.places_rules.proofs.Walked.{stands_of}
-use Rattle.split_rules.proofs.Text.{args_in, results_in}
+use Rattle.mach_laws.proofs.Places.{ending_next, stands_of, args_in, results_in}
+use Rattle.bs_words.proofs.Lists.{none_in, first_in, later_in, in_cons}
 use Rattle.sink_rules.specs.Sunk.{Plan, to_itself, moves_of, sunk_instr, sunk, IsPlan}
-
--- a move goes on
-pub only_on : (t : Target) → OneOf t (On ∷ []) → t ≡ On
-only_on t this = refl
-only_on t (other o) = elim o [ ]
 
 pub of_one : {r : Reg} {n : ℕ} → Among n (r ∷ []) → r.number ≡ n
 of_one (first e) = e
@@ -81,7 +73,7 @@ module _ (plan : Plan) where
 
   -- nothing stands before what no operation is
   alone : (F : MachOp → Bool) → ((f : Op) → F (mach.Op f) ≡ false) → (k : ℕ) (g : MachOp) → F g ≡ true → before plan k g ≡ []
-  alone F none k (mach.Op f) e = absurd (differ (F (mach.Op f)) e (none f))
+  alone F none k (mach.Op f) e = absurd (both_ways (F (mach.Op f)) (none f) e)
   alone F none k (mach.Mark f) e = refl
 
   stands_alone : (F : MachOp → Bool) → ((f : Op) → F (mach.Op f) ≡ false) → (k : ℕ) (i : Instr) → F i.op ≡ true →

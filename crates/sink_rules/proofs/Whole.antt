@@ -1,5 +1,6 @@
 -- The code grows by at most a copy for each register that is moved; and what a function with moves keeps, whole.
-use Rattle.std.proofs.Common.{◌≡◌, ℕ, suc, ◌+◌, ◌*◌, ◌≤◌, Bool, true, false, cond, List, [], ◌∷◌, length, refl, sym, ap, ◌∙◌, subst, arith}
+use Rattle.std.proofs.Common.{◌≡◌, ℕ, ◌+◌, ◌*◌, ◌≤◌, cond, List, [], ◌∷◌, length, refl, sym, ap, ◌∙◌, subst, arith}
+use Rattle.std.proofs.lemmas.List.Elements.{All-contains}
 use Rattle.mach_ir.specs.Formed.{is_exit, WellFormed}
 use Rattle.mach_ir.specs.Meaning.{passes_frame, tries_at, tries_past}
 use Rattle.mach_ir.specs.Sizes.{HasSize}
@@ -8,21 +9,14 @@ use Rattle.mach_ir.specs.declared.reg.Reg.{Reg}
 use Rattle.mach_ir.specs.declared.mach.Instr.{Instr}
 use Rattle.mach_ir.specs.declared.mach.Mach.{Mach}
 use Rattle.linear_rules.specs.Lowered.{same_spot}
-use Rattle.split_rules.proofs.Formed.{of_each}
 use Rattle.pass_rules.specs.Carried.{OffsetFits, TriesAtMost, EndsInReturn, at_return, further, IsCarried}
 use Rattle.pass_rules.specs.Measures.{copy_words, instr_words, code_words, one_if, code_points, exits, operands_with, other_operands}
+use Rattle.pass_rules.proofs.Carried.{exit_one}
+use Rattle.pass_rules.proofs.Words.{at_most_copy}
 use Rattle.sink_rules.specs.Sunk.{Plan, to_itself, sunk, IsPlan, IsKept}
 use Rattle.sink_rules.proofs.Formed.{each_in, tries_so, main_tries, still_formed, still_placed, still_seated, still_keeps}
 use Rattle.sink_rules.proofs.Sizes.{sum_within, with_moves, sunk_size, few, few_open}
 use Rattle.sink_rules.proofs.Text as text
-
-exit_one : (b : Bool) (n : ℕ) → cond b (suc n) n ≡ cond b 1 0 + n
-exit_one true n = omega arith
-exit_one false n = omega arith
-
-few_words : (b : Bool) → cond b 0 copy_words ≤ copy_words
-few_words true = omega arith
-few_words false = omega arith
 
 module _ (m : Mach) (plan : Plan) (formed : WellFormed m) (is : IsPlan m plan) where
   abbrev q : Mach
@@ -63,7 +57,7 @@ module _ (m : Mach) (plan : Plan) (formed : WellFormed m) (is : IsPlan m plan) w
   carried =
       record {
         words = grows code_words instr_words copy_words refl (λ i is. refl)
-            (λ r. few_words (same_spot (r ∷ []) (r ∷ [])));
+            (λ r. at_most_copy (same_spot (r ∷ []) (r ∷ [])));
         points = stays code_points (λ (i : Instr). one_if (passes_frame i.op)) refl (λ i is. refl) (λ r. omega arith);
         operands = stays other_operands (λ (i : Instr). operands_with i.op i.args i.results) refl (λ i is. refl) (λ r. omega arith);
         exits = stays exits (λ (i : Instr). cond (is_exit i.op) 1 0) refl (λ (i : Instr) is. exit_one (is_exit i.op) (exits is))
@@ -71,7 +65,7 @@ module _ (m : Mach) (plan : Plan) (formed : WellFormed m) (is : IsPlan m plan) w
         tries = λ most known i zs s. few_tries most known i zs (text.whence m plan is s);
         offsets = λ fit.
             each_in m plan formed is (λ (i : Instr). OffsetFits i.op) (λ r k. tt)
-            (λ i c. of_each (λ (i : Instr). OffsetFits i.op) m.code i fit c);
+            (λ i c. All-contains (λ (i : Instr). OffsetFits i.op) m.code i fit c);
         ends = still_ends (text.whole_laid m plan is);
         colours_low = λ low r k c i e. low r k c (was k i) e;
       }

@@ -3,6 +3,7 @@ use Rattle.std.proofs.Common.{◌≡◌, ℕ, suc, ◌+◌, ◌-◌, ◌≤◌, 
 use Rattle.std.proofs.lemmas.Bool.{cases_Bool, eq-eqb, eqb-true}
 use Rattle.std.specs.List.{Contains}
 use Rattle.std.specs.Prelude.{nat_eq}
+use Rattle.std.proofs.lemmas.List.Elements.{All-contains}
 use Rattle.bs_bits.specs.Set.{has}
 use Rattle.dataflow.specs.Rows.{row}
 use Rattle.mach_ir.specs.Formed.{IsFormed, WellFormed}
@@ -13,15 +14,16 @@ use Rattle.mach_ir.specs.declared.mach.Instr.{Instr}
 use Rattle.mach_ir.specs.declared.mach.Mach.{Mach}
 use Rattle.mach_laws.specs.Expand.{expand}
 use Rattle.mach_laws.specs.Graph.{place_of, numbers, next_places}
-use Rattle.mach_laws.proofs.Walking.{none_in, first_in, later_in, in_cons, place_is}
-use Rattle.places_rules.proofs.Walked.{left_among}
-use Rattle.split_rules.proofs.Formed.{contains_of, of_each}
-use Rattle.split_rules.proofs.Text.{number_in, args_in}
+use Rattle.mach_laws.proofs.Walking.{place_is}
+use Rattle.mach_laws.proofs.Places.{ending_short, ending_of, args_in}
+use Rattle.mach_laws.proofs.Among.{left_among, among_of}
+use Rattle.split_rules.proofs.Formed.{contains_of}
 use Rattle.split_rules.specs.Writes.{Comes, from_entry, from_write, past, past_raise}
 use Rattle.spill_rules.specs.Chosen.{IsReloaded, ReloadsAt, StoresAt, IsChosen, IsSpilled}
 use Rattle.spill_rules.specs.Spilled.{Plan, reload, spill, reloads_of, spills_of, operands_of, spilled_instr}
-use Rattle.spill_rules.proofs.Chosen.{ending_of, goes_on, not_whole, short}
+use Rattle.spill_rules.proofs.Chosen.{goes_on, not_whole}
 use Rattle.spill_rules.proofs.Text.{all_operands, all_results}
+use Rattle.bs_words.proofs.Lists.{none_in, first_in, later_in, in_cons}
 use Rattle.spill.specs.Copies as made
 use Rattle.spill.specs.Copies.{is_reloaded, reloads_at, spills_at, instr_at}
 use Rattle.spill.specs.Graphs.{reloaded_among}
@@ -267,7 +269,7 @@ module _ (m : Mach) (t : Tables) (are : AreTables m t) (formed : WellFormed m) w
     p = place_of m (i ∷ next)
 
     form : IsFormed i
-    form = of_each IsFormed m.code i formed.instrs (contains_of s)
+    form = All-contains IsFormed m.code i formed.instrs (contains_of s)
 
     reload_same : (r : Reg) → Contains i.args r → is_reloaded t p r ≡ plan.reloads (length next) r.number
     reload_same r c =
@@ -280,7 +282,7 @@ module _ (m : Mach) (t : Tables) (are : AreTables m t) (formed : WellFormed m) w
         ∙ sym (at_is (reloads_here r.number) m.code s)
 
     after_is : place_of m next ≡ suc p
-    after_is = let le = short (ending_of s) in minus (length m.code) (length next) le
+    after_is = let le = ending_short (ending_of s) in minus (length m.code) (length next) le
       where
         minus : (a b : ℕ) → suc b ≤ a → a - b ≡ suc (a - suc b)
         minus a b le = omega (arith, le)
@@ -291,7 +293,7 @@ module _ (m : Mach) (t : Tables) (are : AreTables m t) (formed : WellFormed m) w
         let on : next_places m (i ∷ next) ≡ place_of m next ∷ [] =
         ap (λ ts. map (λ t. place_of m (code_at m.code next t)) ts) (goes_on r form c) in
         let one : is_in n (numbers (written m i)) ≡ true =
-        contains_in n (numbers (written m i)) (in_numbers (left_among i.results (killed m i) (number_in r i.results c))) in
+        contains_in n (numbers (written m i)) (in_numbers (left_among i.results (killed m i) (among_of r i.results c))) in
         ap (λ q. has (row wanted q) n) (sym after_is) ∙ sym (last (has (row wanted (place_of m next)) n))
         ∙ ap (λ qs. some_has wanted n qs) (sym on)
         ∙ ap (λ b. b && some_has wanted n (next_places m (i ∷ next))) (sym one) ∙ sym (at_is (spills_here n) m.code s)

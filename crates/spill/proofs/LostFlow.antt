@@ -3,6 +3,7 @@ use Rattle.std.proofs.Common.{◌≡◌, ℕ, zero, suc, ◌<◌, ◌≤◌, Boo
 use Rattle.std.specs.List.{All, Contains}
 use Rattle.std.specs.Prelude.{slice_index_or}
 use Rattle.bs_words.specs.Contents.{contents}
+use Rattle.bs_words.proofs.Lists.{none_in}
 use Rattle.dataflow.specs.Flow.{Graph, graph, IsPlace}
 use Rattle.dataflow.specs.Flow as flows
 use Rattle.dataflow.specs.Reach.{ComesIn, ComesTo, IsReaching}
@@ -17,12 +18,10 @@ use Rattle.mach_ir.specs.declared.mach.Instr.{Instr}
 use Rattle.mach_ir.specs.declared.mach.Mach.{Mach}
 use Rattle.mach_laws.specs.Expand.{Ending}
 use Rattle.mach_laws.specs.Graph.{place_of, numbers, next_places, numbers_read, numbers_written, IsFlowOf}
-use Rattle.mach_laws.proofs.Places.{ending_next}
-use Rattle.mach_laws.proofs.Walking.{none_in, place_is}
-use Rattle.places_rules.proofs.Walked.{stands_of}
+use Rattle.mach_laws.proofs.Places.{ending_next, stands_of, ending_of}
+use Rattle.mach_laws.proofs.Walking.{place_is}
 use Rattle.liveness.proofs.Bounds.{no_items, split_in}
 use Rattle.spill_rules.specs.Chosen.{lives, Lost, over, still}
-use Rattle.spill_rules.proofs.Chosen.{ending_of}
 use Rattle.spill.specs.Graphs.{IsMadeBefore, IsLostNode, AreLostNodes, at_end, before}
 use Rattle.spill.specs.Tables.{AreLost}
 use Rattle.spill.proofs.Making.{left_in, right_in}

@@ -5,6 +5,7 @@ use Rattle.bs_bits.specs.Set.{has}
 use Rattle.bs_words.specs.Contents.{contents}
 use Rattle.bs_words.specs.declared.types.Loc.{Loc}
 use Rattle.bs_words.specs.declared.types.Loc.TheVariants as loc
+use Rattle.bs_words.proofs.Lists.{none_in, first_in, later_in, in_cons}
 use Rattle.dataflow.specs.Flow.{Graph, graph, ReadsIn, LiveBefore}
 use Rattle.dataflow.specs.Flow as flows
 use Rattle.dataflow.specs.Live.{IsLiveness}
@@ -17,14 +18,13 @@ use Rattle.mach_ir.specs.declared.mach.Instr.{Instr}
 use Rattle.mach_ir.specs.declared.mach.Mach.{Mach}
 use Rattle.mach_laws.specs.Expand.{Ending}
 use Rattle.mach_laws.specs.Graph.{place_of, numbers, next_places, raise_places, numbers_read, numbers_written, IsFlowOf}
-use Rattle.mach_laws.proofs.Walking.{none_in, first_in, later_in, in_cons, place_is}
-use Rattle.places_rules.proofs.Walked.{stands_of}
+use Rattle.mach_laws.proofs.Walking.{place_is}
+use Rattle.mach_laws.proofs.Places.{stands_of, ending_of}
+use Rattle.mach_laws.proofs.Among.{among_of}
 use Rattle.liveness.specs.Nodes.{Uses, AreNodes}
 use Rattle.liveness.proofs.Bounds.{no_items}
 use Rattle.liveness.proofs.Graph.{count_is, part_is, nodes_within}
-use Rattle.split_rules.proofs.Text.{number_in}
 use Rattle.spill_rules.specs.Chosen.{Lost, IsReloaded}
-use Rattle.spill_rules.proofs.Chosen.{ending_of}
 use Rattle.spill.specs.Graphs.{reloaded_among, reloaded_before, wanted_uses}
 use Rattle.spill.specs.Tables.{is_open, Wanted, here, on, aside, AreLost, AreWanted}
 use Rattle.spill.proofs.Steps.{member, each, among_of, in_numbers, place_within, ending_place, Steps, steps_of, steps_to, Raised, raised_of, raises_to, leads_ending, raise_ending, reads_small, writes_small}
@@ -216,7 +216,7 @@ module _ (m : Mach) (lost : List (List Bool)) (are : AreLost m lost) (old : flow
       (λ n c.
       let x = in_reloaded lost (place_of m (i ∷ next)) n i.args c in
       member (λ n. n < old.bound) (numbers i.args) n h
-      (subst (Contains (numbers i.args)) x.number (in_numbers (number_in x.register i.args x.operand))))
+      (subst (Contains (numbers i.args)) x.number (in_numbers (among_of x.register i.args x.operand))))
 
   pub wanted_formed : flows.WellFormed f
   wanted_formed =

@@ -2,8 +2,11 @@
 use Rattle.std.proofs.Common.{◌≡◌, ◌↔◌, ℕ, suc, ◌+◌, ◌*◌, ◌-◌, ◌<◌, ◌≤◌, Bool, true, false, cond, ◌⊎◌, inl, inr, ⊎_elim, List, [], ◌∷◌, ◌++◌, drop, length, refl, sym, ap, ◌∙◌, subst, arith}
 use Rattle.std.proofs.lemmas.Bool.{cases_Bool}
 use Rattle.std.specs.List.{Contains}
+use Rattle.std.proofs.lemmas.List.Elements.{All-contains, Contains-append_left}
+use Rattle.std.proofs.Math.Nat.{le_antisymm}
 use Rattle.bs_words.specs.declared.types.Comp.{Comp}
 use Rattle.bs_words.specs.declared.types.Loc.TheVariants as loc
+use Rattle.bs_words.proofs.Lists.{none_in, first_in, later_in, mapped, head_same}
 use Rattle.mach_ir.specs.Acts.{Target, On}
 use Rattle.mach_ir.specs.Formed.{comps, MarkHasForm, exit_form, if_form, else_form, switch_form, case_form, catch_form, with_form, try_form, leave_form, handler_form, end_form, IsFormed, formed_op, formed_mark, WellFormed}
 use Rattle.mach_ir.specs.Forms as forms
@@ -19,14 +22,14 @@ use Rattle.mach_ir.specs.declared.mach.Mark.{Mark}
 use Rattle.mach_ir.specs.declared.mach.MachOp.TheVariants as mach
 use Rattle.mach_ir.specs.declared.mach.Instr.{Instr}
 use Rattle.mach_ir.specs.declared.mach.Mach.{Mach}
-use Rattle.mach_laws.specs.Expand.{expand, Ending, all, more}
-use Rattle.mach_laws.proofs.Places.{ending_next}
-use Rattle.mach_laws.proofs.Walking.{none_in, first_in, later_in, in_cons, drop_ending}
+use Rattle.mach_laws.specs.Expand.{expand, Ending}
+use Rattle.mach_laws.proofs.Places.{ending_next, ending_short, ending_of, args_in}
+use Rattle.mach_laws.proofs.Walking.{drop_ending}
+use Rattle.mach_laws.proofs.Among.{number_among, among_of}
 use Rattle.places_rules.proofs.Open.{machine_open}
-use Rattle.places_rules.proofs.Lists.{was, mapped, head_same}
-use Rattle.split_rules.proofs.Formed.{contains_of, of_each}
+use Rattle.places_rules.proofs.Lists.{was}
+use Rattle.split_rules.proofs.Formed.{contains_of}
 use Rattle.split_rules.proofs.Result.{comes_write}
-use Rattle.split_rules.proofs.Text.{number_among, number_in, args_in}
 use Rattle.split_rules.specs.Writes.{Comes, from_entry, from_write, past, past_raise, IsWrite, by_entry, by_instr}
 use Rattle.spill_rules.specs.Chosen.{LivesOver, Lost, over, still, IsReloaded, IsChosen, IsSpilled, ParamsPlaced, IsNeededSlot, IsChosenKept}
 use Rattle.spill_rules.specs.Spilled.{Plan, copied, reload, spill, reloads_of, spills_of, has_operands, has_results, operands_of, results_of, spilled_instr, spilled, IsPlan, IsKept}
@@ -37,14 +40,6 @@ use Rattle.spill_rules.proofs.Whole.{spilled_keeps, spilled_size, few_reloads, f
 
 -- ---- places of a code
 
-pub ending_of : {i : Instr} {next code : List Instr} → Stands i next code → Ending (i ∷ next) code
-ending_of here = all
-ending_of (below s) = more (ending_of s)
-
-pub short : {rest code : List Instr} → Ending rest code → length rest ≤ length code
-short all = omega arith
-short (more e) = let le = short e in omega (arith, le)
-
 -- what a code ends with is told by how long it is
 pub same_rest : {a b code : List Instr} → Ending a code → Ending b code → length a ≡ length b → a ≡ b
 same_rest {code = code} e h len = sym (drop_ending e) ∙ ap (λ k. drop (length code - k) code) len ∙ drop_ending h
@@ -54,7 +49,7 @@ pub same_instr : {i j : Instr} {next rest code : List Instr} → Stands i next c
 same_instr s t len = same_rest (ending_of s) (ending_of t) (ap suc len)
 
 pub not_whole : {i : Instr} {next code : List Instr} → Stands i next code → length next ≡ length code → ⊥
-not_whole s e = let le = short (ending_of s) in omega (arith, le, e)
+not_whole s e = let le = ending_short (ending_of s) in omega (arith, le, e)
 
 -- ---- what has results goes on
 
@@ -99,7 +94,7 @@ goes_on r (formed_op {f = f} {args = args} {results = results} h) c =
 goes_on r (formed_mark {f = f} {args = args} {results = results} h) c =
     mark_on f (comps args) (comps results) h (λ e. no_result results r e c)
 
-only_on : (t : Target) → OneOf t (On ∷ []) → t ≡ On
+pub only_on : (t : Target) → OneOf t (On ∷ []) → t ≡ On
 only_on t this = refl
 only_on t (other o) = elim o [ ]
 
@@ -164,7 +159,7 @@ module _ (m : Mach) (plan : Plan) (formed : WellFormed m) (params : ParamsPlaced
       let same : j ∷ after ≡ i ∷ next = same_instr t s (ap length e) in
       let to_on : x ≡ On =
       only_on x
-      (subst (OneOf x) (ap (λ (i : Instr). targets i.op) (head_same same) ∙ goes_on r (of_each IsFormed m.code i formed.instrs (contains_of s)) c) o) in
+      (subst (OneOf x) (ap (λ (i : Instr). targets i.op) (head_same same) ∙ goes_on r (All-contains IsFormed m.code i formed.instrs (contains_of s)) c) o) in
       turned x to_on v
     where
       turned : (x : Target) → x ≡ On → Live m r.number (code_at m.code after x) → Live m r.number next
@@ -179,7 +174,7 @@ module _ (m : Mach) (plan : Plan) (formed : WellFormed m) (params : ParamsPlaced
       let h = b.reloaded in
       live_next r s c (same_rest (ending_next (ending_of b.stands)) (ending_next (ending_of s)) a.len)
       (began m r.number b.comes
-      (read (subst (λ n. Among n (b.reader).args) h.number (number_in h.register (b.reader).args h.operand))))
+      (read (subst (λ n. Among n (b.reader).args) h.number (among_of h.register (b.reader).args h.operand))))
 
   minus : (a b : ℕ) → a + b - a ≡ b
   minus a b = omega arith
@@ -318,20 +313,17 @@ module _ (p q : Plan) where
       spilled p m ≡ spilled q m
   spilled_alike m h = ap (λ xs. record m { code = xs }) (code_same m.code h)
 
-same_answer : {P : Type 0} (a b : Bool) → (a ≡ true) ↔ P → (b ≡ true) ↔ P → a ≡ b
+pub same_answer : {P : Type 0} (a b : Bool) → (a ≡ true) ↔ P → (b ≡ true) ↔ P → a ≡ b
 same_answer true true x y = refl
 same_answer true false x y = sym (y.1 (x.0 refl))
 same_answer false true x y = x.1 (y.0 refl)
 same_answer false false x y = refl
 
-same_least : (a b : ℕ) → a ≤ b → b ≤ a → a ≡ b
-same_least a b x y = omega (arith, x, y)
-
 pub one_spilled : (m q k : Mach) → IsSpilled m q → IsSpilled m k → q ≡ k
 one_spilled m q k s t =
     let a = s.chosen in
     let b = t.chosen in
-    let free : a.free ≡ b.free = same_least a.free b.free (a.least b.free b.above) (b.least a.free a.above) in
+    let free : a.free ≡ b.free = le_antisymm (a.least b.free b.above) (b.least a.free a.above) in
     let slot = λ (n : ℕ). a.slots n ∙ ap (λ f. f + n) free ∙ sym (b.slots n) in
     s.is
     ∙ spilled_alike s.plan t.plan m
@@ -351,12 +343,6 @@ one_spilled m q k s t =
 
 -- ---- parameters
 
-left_of : {A : Type 0} (xs ys : List A) (y : A) → Contains xs y → Contains (xs ++ ys) y
-left_of [] ys y c = absurd (none_in y c)
-left_of (x ∷ xs) ys y c =
-    ⊎_elim (λ e. subst (Contains (x ∷ (xs ++ ys))) e (first_in x (xs ++ ys))) (λ d. later_in x y (xs ++ ys) (left_of xs ys y d))
-    (in_cons x y xs c)
-
 -- a0 to a7 and s2 to s9
 abbrev argument_numbers : List ℕ
 argument_numbers = 10 ∷ 11 ∷ 12 ∷ 13 ∷ 14 ∷ 15 ∷ 16 ∷ 17 ∷ 18 ∷ 19 ∷ 20 ∷ 21 ∷ 22 ∷ 23 ∷ 24 ∷ 25 ∷ []
@@ -367,5 +353,5 @@ seated_params m s = record { placed = λ r c e. by r c e s.params }
     by : (r : Reg) → Contains m.params r → r.loc ≡ loc.Unset → AreSeated (InOrder argument_places) (places_of m.params) → ⊥
     by r c e (in_order others h) =
         let l = mapped (λ (r : Reg). r.loc) m.params r c in
-        let w = was loc.Machine argument_numbers r.loc (subst (λ ls. Contains ls r.loc) h (left_of (places_of m.params) others r.loc l)) in
+        let w = was loc.Machine argument_numbers r.loc (subst (λ ls. Contains ls r.loc) h (Contains-append_left (places_of m.params) others r.loc l)) in
         machine_open (sym w.same) e

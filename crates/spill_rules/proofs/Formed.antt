@@ -2,7 +2,8 @@
 use Rattle.std.proofs.Common.{◌≡◌, ◌≢◌, ℕ, ◌<◌, ◌≤◌, Bool, true, false, cond, ◌⊎◌, inl, inr, ⊎_elim, List, [], ◌∷◌, ◌++◌, length, refl, sym, ap, ◌∙◌, subst, arith, append_assoc}
 use Rattle.std.specs.List.{All, AllPairs, Contains}
 use Rattle.std.specs.Prelude.{slice_index_or}
-use Rattle.std.proofs.lemmas.List.Elements.{Contains-get_or}
+use Rattle.std.proofs.lemmas.List.Elements.{Contains-get_or, All-contains}
+use Rattle.std.proofs.lemmas.Bool.{both_ways}
 use Rattle.mach_ir.specs.Acts.{On, At}
 use Rattle.mach_ir.specs.Forms as form
 use Rattle.mach_ir.specs.Formed.{IsFormed, formed_op, AreDistinct, labels_of, labels_in, HasPlace, place_here, place_below, HasHandler, handler_here, handler_below, LeadsTo, LabelsStand, tries_left, leaves, IsNested, CasesAgree, WellFormed}
@@ -21,9 +22,8 @@ use Rattle.mach_ir.specs.declared.mach.Instr.{Instr}
 use Rattle.mach_ir.specs.declared.mach.Mach.{Mach}
 use Rattle.mach_laws.specs.Expand.{expand}
 use Rattle.mach_laws.proofs.Places.{label_expand, handler_expand, tries_expand}
-use Rattle.mach_laws.proofs.Walking.{none_in, first_in, later_in, in_cons}
-use Rattle.places_rules.proofs.Files.{differ}
-use Rattle.split_rules.proofs.Formed.{contains_of, stands_in, of_each}
+use Rattle.split_rules.proofs.Formed.{contains_of, stands_in}
+use Rattle.bs_words.proofs.Lists.{none_in, first_in, later_in, in_cons}
 use Rattle.spill_rules.specs.Spilled.{Plan, in_slot, copied, reload, spill, reloads_of, spills_of, operands_of, results_of, spilled_instr, spilled, IsPlan}
 use Rattle.spill_rules.proofs.Kept.{Which, own, slotted, was_register, slots_apart}
 use Rattle.spill_rules.proofs.Text.{keeps_marks}
@@ -270,10 +270,10 @@ module _ (m : Mach) (plan : Plan) (formed : WellFormed m) (placed : WellPlaced m
           let h = copies_what plan c in op_mark h.0 h.1 h.2 k (sym (ap (λ (i : Instr). i.op) h.3) ∙ e)
 
       no_raise : (i : Instr) → may_raise i.op ≡ true → IsCopy plan i → ⊥
-      no_raise i r c = differ false (ap (λ (i : Instr). may_raise i.op) (sym (copies_what plan c).3) ∙ r) refl
+      no_raise i r c = both_ways false refl (ap (λ (i : Instr). may_raise i.op) (sym (copies_what plan c).3) ∙ r)
 
       no_leaving : (i : Instr) → leaves i.op ≡ true → IsCopy plan i → ⊥
-      no_leaving i r c = differ false (ap (λ (i : Instr). leaves i.op) (sym (copies_what plan c).3) ∙ r) refl
+      no_leaving i r c = both_ways false refl (ap (λ (i : Instr). leaves i.op) (sym (copies_what plan c).3) ∙ r)
 
   -- ---- what is in the code
 
@@ -348,9 +348,9 @@ module _ (m : Mach) (plan : Plan) (formed : WellFormed m) (placed : WellPlaced m
         numbers = number_is;
         params = formed.params;
         params_distinct = formed.params_distinct;
-        instrs = each_in IsFormed copy_formed (λ i c. of_each IsFormed m.code i formed.instrs c);
+        instrs = each_in IsFormed copy_formed (λ i c. All-contains IsFormed m.code i formed.instrs c);
         distinct = each_in (λ (i : Instr). AreDistinct i.results) (λ kind from to. one_distinct to)
-            (λ i c. of_each (λ (i : Instr). AreDistinct i.results) m.code i formed.distinct c);
+            (λ i c. All-contains (λ (i : Instr). AreDistinct i.results) m.code i formed.distinct c);
         returns = λ i c e.
             formed.returns i
             (named_in m plan formed placed is (λ h. h ≡ mach.Op (op.Leaving leaving.Return)) (λ kind from to h. no_return kind from to h)

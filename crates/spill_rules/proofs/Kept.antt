@@ -1,12 +1,15 @@
 -- A function with spills and reloads does what it did: registers that are live hold what they held, and so do their slots where
 -- each write that comes there was stored.
 use Rattle.std.proofs.Common.{◌≡◌, ℕ, Bool, true, false, cond, inl, inr, ◌⊎◌, ⊎_elim, List, [], ◌∷◌, ◌++◌, length, Option, Some, None, refl, sym, ap, ◌∙◌, subst}
-use Rattle.std.proofs.lemmas.Bool.{cases_Bool, eq-eqb, eqb-true}
+use Rattle.std.proofs.lemmas.Bool.{cases_Bool, eq-eqb, eqb-true, both_ways}
 use Rattle.std.specs.List.{Contains}
 use Rattle.std.specs.Prelude.{nat_eq}
+use Rattle.std.proofs.lemmas.Option.{none-some, same_Some}
+use Rattle.std.proofs.lemmas.List.Elements.{All-contains}
 use Rattle.bs_words.specs.Fits.{fits, type_of_comp}
 use Rattle.bs_words.specs.declared.types.Loc.TheVariants as loc
 use Rattle.bs_words.specs.declared.values.Value.{Value}
+use Rattle.bs_words.proofs.Lists.{none_in, first_in, later_in, in_cons, head_same, tail_same}
 use Rattle.mach_ir.specs.Acts.{Around, Target, On, At, Landing, AtLabel, AtHandler, Act, Goes, Pushes, Jumps, Unwinds, Asks, Replaces, Ends, EndsRaising, Stuck}
 use Rattle.mach_ir.specs.Formed.{IsFormed, WellFormed}
 use Rattle.mach_ir.specs.Placed.{WellPlaced}
@@ -25,17 +28,15 @@ use Rattle.mach_laws.proofs.General as general
 use Rattle.mach_laws.proofs.General.{at}
 use Rattle.mach_laws.proofs.Leads.{IsTry, is_try, MayLand, lands_at_label, lands_at_handler, Within, goes_in, pushes_in, jumps_in, unwinds_in, asks_in, within}
 use Rattle.mach_laws.proofs.Level as level
-use Rattle.mach_laws.proofs.Places.{ending_next, ending_label, ending_land, ending_from_handler, label_expand, handler_expand}
+use Rattle.mach_laws.proofs.Places.{ending_next, ending_label, ending_land, ending_from_handler, label_expand, handler_expand, stands_of, args_in, results_in}
 use Rattle.mach_laws.proofs.Simulate.{Agrees}
-use Rattle.mach_laws.proofs.Walking.{none_in, first_in, later_in, in_cons}
-use Rattle.places_rules.proofs.Lists.{head_same, tail_same}
-use Rattle.places_rules.proofs.Files.{differ, none_some, some_same, values_same, past_same, cleared, not_cleared, among_or_not, put_here, put_other, PutsBoth, put_both}
-use Rattle.places_rules.proofs.Walked.{left_among, right_among, split_among, stands_of}
+use Rattle.mach_laws.proofs.Among.{left_among, right_among, split_among, number_among, among_of}
+use Rattle.mach_laws.proofs.Files.{put_other}
+use Rattle.places_rules.proofs.Files.{values_same, past_same, cleared, not_cleared, among_or_not, put_here, PutsBoth, put_both}
 use Rattle.places_rules.proofs.Raised.{IsRaised, Told, told_jump, told_unwind, told_ask, IsSilent, told, label_silent, try_silent}
 use Rattle.split_rules.specs.Writes.{from_entry, past, past_raise}
 use Rattle.liveness.proofs.Bounds.{killed_is_colour}
-use Rattle.split_rules.proofs.Formed.{contains_of, of_each}
-use Rattle.split_rules.proofs.Text.{number_among, number_in, args_in, results_in}
+use Rattle.split_rules.proofs.Formed.{contains_of}
 use Rattle.spill_rules.specs.Spilled.{Plan, in_slot, copied, reload, spill, reloads_of, spills_of, operands_of, results_of, spilled_instr, spilled, IsPlan}
 use Rattle.spill_rules.proofs.Live.{IsStored, WasLive, itself, stored, Stage, Reading, Storing, Laid, main, laid_results, laid_operands, laid_of, is_result, Says, NotThere, stored_unwritten, laid_tries, live_back, live_before, WasAcross, itself_across, stored_across, across_back}
 use Rattle.spill_rules.proofs.Text.{keeps_marks, all_results, operand_in}
@@ -50,8 +51,8 @@ values_held a (r ∷ rs) vs e n z =
   where
     by : (o : Option Held) → a r.number ≡ o → (p : Option (List Value)) → values a rs ≡ p → with_held o p ≡ Some vs → Among n (r ∷ rs) →
         ((us : List Value) → values a rs ≡ Some us → Among n rs → (h : Held) × (a n ≡ Some h)) → (h : Held) × (a n ≡ Some h)
-    by None s p t e z again = absurd (none_some e)
-    by (Some h) s None t e z again = absurd (none_some e)
+    by None s p t e z again = absurd (none-some _ e)
+    by (Some h) s None t e z again = absurd (none-some _ e)
     by (Some h) s (Some us) t e (first x) again = (h, ap a (sym x) ∙ s)
     by (Some h) s (Some us) t e (later x) again = again us t x
 
@@ -73,9 +74,9 @@ module _ (end : ℕ) where
 
   pub put_fits : (rs : List Reg) (vs : List Value) (f d : File) → put_all end rs vs f ≡ Some d → (r : Reg) →
       ((q : Reg) → Contains rs q → q.number ≡ r.number → q ≡ r) → FitsIn r (f r.number) → FitsIn r (d r.number)
-  put_fits [] [] f d e r one h = subst (λ (x : File). FitsIn r (x r.number)) (some_same e) h
-  put_fits [] (v ∷ vs) f d e r one h = absurd (none_some e)
-  put_fits (q ∷ rs) [] f d e r one h = absurd (none_some e)
+  put_fits [] [] f d e r one h = subst (λ (x : File). FitsIn r (x r.number)) (same_Some _ _ e) h
+  put_fits [] (v ∷ vs) f d e r one h = absurd (none-some _ e)
+  put_fits (q ∷ rs) [] f d e r one h = absurd (none-some _ e)
   put_fits (q ∷ rs) (v ∷ vs) f d e r one h =
       by (fits end (type_of_comp q.comp) v) (put_all end rs vs f) refl refl e
       (λ c k. put_fits rs vs f c k r (λ j z. one j (later_in q j rs z)) h)
@@ -87,22 +88,22 @@ module _ (end : ℕ) where
           let same : q ≡ r = one q (first_in q rs) (eqb-true q.number r.number s) in
           λ (h : Held) (g : put q v c r.number ≡ Some h).
           let is : record { comp = q.comp; value = v } ≡ h =
-          some_same (sym (put_here q v c r.number (eqb-true q.number r.number s)) ∙ g) in
+          same_Some _ _ (sym (put_here q v c r.number (eqb-true q.number r.number s)) ∙ g) in
           (ap (λ (x : Held). x.comp) (sym is) ∙ ap (λ (x : Reg). x.comp) same, subst IsFitting is t))
-          (λ s. subst (FitsIn r) (sym (put_other q v c r.number (λ z. differ (nat_eq q.number r.number) (eq-eqb q.number r.number z) s))) old)
+          (λ s. subst (FitsIn r) (sym (put_other q v c r.number (λ z. both_ways (nat_eq q.number r.number) s (eq-eqb q.number r.number z)))) old)
           (cases_Bool (nat_eq q.number r.number))
 
       by : (t : Bool) (o : Option File) → fits end (type_of_comp q.comp) v ≡ t → put_all end rs vs f ≡ o → put_if t q v o ≡ Some d →
           ((c : File) → put_all end rs vs f ≡ Some c → FitsIn r (c r.number)) → FitsIn r (d r.number)
-      by false o t e k again = absurd (none_some k)
-      by true None t e k again = absurd (none_some k)
+      by false o t e k again = absurd (none-some _ k)
+      by true None t e k again = absurd (none-some _ k)
       by true (Some c) t e k again =
-          subst (λ (x : File). FitsIn r (x r.number)) (some_same k) (at_one c (again c e) t)
+          subst (λ (x : File). FitsIn r (x r.number)) (same_Some _ _ k) (at_one c (again c e) t)
 
   -- what is written holds something
   pub put_holds : (rs : List Reg) (vs : List Value) (f d : File) → put_all end rs vs f ≡ Some d → (n : ℕ) → Among n rs → (h : Held) × (d n ≡ Some h)
   put_holds [] vs f d e n a = elim a [ ]
-  put_holds (q ∷ rs) [] f d e n a = absurd (none_some e)
+  put_holds (q ∷ rs) [] f d e n a = absurd (none-some _ e)
   put_holds (q ∷ rs) (v ∷ vs) f d e n a =
       by (fits end (type_of_comp q.comp) v) (put_all end rs vs f) refl e (λ c k z. put_holds rs vs f c k n z)
     where
@@ -114,23 +115,23 @@ module _ (end : ℕ) where
       at_one c old =
           ⊎_elim (λ s. (record { comp = q.comp; value = v }, put_here q v c n (eqb-true q.number n s)))
           (λ s.
-          let other = λ (z : q.number ≡ n). differ (nat_eq q.number n) (eq-eqb q.number n z) s in
+          let other = λ (z : q.number ≡ n). both_ways (nat_eq q.number n) s (eq-eqb q.number n z) in
           let h = old (rest_of other a) in (h.0, put_other q v c n other ∙ h.1))
           (cases_Bool (nat_eq q.number n))
 
       by : (t : Bool) (o : Option File) → put_all end rs vs f ≡ o → put_if t q v o ≡ Some d →
           ((c : File) → put_all end rs vs f ≡ Some c → Among n rs → (h : Held) × (c n ≡ Some h)) → (h : Held) × (d n ≡ Some h)
-      by false o e k again = absurd (none_some k)
-      by true None e k again = absurd (none_some k)
+      by false o e k again = absurd (none-some _ k)
+      by true None e k again = absurd (none-some _ k)
       by true (Some c) e k again =
-          subst (λ (x : File). (h : Held) × (x n ≡ Some h)) (some_same k) (at_one c (again c e))
+          subst (λ (x : File). (h : Held) × (x n ≡ Some h)) (same_Some _ _ k) (at_one c (again c e))
 
   pub clear_fits : (ks : List Reg) (f : File) (r : Reg) → FitsIn r (f r.number) → FitsIn r (clear ks f r.number)
   clear_fits [] f r h = h
   clear_fits (k ∷ ks) f r h = by (nat_eq k.number r.number) (clear_fits ks f r h)
     where
       by : (b : Bool) → FitsIn r (clear ks f r.number) → FitsIn r (cond b None (clear ks f r.number))
-      by true old = λ h e. absurd (none_some e)
+      by true old = λ h e. absurd (none-some _ e)
       by false old = old
 
   pub frame_fits : (t : Bool) (f : File) (r : Reg) → FitsIn r (f r.number) → FitsIn r (past_frame t f r.number)
@@ -138,7 +139,7 @@ module _ (end : ℕ) where
   frame_fits true f r h = by (f r.number) h
     where
       kept : (b : Bool) (u : Held) → FitsIn r (Some u) → FitsIn r (cond b None (Some u))
-      kept true u h = λ k e. absurd (none_some e)
+      kept true u h = λ k e. absurd (none-some _ e)
       kept false u h = h
 
       by : (o : Option Held) → FitsIn r o → FitsIn r (unless_addr o)
@@ -162,7 +163,7 @@ module _ (m : Mach) (plan : Plan) (formed : WellFormed m) (placed : WellPlaced m
   Stored = IsStored m plan formed placed is
 
   form_of : {i : Instr} {next : List Instr} → Ending (i ∷ next) m.code → IsFormed i
-  form_of {i} e = of_each IsFormed m.code i formed.instrs (contains_of (stands_of e))
+  form_of {i} e = All-contains IsFormed m.code i formed.instrs (contains_of (stands_of e))
 
   -- ---- registers
 
@@ -371,8 +372,7 @@ module _ (m : Mach) (plan : Plan) (formed : WellFormed m) (placed : WellPlaced m
         record {
           written = λ j ys e frame r one val v none.
               absurd
-              (differ (passes_frame j.op) frame
-              (ap (λ (i : Instr). passes_frame i.op) (sym (head_same e))));
+              (both_ways (passes_frame j.op) (ap (λ (i : Instr). passes_frame i.op) (sym (head_same e))) frame);
         }
 
     -- ---- before an instruction
@@ -418,7 +418,7 @@ module _ (m : Mach) (plan : Plan) (formed : WellFormed m) (placed : WellPlaced m
           (λ b' h. before i next a y ending held tail laid rs (λ k z. known k (later_in r k rs z)) b' h)
         where
           among : Among r.number i.args
-          among = number_in r i.args (known r (first_in r rs))
+          among = among_of r i.args (known r (first_in r rs))
 
           is_reg : IsRegister m r
           is_reg = is_in_code (args_in (stands_of ending) (known r (first_in r rs)))
@@ -442,7 +442,7 @@ module _ (m : Mach) (plan : Plan) (formed : WellFormed m) (placed : WellPlaced m
                     ⊎_elim
                     (λ e.
                     let s = eqb-true r.number n e in ap a (sym s) ∙ as_put ∙ sym (put_here r h.value b n s))
-                    (λ e. holds.itself n v ∙ sym (put_other r h.value b n (λ z. differ (nat_eq r.number n) (eq-eqb r.number n z) e)))
+                    (λ e. holds.itself n v ∙ sym (put_other r h.value b n (λ z. both_ways (nat_eq r.number n) e (eq-eqb r.number n z))))
                     (cases_Bool (nat_eq r.number n));
                 slots = λ n v k.
                     holds.slots n v k ∙ sym (put_other r h.value b (plan.slot n) (λ z. is.fresh r is_reg n (sym z)));
@@ -558,10 +558,10 @@ module _ (m : Mach) (plan : Plan) (formed : WellFormed m) (placed : WellPlaced m
           is_reg = is_in_code (results_in (stands_of ending) (known r (first_in r rs)))
 
           h : Held
-          h = (held r.number (number_in r i.results (known r (first_in r rs)))).0
+          h = (held r.number (among_of r i.results (known r (first_in r rs)))).0
 
           holds_h : d r.number ≡ Some h
-          holds_h = (held r.number (number_in r i.results (known r (first_in r rs)))).1
+          holds_h = (held r.number (among_of r i.results (known r (first_in r rs)))).1
 
           fits_so : (h.comp ≡ r.comp) × (fits limit (type_of_comp h.comp) h.value ≡ true)
           fits_so = fit r is_reg h holds_h
@@ -591,7 +591,7 @@ module _ (m : Mach) (plan : Plan) (formed : WellFormed m) (placed : WellPlaced m
                     ap d (sym (slots_apart r.number n same)) ∙ as_put ∙ sym (put_here (in_slot plan r) h.value e (plan.slot n) same))
                     (λ s.
                     let other = λ (z : plan.slot r.number ≡ plan.slot n).
-                    differ (nat_eq (plan.slot r.number) (plan.slot n)) (eq-eqb (plan.slot r.number) (plan.slot n) z) s in
+                    both_ways (nat_eq (plan.slot r.number) (plan.slot n)) s (eq-eqb (plan.slot r.number) (plan.slot n) z) in
                     holds.slots n v k (not_in_more (plan.slot n) other free)
                     ∙ sym (put_other (in_slot plan r) h.value e (plan.slot n) other))
                     (cases_Bool (nat_eq (plan.slot r.number) (plan.slot n)));
@@ -647,7 +647,7 @@ module _ (m : Mach) (plan : Plan) (formed : WellFormed m) (placed : WellPlaced m
                 slots = λ n v k free. holds.slots n v k
                     (λ j z s g.
                     ⊎_elim
-                    (λ a. differ (plan.spills (length next) r.number) (subst (λ (j : Reg). plan.spills (length next) j.number ≡ true) (sym a) s) t)
+                    (λ a. both_ways (plan.spills (length next) r.number) t (subst (λ (j : Reg). plan.spills (length next) j.number ≡ true) (sym a) s))
                     (λ z. free j z s g) (in_cons r j rs z));
               }) in
               record {
@@ -794,7 +794,7 @@ module _ (m : Mach) (plan : Plan) (formed : WellFormed m) (placed : WellPlaced m
                 ⊎_elim (λ h. p.same r.number h)
                 (λ free.
                 ⊎_elim (λ h. absurd (free h))
-                (λ k. absurd (none_some (sym (cleared (killed m i) b' r.number k) ∙ sym (p.others_new r.number free) ∙ s)))
+                (λ k. absurd (none-some _ (sym (cleared (killed m i) b' r.number k) ∙ sym (p.others_new r.number free) ∙ s)))
                 (split_among r.number i.results (killed m i) there))
                 (among_or_not r.number i.results)
 
@@ -999,13 +999,13 @@ module _ (m : Mach) (plan : Plan) (formed : WellFormed m) (placed : WellPlaced m
         record {
           itself = λ n v. refl;
           slots = λ n v k.
-              ⊎_elim (λ z. absurd (differ (plan.spills (length m.code) n) (k m.code (from_entry z)) (is.entry n z)))
+              ⊎_elim (λ z. absurd (both_ways (plan.spills (length m.code) n) (is.entry n z) (k m.code (from_entry z))))
               (λ free. unwritten n free ∙ sym (unwritten (plan.slot n) (not_param n))) (among_or_not n m.params);
           fit = λ r j.
-              put_fits limit m.params vs (λ n. None) a e r (λ k z g. formed.numbers k r (is_param z) j g) (λ h g. absurd (none_some g));
+              put_fits limit m.params vs (λ n. None) a e r (λ k z g. formed.numbers k r (is_param z) j g) (λ h g. absurd (none-some _ g));
           agree = λ r k i j origin v w x y g h.
               let s : r ≡ k = one_param r k i j origin x y g h in
-              ap (λ (h : Held). h.value) (some_same (sym g ∙ ap (λ (r : Reg). a r.number) s ∙ h));
+              ap (λ (h : Held). h.value) (same_Some _ _ (sym g ∙ ap (λ (r : Reg). a r.number) s ∙ h));
         }
       where
         puts : PutsBoth limit m.params vs (λ n. None) (λ n. None) a
@@ -1024,8 +1024,8 @@ module _ (m : Mach) (plan : Plan) (formed : WellFormed m) (placed : WellPlaced m
             (λ z.
             let p = number_among m.params z in
             let same = formed.numbers p.0 r (is_param p.1) i p.2 in
-            subst (λ (r : Reg). r.origin ≡ r.number) same (of_each (λ (r : Reg). r.origin ≡ r.number) m.params p.0 formed.params p.1))
-            (λ free. absurd (none_some (sym (unwritten r.number free) ∙ g))) (among_or_not r.number m.params)
+            subst (λ (r : Reg). r.origin ≡ r.number) same (All-contains (λ (r : Reg). r.origin ≡ r.number) m.params p.0 formed.params p.1))
+            (λ free. absurd (none-some _ (sym (unwritten r.number free) ∙ g))) (among_or_not r.number m.params)
 
         one_param : (r k : Reg) → IsRegister m r → IsRegister m k → r.origin ≡ k.origin → (x y : Held) → a r.number ≡ Some x →
             a k.number ≡ Some y → r ≡ k

@@ -2,6 +2,7 @@
 -- by each write that comes there.
 use Rattle.std.proofs.Common.{◌≡◌, ℕ, Bool, true, false, cond, ◌⊎◌, inl, inr, ⊎_elim, List, [], ◌∷◌, ◌++◌, length, refl, sym, ap, ◌∙◌, subst, append_assoc}
 use Rattle.std.specs.List.{Contains}
+use Rattle.std.proofs.lemmas.List.Elements.{All-contains}
 use Rattle.mach_ir.specs.Acts.{Target, On, At}
 use Rattle.mach_ir.specs.Formed.{IsFormed, WellFormed}
 use Rattle.mach_ir.specs.Meaning.{after_label, from_handler, code_at, tries_at, tries_past, killed}
@@ -11,15 +12,14 @@ use Rattle.mach_ir.specs.declared.reg.Reg.{Reg}
 use Rattle.mach_ir.specs.declared.mach.Instr.{Instr}
 use Rattle.mach_ir.specs.declared.mach.Mach.{Mach}
 use Rattle.mach_laws.specs.Expand.{expand, Ending}
-use Rattle.mach_laws.proofs.Places.{label_expand, handler_expand, ending_next, ending_label, ending_from_handler}
-use Rattle.mach_laws.proofs.Walking.{none_in, first_in, later_in, in_cons}
+use Rattle.mach_laws.proofs.Places.{label_expand, handler_expand, ending_next, ending_label, ending_from_handler, stands_of}
+use Rattle.mach_laws.proofs.Among.{left_among, split_among, number_among, among_of}
 use Rattle.liveness.proofs.Bounds.{killed_is_colour}
 use Rattle.places_rules.proofs.Raised.{label_silent}
-use Rattle.places_rules.proofs.Walked.{left_among, split_among, stands_of}
-use Rattle.split_rules.proofs.Formed.{contains_of, of_each}
-use Rattle.split_rules.proofs.Text.{number_among, number_in}
+use Rattle.split_rules.proofs.Formed.{contains_of}
 use Rattle.split_rules.proofs.Whole.{fixed_colours}
 use Rattle.split_rules.specs.Writes.{Comes, from_write, past, past_raise}
+use Rattle.bs_words.proofs.Lists.{none_in, first_in, later_in, in_cons}
 use Rattle.spill_rules.specs.Spilled.{Plan, in_slot, reload, spill, reloads_of, spills_of, operands_of, results_of, spilled_instr, spilled, IsPlan}
 use Rattle.spill_rules.proofs.Text.{keeps_marks, all_results, operand_in}
 
@@ -84,7 +84,7 @@ module _ (m : Mach) (plan : Plan) (formed : WellFormed m) (placed : WellPlaced m
     where
       by : (b : Bool) → plan.reloads (length next) r.number ≡ b → Laid (Reading i next rs) (reloads_of plan (length next) rs ++ ys) →
           Laid (Reading i next (r ∷ rs)) (cond b (reload plan r ∷ reloads_of plan (length next) rs) (reloads_of plan (length next) rs) ++ ys)
-      by true e h = reloads r ending (number_in r i.args (known r (first_in r rs))) e h
+      by true e h = reloads r ending (among_of r i.args (known r (first_in r rs))) e h
       by false e h = passes_operand r h
 
   cond_in : (b : Bool) (rs : List Reg) (r : Reg) → Contains (cond b rs []) r → Contains rs r
@@ -132,7 +132,7 @@ module _ (m : Mach) (plan : Plan) (formed : WellFormed m) (placed : WellPlaced m
   -- ---- what an instruction writes
 
   form_of : {i : Instr} {next : List Instr} → Ending (i ∷ next) m.code → IsFormed i
-  form_of {i} e = of_each IsFormed m.code i formed.instrs (contains_of (stands_of e))
+  form_of {i} e = All-contains IsFormed m.code i formed.instrs (contains_of (stands_of e))
 
   -- a stored register is not destroyed, and if it is written it is stored again
   pub stored_unwritten : (x n : ℕ) (i : Instr) (next to : List Instr) (t : Target) → Ending (i ∷ next) m.code → OneOf t (targets i.op) →
@@ -195,7 +195,7 @@ module _ (m : Mach) (plan : Plan) (formed : WellFormed m) (placed : WellPlaced m
     where
       not_result : IsResult x i (length next) → ⊥
       not_result (is_result r c s e) =
-          w (left_among i.results (killed q i) (subst (λ n. Among n i.results) e (number_in r i.results c)))
+          w (left_among i.results (killed q i) (subst (λ n. Among n i.results) e (among_of r i.results c)))
 
       went : (t : Target) → OneOf t (targets i.op) → WasLive x (code_at m.code next t) → NotThere x (length next) (results_of i) →
           WasLive x (i ∷ next)
@@ -208,7 +208,7 @@ module _ (m : Mach) (plan : Plan) (formed : WellFormed m) (placed : WellPlaced m
       silent_results l o = λ r c.
           absurd
           (label_silent m (form_of ending) l o r.number
-          (left_among i.results (killed m i) (number_in r i.results (subst (λ rs. Contains rs r) (all_results (form_of ending)) c))))
+          (left_among i.results (killed m i) (among_of r i.results (subst (λ rs. Contains rs r) (all_results (form_of ending)) c))))
 
       by : (t : Target) → OneOf t (targets i.op) → Onward x ys t → WasLive x (i ∷ next)
       by On o ih =
@@ -294,7 +294,7 @@ module _ (m : Mach) (plan : Plan) (formed : WellFormed m) (placed : WellPlaced m
     where
       not_result : IsResult x i (length next) → ⊥
       not_result (is_result r c s e) =
-          w (left_among i.results (killed q i) (subst (λ n. Among n i.results) e (number_in r i.results c)))
+          w (left_among i.results (killed q i) (subst (λ n. Among n i.results) e (among_of r i.results c)))
 
       went : (t : Target) → OneOf t (targets i.op) → WasLive x (code_at m.code next t) → NotThere x (length next) (results_of i) →
           WasAcross x i next
@@ -307,7 +307,7 @@ module _ (m : Mach) (plan : Plan) (formed : WellFormed m) (placed : WellPlaced m
       silent_results l o = λ r c.
           absurd
           (label_silent m (form_of ending) l o r.number
-          (left_among i.results (killed m i) (number_in r i.results (subst (λ rs. Contains rs r) (all_results (form_of ending)) c))))
+          (left_among i.results (killed m i) (among_of r i.results (subst (λ rs. Contains rs r) (all_results (form_of ending)) c))))
 
       by : (t : Target) → OneOf t (targets i.op) → Onward x ys t → WasAcross x i next
       by On o ih = ⊎_elim (λ r. absurd (not_result r)) (λ g. went On o g.0 g.1) (ih (Storing i next (results_of i)) h)

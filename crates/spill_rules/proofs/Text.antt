@@ -2,6 +2,7 @@
 use Rattle.std.proofs.Common.{◌≡◌, ℕ, Bool, true, false, cond, ◌⊎◌, inl, inr, ⊎_elim, List, [], ◌∷◌, ◌++◌, refl, sym, ap, ◌∙◌}
 use Rattle.std.specs.List.{Contains}
 use Rattle.bs_words.specs.declared.types.Comp.{Comp}
+use Rattle.bs_words.proofs.Lists.{none_in}
 use Rattle.mach_ir.specs.Formed.{comps, MarkHasForm, exit_form, if_form, else_form, switch_form, case_form, catch_form, with_form, try_form, leave_form, handler_form, end_form, IsFormed, formed_op, formed_mark}
 use Rattle.mach_ir.specs.Meaning.{has_label, is_handler_of}
 use Rattle.mach_ir.specs.declared.reg.Reg.{Reg}
@@ -11,7 +12,7 @@ use Rattle.mach_ir.specs.declared.mach.MachOp.{MachOp}
 use Rattle.mach_ir.specs.declared.mach.MachOp.TheVariants as mach
 use Rattle.mach_ir.specs.declared.mach.Instr.{Instr}
 use Rattle.mach_laws.specs.Expand.{KeepsMarks, NoLabel, no_label, not_labelled, NoHandler, no_handler, not_handled, bounds_try, NoBound, no_bound, not_bound}
-use Rattle.mach_laws.proofs.Walking.{none_in}
+use Rattle.mach_laws.proofs.Instructions.{no_comps}
 use Rattle.spill_rules.specs.Spilled.{Plan, reload, spill, reloads_of, spills_of, has_operands, has_results, operands_of, results_of, spilled_instr}
 
 module _ (plan : Plan) where
@@ -161,13 +162,6 @@ gives_or f cs ds try_form = inr refl
 gives_or f cs ds leave_form = inr refl
 gives_or f cs ds handler_form = inl refl
 gives_or f cs ds end_form = inr refl
-
-no_comps : (rs : List Reg) → comps rs ≡ [] → rs ≡ []
-no_comps [] e = refl
-no_comps (r ∷ rs) e = absurd (some r.comp (comps rs) e)
-  where
-    some : (c : Comp) (cs : List Comp) → c ∷ cs ≡ [] → ⊥
-    some c cs e = cc
 
 cond_none : (b : Bool) (rs : List Reg) → rs ≡ [] → cond b rs [] ≡ rs
 cond_none true rs e = refl

@@ -2,7 +2,9 @@
 use Rattle.std.proofs.Common.{◌≡◌, ℕ, ◌+◌, suc, ◌*◌, ◌<◌, ◌≤◌, Bool, true, false, cond, ◌⊎◌, inl, inr, ⊎_elim, List, [], ◌∷◌, length, refl, sym, ap, ◌∙◌, subst, arith}
 use Rattle.std.specs.List.{Contains}
 use Rattle.bs_words.specs.declared.types.Loc.TheVariants as loc
+use Rattle.bs_words.proofs.Lists.{none_in, first_in, later_in, in_cons}
 use Rattle.std.proofs.lemmas.List.{length-append}
+use Rattle.std.proofs.lemmas.Bool.{both_ways}
 use Rattle.mach_ir.specs.Acts.{Target, On, At}
 use Rattle.mach_ir.specs.Formed.{WellFormed}
 use Rattle.mach_ir.specs.Keeps.{Keeps, IsLoose, is_open, HasSlot, NamesSymbol, NamesExternal, IsNamedIn}
@@ -19,10 +21,8 @@ use Rattle.mach_ir.specs.declared.mach.Mach.{Mach}
 use Rattle.mach_laws.specs.Expand.{expand, Ending, all}
 use Rattle.mach_laws.proofs.Grows.{held, instrs_expand, operands_expand, operands_append}
 use Rattle.mach_laws.proofs.Places.{label_expand, handler_expand, ending_label, ending_from_handler}
-use Rattle.mach_laws.proofs.Walking.{none_in, first_in, later_in, in_cons}
 use Rattle.liveness.proofs.Bounds.{split_in}
 use Rattle.places_rules.proofs.Open.{same_slot}
-use Rattle.places_rules.proofs.Files.{differ}
 use Rattle.spill_rules.specs.Spilled.{Plan, in_slot, copied, reload, spill, reloads_of, spills_of, has_operands, has_results, operands_of, results_of, spilled_instr, spilled, IsPlan}
 use Rattle.spill_rules.proofs.Kept.{Which, own, slotted, WasRegister, was_register, origin_of, comp_of, slots_apart, live_register, does_spilled}
 use Rattle.spill_rules.proofs.Live.{Stage, Before, Reading, Storing, Laid, begins, reloads, passes_operand, main, spills, passes_result, ends, laid_of, laid_tries, WasAcross, itself_across, stored_across, across_back}
@@ -139,11 +139,11 @@ module _ (m : Mach) (plan : Plan) (formed : WellFormed m) (placed : WellPlaced m
   raise_back : {j : Instr} {ys : List Instr} (s : Stage m plan formed placed is) (l : ℕ) (tries : List ℕ) → Lay s (j ∷ ys) → IsReachedAt s →
       may_raise j.op ≡ true → tries_at (j ∷ ys) ≡ l ∷ tries → WasReached (from_handler l q.code)
   raise_back s l tries (begins {i = i} {next = next} ending h) r b e = raise_back (Reading i next (operands_of i)) l tries h r b e
-  raise_back s l tries (reloads k ending a t h) r b e = absurd (differ false b refl)
+  raise_back s l tries (reloads k ending a t h) r b e = absurd (both_ways false refl b)
   raise_back s l tries (passes_operand {i = i} {next = next} {rs = rs} k h) r b e = raise_back (Reading i next rs) l tries h r b e
   raise_back s l tries (main {i = i} {next = next} ending h) r b e =
       reached_handler l (by_raise r (raises b (sym (laid_tries m plan formed placed is (main ending h)) ∙ e)))
-  raise_back s l tries (spills k c t h) r b e = absurd (differ false b refl)
+  raise_back s l tries (spills k c t h) r b e = absurd (both_ways false refl b)
   raise_back s l tries (passes_result {i = i} {next = next} {rs = rs} k t h) r b e = raise_back (Storing i next rs) l tries h r b e
   raise_back s l tries (ends {i = i} {next = next} h) r b e = raise_back (Before next) l tries h r b e
 
@@ -163,10 +163,10 @@ module _ (m : Mach) (plan : Plan) (formed : WellFormed m) (placed : WellPlaced m
   frame_main : {j : Instr} {ys : List Instr} (s : Stage m plan formed placed is) → Lay s (j ∷ ys) → IsReachedAt s →
       passes_frame j.op ≡ true → IsMain j ys
   frame_main s (begins {i = i} {next = next} ending h) r t = frame_main (Reading i next (operands_of i)) h r t
-  frame_main s (reloads k ending a e h) r t = absurd (differ false t refl)
+  frame_main s (reloads k ending a e h) r t = absurd (both_ways false refl t)
   frame_main s (passes_operand {i = i} {next = next} {rs = rs} k h) r t = frame_main (Reading i next rs) h r t
   frame_main s (main {i = i} {next = next} ending h) r t = record { next = next; ending = ending; laid = h; reached = r }
-  frame_main s (spills k c e h) r t = absurd (differ false t refl)
+  frame_main s (spills k c e h) r t = absurd (both_ways false refl t)
   frame_main s (passes_result {i = i} {next = next} {rs = rs} k e h) r t = frame_main (Storing i next rs) h r t
   frame_main s (ends {i = i} {next = next} h) r t = frame_main (Before next) h r t
 

@@ -9,9 +9,9 @@ use Rattle.mach_ir.specs.declared.mach.Mach.{Mach}
 use Rattle.std.proofs.lemmas.Bool.{cases_eq}
 use Rattle.std.proofs.lemmas.List.{length-set, length-map, map-set, get_or-map, get_or-set_same, get_or-set_other, take_more, take_all, length-append}
 use Rattle.std.proofs.lemmas.Option.{slice_get_within}
-use Rattle.mach_laws.proofs.Walking.{none_in, first_in, later_in, in_cons}
 use Rattle.liveness.proofs.Bounds.{split_in}
 use Rattle.split_rules.specs.Order.{writes_of}
+use Rattle.bs_words.proofs.Lists.{none_in, first_in, later_in, in_cons}
 use Rattle.split.specs.Writes.{members_in, HasMember, AreRising, ends, rises, IsGrouped}
 use Rattle.split.specs.declared.writes.Group as group
 use Rattle.split_rules.specs.declared.writes.Write.{Write}

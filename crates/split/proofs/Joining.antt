@@ -13,9 +13,9 @@ use Rattle.mach_ir.specs.Walks.{Among, first, later, read}
 use Rattle.mach_ir.specs.declared.reg.Reg.{Reg}
 use Rattle.mach_ir.specs.declared.mach.Instr.{Instr}
 use Rattle.mach_ir.specs.declared.mach.Mach.{Mach}
-use Rattle.mach_laws.proofs.Walking.{none_in, first_in, later_in, in_cons}
 use Rattle.liveness.proofs.Bounds.{split_in}
 use Rattle.split_rules.specs.Writes.{Comes, Chained, same, meets}
+use Rattle.bs_words.proofs.Lists.{none_in, first_in, later_in, in_cons}
 use Rattle.split.specs.Joins.{replaced, joined, IsComing, Relabelled, as_it_was, as_another, Joins, AreLinked, AreSound, HaveOne, AreWebs, AreIndexes, JoinsReads}
 use Rattle.split.specs.Reach.{AreReaching}
 use Rattle.split.specs.Writes.{all_of, members, AreWrites, after}

@@ -6,16 +6,16 @@ use Rattle.std.specs.Prelude.{slice_get}
 use Rattle.bs_bits.specs.Set.{has}
 use Rattle.bs_words.specs.declared.types.Loc.{Loc}
 use Rattle.bs_words.specs.declared.types.Loc.TheVariants as loc
+use Rattle.bs_words.proofs.Lists.{none_in, first_in, later_in, in_cons}
 use Rattle.mach_ir.specs.Formed.{WellFormed}
 use Rattle.mach_ir.specs.Meaning.{killed}
 use Rattle.mach_ir.specs.Walks.{Among, IsRegister, is_param, is_colour, is_in_code, InCode, in_results, further, Stands, here, below}
 use Rattle.mach_ir.specs.declared.reg.Reg.{Reg}
 use Rattle.mach_ir.specs.declared.mach.Instr.{Instr}
 use Rattle.mach_ir.specs.declared.mach.Mach.{Mach}
-use Rattle.mach_laws.proofs.Walking.{none_in, first_in, later_in, in_cons}
 use Rattle.liveness.proofs.Bounds.{split_in, killed_is_colour}
-use Rattle.split_rules.proofs.Text.{number_among}
 use Rattle.split_rules.specs.Order.{is_open, write_of, open_writes, code_writes, writes_of}
+use Rattle.mach_laws.proofs.Among.{number_among}
 use Rattle.split.specs.Writes.{has_left, is_at, find_at, AreRising, rises, is_first}
 use Rattle.split.specs.Names.{find_coming}
 use Rattle.split_rules.specs.declared.writes.Write.{Write}

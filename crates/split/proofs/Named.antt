@@ -6,6 +6,7 @@ use Rattle.std.proofs.lemmas.Option.{slice_get_within}
 use Rattle.std.specs.List.{Contains}
 use Rattle.std.specs.Prelude.{nat_lt, slice_get, slice_index}
 use Rattle.bs_words.specs.declared.types.Loc.TheVariants as loc
+use Rattle.bs_words.proofs.Lists.{none_in, first_in}
 use Rattle.dataflow.specs.Rows.{row}
 use Rattle.mach_ir.specs.Formed.{WellFormed}
 use Rattle.mach_ir.specs.Meaning.{killed}
@@ -16,14 +17,13 @@ use Rattle.mach_ir.specs.declared.reg.Reg.{Reg}
 use Rattle.mach_ir.specs.declared.mach.Instr.{Instr}
 use Rattle.mach_ir.specs.declared.mach.Mach.{Mach}
 use Rattle.mach_laws.specs.Expand.{Ending, all, more}
-use Rattle.mach_laws.proofs.Places.{ending_next}
-use Rattle.mach_laws.proofs.Walking.{none_in, first_in, drop_ending, place_is}
-use Rattle.places_rules.proofs.Walked.{split_among}
+use Rattle.mach_laws.proofs.Places.{ending_next, args_in, results_in}
+use Rattle.mach_laws.proofs.Walking.{drop_ending, place_is}
+use Rattle.mach_laws.proofs.Among.{split_among, number_among}
 use Rattle.liveness.proofs.Bounds.{killed_is_colour}
 use Rattle.split_rules.specs.Renamed.{Naming, renamed, renamed_code}
 use Rattle.split_rules.specs.Split.{IsNaming, JoinsExactly, AreByFirst, IsDense, IsSplit}
 use Rattle.split_rules.specs.Writes.{Comes, Chained, IsWrite, by_entry, by_instr}
-use Rattle.split_rules.proofs.Text.{number_among, args_in, results_in}
 use Rattle.split_rules.proofs.Result.{comes_write, chained_equal}
 use Rattle.split_rules.proofs.Whole.{fixed_colours}
 use Rattle.split.specs.Names.{new_number, find_coming, or_name, name_of, naming, AreTables}

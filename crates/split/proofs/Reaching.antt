@@ -6,6 +6,7 @@ use Rattle.std.specs.List.{All, Contains}
 use Rattle.std.specs.Prelude.{slice_get, slice_index_or}
 use Rattle.bs_words.specs.Contents.{contents}
 use Rattle.bs_words.specs.declared.types.Loc.TheVariants as loc
+use Rattle.bs_words.proofs.Lists.{none_in, first_in, later_in, in_cons}
 use Rattle.dataflow.specs.Flow.{Graph, graph, IsPlace, WellFormed}
 use Rattle.dataflow.specs.Reach.{ComesIn, ComesTo, IsReaching}
 use Rattle.dataflow.specs.declared.flow.Flow as flow
@@ -19,9 +20,9 @@ use Rattle.mach_ir.specs.declared.mach.Instr.{Instr}
 use Rattle.mach_ir.specs.declared.mach.Mach.{Mach}
 use Rattle.mach_laws.specs.Expand.{Ending, all, more}
 use Rattle.mach_laws.specs.Graph.{place_of, handler_places, next_places, raise_places}
-use Rattle.mach_laws.proofs.Places.{ending_from_handler}
-use Rattle.mach_laws.proofs.Walking.{none_in, first_in, later_in, in_cons, drop_ending, ending_drop, ending_at, place_is}
-use Rattle.places_rules.proofs.Walked.{left_among, split_among, stands_of}
+use Rattle.mach_laws.proofs.Places.{ending_from_handler, stands_of}
+use Rattle.mach_laws.proofs.Walking.{drop_ending, ending_drop, ending_at, place_is}
+use Rattle.mach_laws.proofs.Among.{left_among, split_among}
 use Rattle.liveness.specs.Nodes.{AreNodes}
 use Rattle.liveness.proofs.Bounds.{no_items, one_more, split_in}
 use Rattle.liveness.proofs.Graph.{count_is, part_is, nodes_within}

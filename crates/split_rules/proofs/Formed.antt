@@ -2,8 +2,10 @@
 use Rattle.std.proofs.Common.{◌≡◌, ◌≢◌, ℕ, zero, suc, ◌<◌, ◌≤◌, true, false, ⊎_elim, List, [], ◌∷◌, map, length, refl, sym, ap, ◌∙◌, subst, arith}
 use Rattle.std.specs.List.{All, AllPairs, Contains}
 use Rattle.std.specs.Prelude.{slice_index_or}
-use Rattle.std.proofs.lemmas.List.Elements.{Contains-get_or}
+use Rattle.std.proofs.lemmas.List.Elements.{Contains-get_or, All-contains}
+use Rattle.std.proofs.lemmas.List.{length-map}
 use Rattle.bs_words.specs.declared.types.Loc.TheVariants as loc
+use Rattle.bs_words.proofs.Lists.{none_in, first_in, later_in, in_cons}
 use Rattle.mach_ir.specs.Forms.{HasForm, results_of}
 use Rattle.mach_ir.specs.Formed.{comps, MarkHasForm, IsFormed, formed_op, formed_mark, AreDistinct, HasPlace, HasHandler, LeadsTo, is_exit, LabelsStand, tries_left, leaves, IsNested, CasesAgree, WellFormed}
 use Rattle.mach_ir.specs.Meaning.{from_handler, after_label, tries_at}
@@ -12,11 +14,10 @@ use Rattle.mach_ir.specs.declared.reg.Reg.{Reg}
 use Rattle.mach_ir.specs.declared.mach.MachOp.{MachOp}
 use Rattle.mach_ir.specs.declared.mach.Instr.{Instr}
 use Rattle.mach_ir.specs.declared.mach.Mach.{Mach}
-use Rattle.mach_laws.proofs.Walking.{none_in, first_in, later_in, in_cons}
-use Rattle.places_rules.proofs.Lists.{length_mapped}
+use Rattle.mach_laws.proofs.Places.{results_in}
 use Rattle.split_rules.specs.Renamed.{Naming, numbered, all_numbered, renamed_instr, renamed_code, renamed}
 use Rattle.split_rules.specs.Split.{IsNaming}
-use Rattle.split_rules.proofs.Text.{same_label, same_handler, same_tries, same_labels, same_comps, was_at, place_renamed, handler_renamed, results_in, was_register}
+use Rattle.split_rules.proofs.Text.{same_label, same_handler, same_tries, same_labels, same_comps, was_at, place_renamed, handler_renamed, was_register}
 
 -- ---- lists
 
@@ -29,7 +30,7 @@ at_mapped f (x ∷ xs) (suc k) d z lt = at_mapped f xs k d z (omega (arith, lt))
 distinct_named : (f back : ℕ → ℕ) (rs : List Reg) → ((r : Reg) → Contains rs r → back (f r.number) ≡ r.number) → AreDistinct rs →
     AreDistinct (all_numbered f rs)
 distinct_named f back rs known h = λ i j d lt within.
-    let le : j < length rs = subst (λ n. j < n) (length_mapped (numbered f) rs) within in
+    let le : j < length rs = subst (λ n. j < n) (length-map rs (numbered f)) within in
     let under : i < length rs = omega (arith, lt, le) in
     let one : Reg = slice_index_or rs i d in
     let other : Reg = slice_index_or rs j d in
@@ -97,9 +98,6 @@ stands_in [] i c = absurd (none_in i c)
 stands_in (j ∷ is) i c =
     ⊎_elim (λ e. (is, subst (λ (i : Instr). Stands i is (j ∷ is)) e here)) (λ d. let s = stands_in is i d in (s.0, below s.1))
     (in_cons j i is c)
-
-pub of_each : {A : Type 0} (P : A → Type 0) (xs : List A) (x : A) → All P xs → Contains xs x → P x
-of_each P xs x h c = subst P c.2 (h c.0 x c.1)
 
 module _ (m : Mach) (names : Naming) (is : IsNaming m names) (well : WellFormed m)
     (colour_fixed : (r : Reg) → Contains m.colours r → r.loc ≢ loc.Unset) where
@@ -205,12 +203,12 @@ module _ (m : Mach) (names : Naming) (is : IsNaming m names) (well : WellFormed 
         params = well.params;
         params_distinct = well.params_distinct;
         instrs = each_renamed names IsFormed m.code
-            (λ i next s. formed names (length next) (of_each IsFormed m.code i well.instrs (contains_of s)));
+            (λ i next s. formed names (length next) (All-contains IsFormed m.code i well.instrs (contains_of s)));
         distinct = each_renamed names (λ (i : Instr). AreDistinct i.results) m.code
             (λ i next s.
             distinct_named (names.write (length next)) is.back i.results
             (λ r c. is.write_back r (is_in_code (results_in s c)) (length next))
-            (of_each (λ (i : Instr). AreDistinct i.results) m.code i well.distinct (contains_of s)));
+            (All-contains (λ (i : Instr). AreDistinct i.results) m.code i well.distinct (contains_of s)));
         returns = λ i c e.
             let w = was_instr names m.code i c in
             subst (λ (i : Instr). comps i.args ≡ results_of m.result) w.same

@@ -1,9 +1,12 @@
 -- A function whose registers have other numbers does what it did: a number that stands for a live register holds what it held.
 use Rattle.std.proofs.Common.{◌≡◌, ◌≢◌, ℕ, true, inl, inr, ◌⊎◌, ⊎_elim, List, [], ◌∷◌, length, Option, Some, None, refl, sym, ap, ◌∙◌, subst}
 use Rattle.std.specs.List.{Contains}
+use Rattle.std.proofs.lemmas.Option.{none-some}
+use Rattle.std.proofs.lemmas.List.Elements.{All-contains}
 use Rattle.bs_words.specs.Memory.{Memory}
 use Rattle.bs_words.specs.declared.types.Loc.TheVariants as loc
 use Rattle.bs_words.specs.declared.values.Value.{Value}
+use Rattle.bs_words.proofs.Lists.{head_same, tail_same}
 use Rattle.cmm_meaning.specs.State.{Doing}
 use Rattle.mach_ir.specs.Acts.{Around, Target, On, At, Landing, AtLabel, AtHandler, Act, Goes, Pushes, Jumps, Unwinds, Asks, Replaces, Ends, EndsRaising, Stuck}
 use Rattle.mach_ir.specs.Formed.{IsFormed, WellFormed}
@@ -20,17 +23,16 @@ use Rattle.mach_laws.proofs.General as general
 use Rattle.mach_laws.proofs.General.{at}
 use Rattle.mach_laws.proofs.Leads.{IsTry, is_try, MayLand, lands_at_label, lands_at_handler, Within, goes_in, pushes_in, jumps_in, unwinds_in, asks_in, within}
 use Rattle.mach_laws.proofs.Level as level
-use Rattle.mach_laws.proofs.Places.{ending_next, ending_label, ending_land}
+use Rattle.mach_laws.proofs.Places.{ending_next, ending_label, ending_land, stands_of}
 use Rattle.mach_laws.proofs.Simulate.{Agrees}
-use Rattle.places_rules.proofs.Lists.{head_same, tail_same}
-use Rattle.places_rules.proofs.Files.{none_some, past_same, cleared, not_cleared, among_or_not, PutsToo, put_twice, put_both}
-use Rattle.places_rules.proofs.Walked.{left_among, right_among, split_among, stands_of}
+use Rattle.mach_laws.proofs.Among.{left_among, right_among, split_among, number_among}
+use Rattle.places_rules.proofs.Files.{past_same, cleared, not_cleared, among_or_not, PutsToo, put_twice, put_both}
 use Rattle.places_rules.proofs.Raised.{IsRaised, Told, told_jump, told_unwind, told_ask, IsSilent, told, label_silent, try_silent}
 use Rattle.split_rules.specs.Renamed.{Naming, all_numbered, renamed_code, renamed}
 use Rattle.split_rules.specs.Split.{IsNaming}
 use Rattle.split_rules.specs.Writes.{from_entry, from_write}
-use Rattle.split_rules.proofs.Formed.{contains_of, of_each}
-use Rattle.split_rules.proofs.Text.{same_label, same_handler, same_tries, alone, as_expanded, keeps_marks, was_register, among_named, number_among}
+use Rattle.split_rules.proofs.Formed.{contains_of}
+use Rattle.split_rules.proofs.Text.{same_label, same_handler, same_tries, alone, as_expanded, keeps_marks, was_register, among_named}
 use Rattle.split_rules.proofs.Walked.{new, killed_same, killed_stays, result_back, arg_back, wrote_old, StandsFor, stands_on, stands_aside, live_before, across_back}
 
 -- ---- files
@@ -58,7 +60,7 @@ module _ (m : Mach) (names : Naming) (is : IsNaming m names) (formed : WellForme
   Same rest a b = (n x : ℕ) → Live m n rest → is.back x ≡ n → Stand x n rest → a n ≡ b x
 
   form_of : {i : Instr} {next : List Instr} → Ending (i ∷ next) m.code → IsFormed i
-  form_of {i} e = of_each IsFormed m.code i formed.instrs (contains_of (stands_of e))
+  form_of {i} e = All-contains IsFormed m.code i formed.instrs (contains_of (stands_of e))
 
   -- ---- where registers of one origin agree
 
@@ -240,7 +242,7 @@ module _ (m : Mach) (names : Naming) (is : IsNaming m names) (formed : WellForme
         ))
         (λ free.
         ⊎_elim (λ r. absurd (free r))
-        (λ k. absurd (none_some (sym (cleared killed_new b' x k) ∙ sym (p.others_new x free) ∙ h)))
+        (λ k. absurd (none-some _ (sym (cleared killed_new b' x k) ∙ sym (p.others_new x free) ∙ h)))
         (split_among x main.results killed_new z))
         (among_or_not x main.results)
     put_wrote vs d p (Some v) x u z h = elim z [ ]

@@ -1,30 +1,24 @@
 -- A function splits in one way.
-use Rattle.std.proofs.Common.{◌≡◌, ◌≢◌, ℕ, Bool, true, false, ⊎_elim, List, [], ◌∷◌, length, refl, sym, ap, ◌∙◌, subst, arith}
-use Rattle.std.proofs.lemmas.Bool.{eq-eqb, eqb-true}
+use Rattle.std.proofs.Common.{◌≡◌, ◌≢◌, ℕ, Bool, true, false, List, [], ◌∷◌, length, refl, sym, ap, ◌∙◌, subst, arith}
+use Rattle.std.proofs.lemmas.Bool.{eq-eqb, eqb-true, both_ways}
 use Rattle.std.specs.List.{Contains}
 use Rattle.std.specs.Prelude.{nat_eq}
 use Rattle.bs_words.specs.declared.types.Loc.{Loc}
 use Rattle.bs_words.specs.declared.types.Loc.TheVariants as loc
-use Rattle.mach_ir.specs.Walks.{Among, first, later, is_in_code, Stands, here, below, IsRegister}
+use Rattle.bs_words.proofs.Lists.{first_in, later_in}
+use Rattle.mach_ir.specs.Walks.{Among, is_in_code, Stands, here, below, IsRegister}
 use Rattle.mach_ir.specs.declared.reg.Reg.{Reg}
 use Rattle.mach_ir.specs.declared.mach.Instr.{Instr}
 use Rattle.mach_ir.specs.declared.mach.Mach.{Mach}
-use Rattle.mach_laws.proofs.Walking.{none_in, first_in, later_in, in_cons}
-use Rattle.places_rules.proofs.Files.{differ}
 use Rattle.places_rules.proofs.Open.{machine_open, slot_open}
-use Rattle.places_rules.proofs.Walked.{left_among}
 use Rattle.mach_ir.specs.Meaning.{killed}
+use Rattle.mach_laws.proofs.Among.{left_among, among_of}
+use Rattle.mach_laws.proofs.Places.{args_in, results_in}
 use Rattle.split_rules.specs.Order.{IsFirstOfWeb, IsByFirst, kept, given, IsNumberOfWeb}
 use Rattle.split_rules.specs.Renamed.{Naming, numbered, all_numbered, renamed_instr, renamed_code}
 use Rattle.split_rules.specs.Split.{IsNaming, AreByFirst, IsSplit}
 use Rattle.split_rules.specs.Writes.{Comes, IsWrite, by_instr}
 use Rattle.split_rules.proofs.Result.{comes_write}
-use Rattle.split_rules.proofs.Text.{args_in, results_in}
-
-among_in : (r : Reg) (rs : List Reg) → Contains rs r → Among r.number rs
-among_in r [] c = absurd (none_in r c)
-among_in r (q ∷ qs) c =
-    ⊎_elim (λ e. first (ap (λ (x : Reg). x.number) e)) (λ d. later (among_in r qs d)) (in_cons q r qs c)
 
 module _ (m : Mach) where
   first_is : {n v w : ℕ} {from : List Instr} → IsFirstOfWeb m n from v → IsFirstOfWeb m n from w → v ≡ w
@@ -65,7 +59,7 @@ module _ (m : Mach) where
     read_is r i next s c = by (nat_eq (a.read (length next) r.number) (b.read (length next) r.number)) refl
       where
         among : Among r.number i.args
-        among = among_in r i.args c
+        among = among_of r i.args c
 
         -- where a write comes, the numbers are its
         none : nat_eq (a.read (length next) r.number) (b.read (length next) r.number) ≡ false → (from : List Instr) →
@@ -74,7 +68,7 @@ module _ (m : Mach) where
             let same =
             na.agree i next from r.number s among z ∙ write_is r (is_in_code (args_in s c)) from (comes_write m z)
             ∙ sym (nb.agree i next from r.number s among z) in
-            differ _ (eq-eqb (a.read (length next) r.number) (b.read (length next) r.number) same) e
+            both_ways _ e (eq-eqb (a.read (length next) r.number) (b.read (length next) r.number) same)
 
         by : (t : Bool) → nat_eq (a.read (length next) r.number) (b.read (length next) r.number) ≡ t →
             a.read (length next) r.number ≡ b.read (length next) r.number
@@ -98,7 +92,7 @@ module _ (m : Mach) where
         (regs_are (a.write (length next)) (b.write (length next)) i.results
         (λ r c.
         write_is r (is_in_code (results_in s c)) next
-        (by_instr s (left_among i.results (killed m i) (among_in r i.results c)))))
+        (by_instr s (left_among i.results (killed m i) (among_of r i.results c)))))
 
     code_is : (code : List Instr) → ((i : Instr) (next : List Instr) → Stands i next code → Stands i next m.code) →
         renamed_code a code ≡ renamed_code b code

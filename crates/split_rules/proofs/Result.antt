@@ -9,14 +9,13 @@ use Rattle.mach_ir.specs.declared.reg.Reg.{Reg}
 use Rattle.mach_ir.specs.declared.mach.Instr.{Instr}
 use Rattle.mach_ir.specs.declared.mach.Mach.{Mach}
 use Rattle.mach_laws.specs.Expand.{Ending, all}
-use Rattle.mach_laws.proofs.Places.{ending_from_handler}
+use Rattle.mach_laws.proofs.Places.{ending_from_handler, stands_of, ending_of}
 use Rattle.mach_laws.proofs.Walking.{ending_at}
-use Rattle.places_rules.proofs.Walked.{ending_of}
-use Rattle.places_rules.proofs.Walked.{split_among, stands_of}
+use Rattle.mach_laws.proofs.Among.{split_among, number_among}
 use Rattle.split_rules.specs.Renamed.{Naming, renamed_instr, renamed_code, renamed}
 use Rattle.split_rules.specs.Split.{IsNaming, JoinsExactly, IsSplit, IsOneWeb}
 use Rattle.split_rules.specs.Writes.{Comes, from_entry, from_write, past, past_raise, Chained, same, meets, IsWrite, by_entry, by_instr}
-use Rattle.split_rules.proofs.Text.{same_at, same_handler, same_tries, was_at, was_register, named_among, among_named, number_among, param_back}
+use Rattle.split_rules.proofs.Text.{same_at, same_handler, same_tries, was_at, was_register, named_among, among_named, param_back}
 use Rattle.split_rules.proofs.Walked.{new, wrote_new, wrote_old, killed_same, killed_stays, result_back}
 use Rattle.split_rules.proofs.Whole.{fixed_colours}
 

@@ -1,5 +1,5 @@
 -- The text of a function whose registers have other numbers: its labels, tries and forms are as they were.
-use Rattle.std.proofs.Common.{◌≡◌, ◌≢◌, ℕ, Bool, true, false, cond, ⊎_elim, List, [], ◌∷◌, ◌++◌, length, refl, sym, ap, ◌∙◌, subst}
+use Rattle.std.proofs.Common.{◌≡◌, ◌≢◌, ℕ, Bool, true, false, cond, List, [], ◌∷◌, ◌++◌, length, refl, sym, ap, ◌∙◌, subst}
 use Rattle.std.specs.List.{Contains}
 use Rattle.bs_words.specs.declared.types.Loc.TheVariants as loc
 use Rattle.mach_ir.specs.Acts.{Target, On, At}
@@ -12,7 +12,7 @@ use Rattle.mach_ir.specs.declared.mach.MachOp.TheVariants as mach
 use Rattle.mach_ir.specs.declared.mach.Instr.{Instr}
 use Rattle.mach_ir.specs.declared.mach.Mach.{Mach}
 use Rattle.mach_laws.specs.Expand.{KeepsMarks, no_label, not_labelled, no_handler, not_handled, no_bound, not_bound, expand}
-use Rattle.mach_laws.proofs.Walking.{none_in, first_in, later_in, in_cons}
+use Rattle.mach_laws.proofs.Among.{among_of}
 use Rattle.places_rules.proofs.Lists.{was}
 use Rattle.split_rules.specs.Renamed.{Naming, numbered, all_numbered, renamed_instr, renamed_code, renamed}
 use Rattle.split_rules.specs.Split.{IsNaming}
@@ -114,16 +114,6 @@ module _ (names : Naming) where
 
 -- ---- members by number
 
-pub number_among : {n : ℕ} (rs : List Reg) → Among n rs → (r : Reg) × Contains rs r × (r.number ≡ n)
-number_among [] a = elim a [ ]
-number_among (r ∷ rs) (first e) = (r, first_in r rs, e)
-number_among (r ∷ rs) (later a) = let w = number_among rs a in (w.0, later_in r w.0 rs w.1, w.2)
-
-pub number_in : (r : Reg) (rs : List Reg) → Contains rs r → Among r.number rs
-number_in r [] c = absurd (none_in r c)
-number_in r (k ∷ rs) c =
-    ⊎_elim (λ e. first (ap (λ (x : Reg). x.number) e)) (λ d. later (number_in r rs d)) (in_cons k r rs c)
-
 pub named_among : {n : ℕ} (f : ℕ → ℕ) (rs : List Reg) → Among n rs → Among (f n) (all_numbered f rs)
 named_among f [] a = elim a [ ]
 named_among f (r ∷ rs) (first e) = first (ap f e)
@@ -135,14 +125,6 @@ among_named f (r ∷ rs) (first e) = (r.number, first refl, e)
 among_named f (r ∷ rs) (later a) = let w = among_named f rs a in (w.0, later w.1, w.2)
 
 -- ---- registers
-
-pub args_in : {i : Instr} {next code : List Instr} {r : Reg} → Stands i next code → Contains i.args r → InCode r code
-args_in here c = in_args c
-args_in (below s) c = further (args_in s c)
-
-pub results_in : {i : Instr} {next code : List Instr} {r : Reg} → Stands i next code → Contains i.results r → InCode r code
-results_in here c = in_results c
-results_in (below s) c = further (results_in s c)
 
 module _ (m : Mach) (names : Naming) (is : IsNaming m names) where
   -- what a register of the new function was
@@ -185,7 +167,7 @@ module _ (m : Mach) (names : Naming) (is : IsNaming m names) where
 
     pub param_back : (r : Reg) → Contains m.params r → is.back r.number ≡ r.number
     param_back r c =
-        ap is.back (sym (is.entry r.number (number_in r m.params c))) ∙ is.write_back r (is_param c) (length m.code)
+        ap is.back (sym (is.entry r.number (among_of r m.params c))) ∙ is.write_back r (is_param c) (length m.code)
 
     pub was_register : (r : Reg) → IsRegister (renamed names m) r → WasRegister r
     was_register r (is_param c) = as_it_was r (is_param c) (param_back r c)

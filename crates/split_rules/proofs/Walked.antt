@@ -10,12 +10,13 @@ use Rattle.mach_ir.specs.declared.reg.Reg.{Reg}
 use Rattle.mach_ir.specs.declared.mach.Instr.{Instr}
 use Rattle.mach_ir.specs.declared.mach.Mach.{Mach}
 use Rattle.mach_laws.specs.Expand.{Ending, all}
-use Rattle.mach_laws.proofs.Places.{ending_next, ending_label, ending_from_handler}
-use Rattle.places_rules.proofs.Walked.{ending_of, left_among, right_among, split_among, stands_of}
+use Rattle.mach_laws.proofs.Places.{ending_next, ending_label, ending_from_handler, stands_of, ending_of, args_in, results_in}
+use Rattle.mach_laws.proofs.Among.{left_among, right_among, split_among, number_among}
+use Rattle.mach_laws.proofs.Colouring.{of_killed_by}
 use Rattle.split_rules.specs.Renamed.{Naming, all_numbered, renamed_instr, renamed_code, renamed}
 use Rattle.split_rules.specs.Split.{IsNaming}
 use Rattle.split_rules.specs.Writes.{Comes, from_write, past, past_raise}
-use Rattle.split_rules.proofs.Text.{same_label, same_handler, was_at, was_register, named_among, among_named, number_among, args_in, results_in}
+use Rattle.split_rules.proofs.Text.{same_label, same_handler, was_at, was_register, named_among, among_named}
 
 -- ---- what is destroyed is told by places
 
@@ -45,17 +46,6 @@ colours_cond n x ks cs true g (first e) = first e
 colours_cond n x ks cs true g (later a) = later (g a)
 colours_cond n x ks cs false g a = later (g a)
 
-killed_colours : (n : ℕ) (cs : List Reg) (d : Destroyed) (rs : List Reg) → Among n (killed_among cs d rs) → Among n cs
-killed_colours n [] d rs a = a
-killed_colours n (x ∷ cs) d rs a =
-    colours_cond n x (killed_among cs d rs) cs (is_destroyed d x.loc && not (is_at_one_of x.loc rs))
-    (killed_colours n cs d rs) a
-
-by_colours : (n : ℕ) (cs : List Reg) (d : Destroyed) (rs : List Reg) → Among n (killed_by cs d rs) → Among n cs
-by_colours n cs Nothing rs a = elim a [ ]
-by_colours n cs Temporaries rs a = killed_colours n cs Temporaries rs a
-by_colours n cs Everything rs a = killed_colours n cs Everything rs a
-
 module _ (m : Mach) (names : Naming) (is : IsNaming m names)
     (colour_fixed : (r : Reg) → Contains m.colours r → r.loc ≢ loc.Unset) where
   abbrev q : Mach
@@ -71,7 +61,7 @@ module _ (m : Mach) (names : Naming) (is : IsNaming m names)
   -- what is destroyed keeps its number
   pub killed_stays : {n : ℕ} (i : Instr) (k : ℕ) → Among n (killed m i) → (names.write k n ≡ n) × (is.back n ≡ n)
   killed_stays {n} i k a =
-      let r = number_among m.colours (by_colours n m.colours (destroyed_by i.op) i.results a) in
+      let r = number_among m.colours (of_killed_by n m.colours (destroyed_by i.op) i.results a) in
       let fixed = colour_fixed r.0 r.1 in
       let stays : names.write k n ≡ n =
       subst (λ n. names.write k n ≡ n) r.2 (is.write_fixed r.0 (is_colour r.1) fixed k) in (

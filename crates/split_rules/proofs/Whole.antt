@@ -1,7 +1,9 @@
 -- What a split function still is.
 use Rattle.std.proofs.Common.{◌≡◌, ◌≢◌, ℕ, suc, ◌+◌, ◌≤◌, ◌<◌, inl, inr, ⊎_elim, List, [], ◌∷◌, length, refl, sym, ap, ◌∙◌, subst, arith}
 use Rattle.std.specs.List.{Contains}
+use Rattle.std.proofs.lemmas.List.{length-map}
 use Rattle.bs_words.specs.declared.types.Loc.TheVariants as loc
+use Rattle.bs_words.proofs.Lists.{mapped}
 use Rattle.mach_ir.specs.Formed.{WellFormed}
 use Rattle.mach_ir.specs.Keeps.{Keeps, IsLoose, is_open, is_slot, NamesSymbol, NamesExternal, IsNamedIn}
 use Rattle.mach_ir.specs.Placed.{colours, IsPlaced, in_colour, in_slot, MayShare, WellPlaced}
@@ -13,7 +15,7 @@ use Rattle.mach_ir.specs.declared.reg.Reg.{Reg}
 use Rattle.mach_ir.specs.declared.mach.Instr.{Instr}
 use Rattle.mach_ir.specs.declared.mach.Mach.{Mach}
 use Rattle.places_rules.proofs.Open.{machine_open}
-use Rattle.places_rules.proofs.Lists.{was, mapped, length_mapped}
+use Rattle.places_rules.proofs.Lists.{was}
 use Rattle.split_rules.specs.Renamed.{Naming, numbered, all_numbered, renamed_code, renamed}
 use Rattle.split_rules.specs.Split.{IsNaming, IsDense, IsSplit, IsKept}
 use Rattle.split_rules.proofs.Formed.{contains_of, was_instr, renamed_formed}
@@ -164,9 +166,9 @@ module _ (m : Mach) (names : Naming) (is : IsNaming m names) (formed : WellForme
   same_count [] = refl
   same_count (i ∷ is) =
       ap (λ n. n + length (all_numbered (names.write (length is)) i.results) + operand_count (renamed_code names is))
-      (length_mapped (numbered (names.read (length is))) i.args)
+      (length-map i.args (numbered (names.read (length is))))
       ∙ ap (λ n. length i.args + n + operand_count (renamed_code names is))
-      (length_mapped (numbered (names.write (length is))) i.results)
+      (length-map i.results (numbered (names.write (length is))))
       ∙ ap (λ n. length i.args + length i.results + n) (same_count is)
 
   module _ (dense : IsDense m names) (s : Size) (h : HasSize m s) where

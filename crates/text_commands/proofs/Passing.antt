@@ -1,26 +1,16 @@
 -- The image of a file is one, and no section of a roomy file's passes its limit.
-use Rattle.std.proofs.Common.{◌≡◌, ◌<◌, ℕ, All, List, None, Some, get_or, sym, ◌∙◌}
+use Rattle.std.proofs.Common.{◌≡◌, ℕ, List, None, Some, sym, ◌∙◌}
 use Rattle.bs_fault.specs.declared.large.Large.{Large}
 use Rattle.cmm_front.specs.FileOf.{IsFileOf}
 use Rattle.cmm_tree.specs.Tree.{FileTree}
 use Rattle.correctness.specs.Bounds.{IsRoomy}
-use Rattle.cmm_lex.proofs.Languages.{AreBytes}
 use Rattle.file_compile.proofs.Promised as promised
 use Rattle.file_compile.proofs.Promised.{roomy_fits}
 use Rattle.image_form.specs.Tables.{Tables}
 use Rattle.layout_rules.specs.TooLarge.{first_too_large}
 use Rattle.file_compile.specs.Made.{IsMadeFor}
+use Rattle.file_promise.proofs.Once.{made_for_once}
 use Rattle.text_commands.specs.Compile.{IsOnlyMadeFor, IsTooLarge}
-
--- what a slice holds are bytes
-pub all_bytes : (text : List ℕ) → ((i : ℕ) → get_or text i 0 < 256) → All (λ b. b < 256) text
-all_bytes = promised.all_bytes
-
-pub bytes_of : (text : List ℕ) → All (λ b. b < 256) text → AreBytes text
-bytes_of = promised.bytes_of
-
-pub made_for_once : (file : FileTree) (t u : Tables) → IsMadeFor file t → IsMadeFor file u → t ≡ u
-made_for_once = promised.made_for_once
 
 none_some : (large : Large) → None ≡ Some large → ⊥
 none_some large e = cc

@@ -13,7 +13,7 @@ use Rattle.text_sizes.specs.Held.{IsHeld}
 use Rattle.text_sizes.proofs.Bytes.{weights_count, weights_fit}
 use Rattle.text_sizes.proofs.Names.{items_few}
 
-abbrev tokens_of : FunctionTree → ℕ
+abbrev pub tokens_of : FunctionTree → ℕ
 tokens_of f = f.tokens
 
 one_item : (i : ItemPart) (n : ℕ) (items : List ItemTree) →

@@ -9,8 +9,9 @@ use Rattle.lin_ir.specs.declared.lin.LinOp.{LinOp}
 use Rattle.lin_ir.specs.declared.lin.LinOp.TheVariants as lin
 use Rattle.lin_ir.specs.declared.lin.Line.{Line}
 use Rattle.linear_rules.proofs.Homes.{IsIn, is_first, is_later}
-use Rattle.linear_rules.proofs.Marks.{all_in, pairs_here, pairs_later}
+use Rattle.linear_rules.proofs.Marks.{all_in}
 use Rattle.linear_rules.proofs.Walked.{Tail, tail_all, tail_more}
+use Rattle.bs_words.proofs.Lists.{pairs_here, pairs_later}
 use Rattle.tidy_rules.specs.Leaving.{bare, LabelsBetween, none_between, label_between}
 use Rattle.tidy_rules.proofs.Shape.{compare}
 

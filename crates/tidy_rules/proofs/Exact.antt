@@ -3,6 +3,7 @@
 use Rattle.std.proofs.Common.{◌≡◌, ◌≢◌, ℕ, Bool, true, false, cond, not, ◌||◌, ◌⊎◌, inl, inr, ⊎_elim, List, [], ◌∷◌, length, Option, Some, None, refl, sym, ap, ◌∙◌, subst}
 use Rattle.std.proofs.lemmas.Bool.{true≢false, eq-eqb}
 use Rattle.std.specs.List.{Contains}
+use Rattle.std.proofs.lemmas.Option.{none-some, same_Some}
 use Rattle.bs_words.specs.Fits.{fits, type_of_comp}
 use Rattle.bs_words.specs.declared.types.Comp.{Comp}
 use Rattle.bs_words.specs.declared.types.Comp.TheVariants as comp
@@ -10,13 +11,13 @@ use Rattle.bs_words.specs.declared.types.Loc.{Loc}
 use Rattle.bs_words.specs.declared.types.Loc.TheVariants as loc
 use Rattle.bs_words.specs.declared.values.Value.{Value}
 use Rattle.bs_words.specs.declared.values.Value.TheVariants as value
+use Rattle.bs_words.proofs.Lists.{none_in}
 use Rattle.mach_ir.specs.Acts.{Around, Target}
 use Rattle.mach_ir.specs.Meaning.{is_destroyed}
 use Rattle.mach_ir.specs.Runs.{Place, Step, Tally}
 use Rattle.mach_ir.specs.Keeps.{Alike}
 use Rattle.mach_ir.specs.Walks.{OneOf}
-use Rattle.mach_laws.proofs.Walking.{none_in}
-use Rattle.lin_ir.specs.Formed.{comps, FlowHasForm, label_form, jump_form, exit_form, branch_form, switch_form, push_form, pop_form, enter_form, IsFormed, formed_op, formed_flow, is_colour, is_slot, IsLocation, is_home, is_spare, Locates, WellFormed}
+use Rattle.lin_ir.specs.Formed.{FlowHasForm, label_form, jump_form, exit_form, branch_form, switch_form, push_form, pop_form, enter_form, IsFormed, formed_op, formed_flow, is_colour, is_slot, IsLocation, is_home, is_spare, Locates, WellFormed}
 use Rattle.lin_ir.specs.Meaning.{NamedAt, State, Locations, same_loc, put, put_if, put_all, clear, destroyed_by, with_held, as_type, values, is_named, is_val, are_vals, unless_pointer, unless_misnamed, past_frame, passes_frame, code_at, after_label, on_act, lin_act}
 use Rattle.lin_ir.specs.Meaning as poison
 use Rattle.lin_ir.specs.Walks as walks
@@ -33,15 +34,10 @@ use Rattle.linear_rules.specs.Keeps.{NamesReached, NoAddrReached}
 use Rattle.linear_rules.proofs.Homes.{IsIn, is_first, is_later, in_of, contains_of, all_vals, named_of}
 use Rattle.linear_rules.proofs.Marks.{all_in}
 use Rattle.linear_rules.proofs.Walked.{Tail, reached_tail, reached_stands, tail_in, stands_tail, live_read}
+use Rattle.lin_laws.proofs.Forms.{no_spots}
 use Rattle.tidy_rules.specs.Keeps.{SameRound}
 use Rattle.tidy_rules.proofs.Turns.{is_bare, turns}
 use Rattle.tidy_rules.proofs.Simulate.{Arrives, Answers, stuck, steps, Closed, Leads, acts, simulates}
-
-none_some : {A : Type 0} (x : A) → None ≡ Some x → ⊥
-none_some x e = cc
-
-some_same : {A : Type 0} (x y : A) → Some x ≡ Some y → x ≡ y
-some_same x y e = cc
 
 -- ---- what writes nothing has no results
 
@@ -54,13 +50,6 @@ no_comps (branch_form t) e = refl
 no_comps switch_form e = refl
 no_comps pop_form e = refl
 no_comps enter_form e = absurd (true≢false (sym e))
-
-no_spots : (ss : List Spot) → comps ss ≡ [] → ss ≡ []
-no_spots [] e = refl
-no_spots (s ∷ ss) e = absurd (out s.comp (comps ss) e)
-  where
-    out : (t : Comp) (ts : List Comp) → t ∷ ts ≡ [] → ⊥
-    out t ts e = cc
 
 bare_writes : {i : Line} → IsFormed i → is_bare i.op ≡ true → (l : Loc) → Writes i l → ⊥
 bare_writes (formed_op h) e l w = true≢false (sym e)
@@ -89,7 +78,7 @@ same_self (loc.Machine n) out = eq-eqb n n refl
 same_self (loc.Slot n) out = eq-eqb n n refl
 same_self loc.Unset out = absurd (out refl)
 
-abbrev spot : Loc → Comp → Spot
+abbrev pub spot : Loc → Comp → Spot
 spot l t = record { loc = l; comp = t }
 
 module _ (end : ℕ) (f g : Locations) where
@@ -104,9 +93,9 @@ module _ (end : ℕ) (f g : Locations) where
 
   put_both : (ss : List Spot) (vs : List Value) (f' : Locations) → put_all end ss vs f ≡ Some f' → Puts ss vs f'
   put_both [] [] f' e =
-      record { file = g; puts = refl; each = λ l fixed. inr (ap (λ (h : Locations). h l) (some_same f' f (sym e)), refl, λ t z. elim z [ ]) }
-  put_both [] (v ∷ vs) f' e = absurd (none_some f' e)
-  put_both (s ∷ ss) [] f' e = absurd (none_some f' e)
+      record { file = g; puts = refl; each = λ l fixed. inr (ap (λ (h : Locations). h l) (same_Some f' f (sym e)), refl, λ t z. elim z [ ]) }
+  put_both [] (v ∷ vs) f' e = absurd (none-some f' e)
+  put_both (s ∷ ss) [] f' e = absurd (none-some f' e)
   put_both (s ∷ ss) (v ∷ vs) f' e = by (fits end (type_of_comp s.comp) v) (put_all end ss vs f) refl refl e (λ h u. put_both ss vs h u)
     where
       at_loc : (h k : Locations) (l : Loc) → l ≢ loc.Unset → (b : Bool) → same_loc s.loc l ≡ b → Written ss h k l →
@@ -125,15 +114,15 @@ module _ (end : ℕ) (f g : Locations) where
       by : (b : Bool) (o : Option Locations) → fits end (type_of_comp s.comp) v ≡ b → put_all end ss vs f ≡ o → put_if b s v o ≡ Some f' →
           ((h : Locations) → put_all end ss vs f ≡ Some h → Puts ss vs h) →
           Puts (s ∷ ss) (v ∷ vs) f'
-      by true None t u e ih = absurd (none_some f' e)
-      by false None t u e ih = absurd (none_some f' e)
-      by false (Some h) t u e ih = absurd (none_some f' e)
+      by true None t u e ih = absurd (none-some f' e)
+      by false None t u e ih = absurd (none-some f' e)
+      by false (Some h) t u e ih = absurd (none-some f' e)
       by true (Some h) t u e ih =
           let y = ih h u in
           record {
             file = put s v y.file;
             puts = ap (λ b. put_if b s v (put_all end ss vs g)) t ∙ ap (put_if true s v) y.puts;
-            each = λ l fixed. subst (λ (x : Locations). Written (s ∷ ss) x (put s v y.file) l) (some_same (put s v h) f' e)
+            each = λ l fixed. subst (λ (x : Locations). Written (s ∷ ss) x (put s v y.file) l) (same_Some (put s v h) f' e)
                 (at_loc h y.file l fixed (same_loc s.loc l) refl (y.each l fixed));
           }
 
@@ -181,18 +170,18 @@ module _ (c : Place) (m : Lin) (well : WellFormed m) (safe : NoAddrReached m) (n
   -- a read of what has been lost is stuck in both
   lost_read : (t : Comp) (s o : ℕ) (x : Option (List Value)) (vs : List Value) → (t ≡ comp.Val → ⊥) → (t ≡ comp.Addr → ⊥) → with_held end t
       (Some (value.Block s o)) x ≡ Some vs → ⊥
-  lost_read comp.Int s o x vs nv na e = none_some vs e
+  lost_read comp.Int s o x vs nv na e = none-some vs e
   lost_read comp.Val s o x vs nv na e = nv refl
   lost_read comp.Addr s o x vs nv na e = na refl
-  lost_read comp.Float s o x vs nv na e = none_some vs e
+  lost_read comp.Float s o x vs nv na e = none-some vs e
 
   no_more : (t : Comp) (o : Option Value) (vs : List Value) → with_held end t o None ≡ Some vs → ⊥
-  no_more t None vs e = none_some vs e
+  no_more t None vs e = none-some vs e
   no_more t (Some v) vs e = by (fits end (type_of_comp t) v) e
     where
       by : (b : Bool) → as_type b v None ≡ Some vs → ⊥
-      by true e = none_some vs e
-      by false e = none_some vs e
+      by true e = none-some vs e
+      by false e = none-some vs e
 
   read_same : (f g : Locations) (Reads : Loc → Comp → Type 0) → Near Reads f g → (ss : List Spot) →
       ((s : Spot) → IsIn s ss → (s.loc ≢ loc.Unset) × Reads s.loc s.comp) → (vs : List Value) →

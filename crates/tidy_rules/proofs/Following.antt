@@ -2,6 +2,7 @@
 use Rattle.std.proofs.Common.{◌≡◌, ℕ, zero, suc, Bool, true, false, cond, List, [], ◌∷◌, length, Option, Some, None, refl, sym, ap, subst}
 use Rattle.std.proofs.lemmas.Bool.{true≢false}
 use Rattle.std.specs.Option.{unwrap_or, option_map}
+use Rattle.std.proofs.lemmas.Option.{none-some, same_Some}
 use Rattle.lin_ir.specs.Meaning.{after_label}
 use Rattle.lin_ir.specs.declared.lin.Flow.{Flow}
 use Rattle.lin_ir.specs.declared.lin.Flow.TheVariants as flow
@@ -20,12 +21,6 @@ use Rattle.tidy_rules.proofs.TurningAll.{turns_all}
 abbrev pub line : LinOp → List Spot → List Spot → Line
 line f args results = record { op = f; args = args; results = results }
 
-no_label : (l : ℕ) → None ≡ Some l → ⊥
-no_label l e = cc
-
-same_label : (k l : ℕ) → Some k ≡ Some l → k ≡ l
-same_label k l e = cc
-
 -- ---- lines
 
 pub label_is : (f : LinOp) (args results : List Spot) → is_label f args results ≡ true → (l : ℕ) × (line f args results ≡ bare (flow.Label l))
@@ -42,30 +37,30 @@ label_is (lin.Flow flow.EnterTrap) args results e = absurd (true≢false (sym e)
 label_is (lin.Op f) args results e = absurd (true≢false (sym e))
 
 pub jump_is : (l : ℕ) (f : LinOp) (args results : List Spot) → jumps_to f args results ≡ Some l → line f args results ≡ bare (flow.Jump l)
-jump_is l (lin.Flow (flow.Jump k)) [] [] e = ap (λ k. bare (flow.Jump k)) (same_label k l e)
-jump_is l (lin.Flow (flow.Jump k)) [] (s ∷ ss) e = absurd (no_label l e)
-jump_is l (lin.Flow (flow.Jump k)) (s ∷ ss) results e = absurd (no_label l e)
-jump_is l (lin.Flow (flow.Label k)) args results e = absurd (no_label l e)
-jump_is l (lin.Flow (flow.Exit k)) args results e = absurd (no_label l e)
-jump_is l (lin.Flow (flow.Branch t k)) args results e = absurd (no_label l e)
-jump_is l (lin.Flow (flow.Switch ls)) args results e = absurd (no_label l e)
-jump_is l (lin.Flow (flow.PushTrap k)) args results e = absurd (no_label l e)
-jump_is l (lin.Flow flow.PopTrap) args results e = absurd (no_label l e)
-jump_is l (lin.Flow flow.EnterTrap) args results e = absurd (no_label l e)
-jump_is l (lin.Op f) args results e = absurd (no_label l e)
+jump_is l (lin.Flow (flow.Jump k)) [] [] e = ap (λ k. bare (flow.Jump k)) (same_Some k l e)
+jump_is l (lin.Flow (flow.Jump k)) [] (s ∷ ss) e = absurd (none-some l e)
+jump_is l (lin.Flow (flow.Jump k)) (s ∷ ss) results e = absurd (none-some l e)
+jump_is l (lin.Flow (flow.Label k)) args results e = absurd (none-some l e)
+jump_is l (lin.Flow (flow.Exit k)) args results e = absurd (none-some l e)
+jump_is l (lin.Flow (flow.Branch t k)) args results e = absurd (none-some l e)
+jump_is l (lin.Flow (flow.Switch ls)) args results e = absurd (none-some l e)
+jump_is l (lin.Flow (flow.PushTrap k)) args results e = absurd (none-some l e)
+jump_is l (lin.Flow flow.PopTrap) args results e = absurd (none-some l e)
+jump_is l (lin.Flow flow.EnterTrap) args results e = absurd (none-some l e)
+jump_is l (lin.Op f) args results e = absurd (none-some l e)
 
 pub exit_is : (l : ℕ) (f : LinOp) (args results : List Spot) → exits_to f args results ≡ Some l → line f args results ≡ bare (flow.Exit l)
-exit_is l (lin.Flow (flow.Exit k)) [] [] e = ap (λ k. bare (flow.Exit k)) (same_label k l e)
-exit_is l (lin.Flow (flow.Exit k)) [] (s ∷ ss) e = absurd (no_label l e)
-exit_is l (lin.Flow (flow.Exit k)) (s ∷ ss) results e = absurd (no_label l e)
-exit_is l (lin.Flow (flow.Label k)) args results e = absurd (no_label l e)
-exit_is l (lin.Flow (flow.Jump k)) args results e = absurd (no_label l e)
-exit_is l (lin.Flow (flow.Branch t k)) args results e = absurd (no_label l e)
-exit_is l (lin.Flow (flow.Switch ls)) args results e = absurd (no_label l e)
-exit_is l (lin.Flow (flow.PushTrap k)) args results e = absurd (no_label l e)
-exit_is l (lin.Flow flow.PopTrap) args results e = absurd (no_label l e)
-exit_is l (lin.Flow flow.EnterTrap) args results e = absurd (no_label l e)
-exit_is l (lin.Op f) args results e = absurd (no_label l e)
+exit_is l (lin.Flow (flow.Exit k)) [] [] e = ap (λ k. bare (flow.Exit k)) (same_Some k l e)
+exit_is l (lin.Flow (flow.Exit k)) [] (s ∷ ss) e = absurd (none-some l e)
+exit_is l (lin.Flow (flow.Exit k)) (s ∷ ss) results e = absurd (none-some l e)
+exit_is l (lin.Flow (flow.Label k)) args results e = absurd (none-some l e)
+exit_is l (lin.Flow (flow.Jump k)) args results e = absurd (none-some l e)
+exit_is l (lin.Flow (flow.Branch t k)) args results e = absurd (none-some l e)
+exit_is l (lin.Flow (flow.Switch ls)) args results e = absurd (none-some l e)
+exit_is l (lin.Flow (flow.PushTrap k)) args results e = absurd (none-some l e)
+exit_is l (lin.Flow flow.PopTrap) args results e = absurd (none-some l e)
+exit_is l (lin.Flow flow.EnterTrap) args results e = absurd (none-some l e)
+exit_is l (lin.Op f) args results e = absurd (none-some l e)
 
 -- ---- code
 
@@ -77,7 +72,7 @@ record StandsAt (code : List Line) (f : Flow) : Type 0 where
 -- what is told of the first line that is no label is told of a jump, or of an exit
 module _ (told : LinOp → (args results : List Spot) → Option ℕ) (goes : ℕ → Flow) (is : (l : ℕ) (f : LinOp) (args results : List Spot) → told f args results ≡ Some l → line f args results ≡ bare (goes l)) where
   stands_at : (code : List Line) (l : ℕ) → first_goes told code ≡ Some l → StandsAt code (goes l)
-  stands_at [] l e = absurd (no_label l e)
+  stands_at [] l e = absurd (none-some l e)
   stands_at (i ∷ next) l e = by (is_label i.op i.args i.results) refl e (stands_at next l)
     where
       by : (b : Bool) → is_label i.op i.args i.results ≡ b → cond b (first_goes told next) (told i.op i.args i.results) ≡ Some l →
@@ -108,10 +103,10 @@ module _ (m : Lin) where
   goes_out l n e = by (leaves_to (after_label (last_label m l) m.code)) refl e
     where
       by : (o : Option ℕ) → leaves_to (after_label (last_label m l) m.code) ≡ o → option_map (last_label m) o ≡ Some n → ExitsTo m l n
-      by None u e = absurd (no_label n e)
+      by None u e = absurd (none-some n e)
       by (Some k) u e =
           by_exit (goes_last l) (stands_at exits_to flow.Exit exit_is (after_label (last_label m l) m.code) k u).between
-          (subst (GoesOnTo m k) (same_label (last_label m k) n e) (goes_last k))
+          (subst (GoesOnTo m k) (same_Some (last_label m k) n e) (goes_last k))
 
   -- the jumps of a function may all go at once where others lead
   pub redirects_all : Redirects m (redirected_all m)

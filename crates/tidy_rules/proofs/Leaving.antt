@@ -4,9 +4,9 @@ use Rattle.std.proofs.lemmas.Bool.{true≢false}
 use Rattle.std.specs.List.{Contains}
 use Rattle.bs_words.specs.declared.types.Comp.{Comp}
 use Rattle.bs_words.specs.declared.types.Loc.{Loc}
+use Rattle.bs_words.proofs.Lists.{none_in, in_cons, head_same, tail_same, none_there}
 use Rattle.mach_ir.specs.Acts.{Target, On, At}
 use Rattle.mach_ir.specs.Walks.{OneOf, this, other}
-use Rattle.mach_laws.proofs.Walking.{none_in, in_cons}
 use Rattle.lin_ir.specs.Formed.{IsSelfMove, is_self_move}
 use Rattle.lin_ir.specs.Meaning.{has_label, after_label, code_at, passes_frame}
 use Rattle.lin_ir.specs.Walks as walks
@@ -22,15 +22,6 @@ use Rattle.linear_rules.proofs.Homes.{IsIn, is_first, is_later}
 use Rattle.linear_rules.proofs.Walked.{Tail, tail_all, tail_next, tail_stands, reached_tail}
 use Rattle.linear_rules.specs.Keeps.{NoAddrReached, OneTraps}
 use Rattle.tidy_rules.specs.Leaving.{is_landing, bare, LabelsBetween, none_between, label_between, IsUseless, unreached, unread, skipped, without, with_code}
-
-pub first_same : (i j : Line) (is js : List Line) → i ∷ is ≡ j ∷ js → i ≡ j
-first_same i j is js e = cc
-
-pub rest_same : (i j : Line) (is js : List Line) → i ∷ is ≡ j ∷ js → is ≡ js
-rest_same i j is js e = cc
-
-none_first : (j : Line) (js : List Line) → [] ≡ j ∷ js → ⊥
-none_first j js e = cc
 
 -- ---- moves of a location to itself
 
@@ -179,7 +170,7 @@ module _ (m : Lin) (goes : ℕ → Bool) (each : (i : Line) (next : List Line) �
     pub back : (l : Loc) (t : Comp) → Live m l t (j ∷ next) tries → Live m l t is tries
 
   pub stayed : (is : List Line) (tries : List ℕ) → Comes m is tries → (j : Line) (js : List Line) → K is ≡ j ∷ js → Stays is j js tries
-  stayed [] tries c j js e = absurd (none_first j js e)
+  stayed [] tries c j js e = absurd (none_there e)
   stayed (i ∷ next) tries c j js e = by (goes (length next)) refl e (λ c' u. stayed next tries c' j js u)
     where
       gone : IsUseless m i next → K next ≡ j ∷ js → (Comes m next tries → K next ≡ j ∷ js → Stays next j js tries) → Stays (i ∷ next) j js tries
@@ -214,11 +205,11 @@ module _ (m : Lin) (goes : ℕ → Bool) (each : (i : Line) (next : List Line) �
       by : (b : Bool) → goes (length next) ≡ b → cond b (K next) (i ∷ K next) ≡ j ∷ js → (Comes m next tries → K next ≡ j ∷ js → Stays next j js tries) →
           Stays (i ∷ next) j js tries
       by false s e ih =
-          let head : i ≡ j = first_same i j (K next) js e in
+          let head : i ≡ j = head_same e in
           record {
             next = next;
             stays = s;
-            same = rest_same i j (K next) js e;
+            same = tail_same e;
             reached = subst (λ x. Comes m (x ∷ next) tries) head c;
             back = λ l t v. subst (λ x. Live m l t (x ∷ next) tries) (sym head) v;
           }

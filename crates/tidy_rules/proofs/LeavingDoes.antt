@@ -6,13 +6,14 @@ use Rattle.bs_words.specs.Memory.{Memory}
 use Rattle.bs_words.specs.declared.types.Comp.TheVariants as comp
 use Rattle.bs_words.specs.declared.types.Loc.{Loc}
 use Rattle.bs_words.specs.declared.values.Value.{Value}
+use Rattle.bs_words.proofs.Lists.{head_same, tail_same}
 use Rattle.cmm_meaning.specs.State.{Doing}
 use Rattle.mach_ir.specs.Acts.{Around, On, At}
-use Rattle.mach_ir.specs.Runs.{Place, Step, Continues, first_tally, entered}
+use Rattle.mach_ir.specs.Runs.{Place, Step, Continues}
 use Rattle.mach_ir.specs.Walks.{this}
 use Rattle.lin_ir.specs.Formed.{IsSelfMove, is_self_move}
 use Rattle.lin_ir.specs.Keeps.{IsNamedIn}
-use Rattle.lin_ir.specs.Meaning.{State, Locations, same_loc, put_all, put_if, as_type, with_held, values, wrote, lin_act, passes_frame, after_label, begun, start}
+use Rattle.lin_ir.specs.Meaning.{State, Locations, same_loc, put_if, as_type, with_held, values, wrote, lin_act, passes_frame, after_label, start}
 use Rattle.lin_ir.specs.Walks as walks
 use Rattle.lin_ir.specs.Walks.{Stands, Reached, at_entry, by_step, by_raise}
 use Rattle.lin_ir.specs.declared.lin.Flow.TheVariants as flow
@@ -22,16 +23,17 @@ use Rattle.lin_ir.specs.declared.lin.Lin.{Lin}
 use Rattle.lin_ir.specs.declared.lin.Spot.{Spot}
 use Rattle.linear_rules.specs.Kept as kept
 use Rattle.linear_rules.specs.Kept.{step, ValsHeld, Comes}
-use Rattle.linear_rules.proofs.Homes.{in_of, contains_of, same_loc_is}
+use Rattle.linear_rules.proofs.Homes.{in_of, contains_of}
 use Rattle.linear_rules.proofs.Walked.{Tail, tail_next, tail_stands, reached_tail, reached_stands}
 use Rattle.mach_ir.specs.declared.mach.MachOp.{MachOp}
 use Rattle.mach_ir.specs.declared.op.Op.TheVariants as op
 use Rattle.mach_ir.specs.declared.op.Pure.TheVariants as pure
+use Rattle.lin_laws.proofs.Forms.{same_loc_is}
 use Rattle.tidy_rules.specs.Keeps.{Begins, KeepsLin}
 use Rattle.tidy_rules.specs.Leaving.{bare, LabelsBetween, none_between, label_between, IsUseless, unreached, unread, skipped, LeavesOut}
 use Rattle.tidy_rules.proofs.Turns.{turns}
-use Rattle.tidy_rules.proofs.Simulate.{Arrives, both_continue, first_stuck, goes_alone, Answers, stays, stuck, steps, Closed, Leads, acts, simulates, alike_goes}
-use Rattle.tidy_rules.proofs.Leaving.{K, rest, first_same, rest_same, useless_landing, there, target_rest, handler_rest, live_across, no_addr_rest, in_code}
+use Rattle.tidy_rules.proofs.Simulate.{Arrives, both_continue, first_stuck, goes_alone, Answers, stays, stuck, steps, Closed, Leads, acts, begins_alike}
+use Rattle.tidy_rules.proofs.Leaving.{K, rest, useless_landing, there, target_rest, handler_rest, live_across, no_addr_rest, in_code}
 
 module _ (c : Place) (m : Lin) (goes : ℕ → Bool)
     (each : (i : Line) (next : List Line) → Stands i next m.code → goes (length next) ≡ true → IsUseless m i next) where
@@ -74,8 +76,8 @@ module _ (c : Place) (m : Lin) (goes : ℕ → Bool)
     held_back vals =
         record {
           held = λ k ks same frame l w.
-              let head : i ≡ k = first_same i k (L next) ks same in
-              let tail : L next ≡ ks = rest_same i k (L next) ks same in
+              let head : i ≡ k = head_same same in
+              let tail : L next ≡ ks = tail_same same in
               vals.held i next refl (ap (λ (x : Line). passes_frame x.op) head ∙ frame) l
               (live_across m goes each
               (subst (λ x. walks.LiveAcross R l comp.Val x (L next) a.tries) (sym head)
@@ -131,7 +133,7 @@ module _ (c : Place) (m : Lin) (goes : ℕ → Bool)
   label_calm k js f a =
       record {
         held = λ i next same frame l w. absurd
-            (true≢false (sym frame ∙ ap (λ (x : Line). passes_frame x.op) (sym (first_same (bare (flow.Label k)) i js next same))));
+            (true≢false (sym frame ∙ ap (λ (x : Line). passes_frame x.op) (sym (head_same same))));
       }
 
   lagging : (k : ℕ) (js : List Line) (f : Locations) (a : Around) {x : Step State} → Answer (at js f a) x → Answer (at (bare (flow.Label k) ∷ js) f a) x
@@ -187,27 +189,7 @@ module _ (c : Place) (m : Lin) (goes : ℕ → Bool)
 
   rest_begins : (arguments : List Value) (memory : Memory) (doings : List Doing) (s : State) → start c m arguments memory ≡ Some s →
       Begins c m R arguments memory doings s
-  rest_begins arguments memory doings s is = by (put_all c.setting.end m.params arguments (λ l. None)) refl is
-    where
-      no_state : (s : State) → None ≡ Some s → ⊥
-      no_state s e = cc
-
-      same_state : (x y : State) → Some x ≡ Some y → x ≡ y
-      same_state x y e = cc
-
-      by : (o : Option Locations) → put_all c.setting.end m.params arguments (λ l. None) ≡ o → begun m memory o ≡ Some s →
-          Begins c m R arguments memory doings s
-      by None e g = absurd (no_state s g)
-      by (Some f) e g =
-          subst (Begins c m R arguments memory doings) (same_state (at m.code f (entered memory)) s g)
-          (record {
-            state = at (L m.code) f (entered memory);
-            begins = ap (begun R memory) e;
-            follows = λ n proper.
-                let b = simulates c m (step c R) (ValsHeld c R) Rel closed n (at m.code f (entered memory)) (at (L m.code) f (entered memory))
-                (first_tally c doings) (rel at_entry refl) proper in
-                record { steps = b.count; alike = b.alike; proper = record { goes = alike_goes b.alike; vals = b.fair } };
-          })
+  rest_begins = begins_alike c m R refl Rel closed (λ f memory. rel at_entry refl)
 
 module _ (m : Lin) (goes : ℕ → Bool) (each : (i : Line) (next : List Line) → Stands i next m.code → goes (length next) ≡ true → IsUseless m i next) where
   named_before : (Named : MachOp → Type 0) → IsNamedIn Named (rest m goes each) → IsNamedIn Named m

@@ -7,17 +7,17 @@ use Rattle.bs_words.specs.Memory.{Memory, sizes}
 use Rattle.bs_words.specs.declared.types.Comp.{Comp}
 use Rattle.bs_words.specs.declared.types.Loc.{Loc}
 use Rattle.bs_words.specs.declared.values.Value.{Value}
+use Rattle.bs_words.proofs.Lists.{none_in, head_same, tail_same, none_there}
 use Rattle.cmm_meaning.specs.State.{Doing}
 use Rattle.mach_ir.specs.Acts.{Around, Target, On, At, truth_of, branches}
 use Rattle.mach_ir.specs.Meaning.{is_destroyed}
-use Rattle.mach_ir.specs.Runs.{Place, Step, Pays, first_tally, entered}
+use Rattle.mach_ir.specs.Runs.{Place, Step, Pays}
 use Rattle.mach_ir.specs.Walks.{OneOf, this, other}
 use Rattle.mach_ir.specs.declared.mach.MachOp.{MachOp}
 use Rattle.mach_ir.specs.declared.op.Op.{Op}
-use Rattle.mach_laws.proofs.Walking.{none_in}
 use Rattle.lin_ir.specs.Formed.{is_exit, label_of, lin_operand_seats, lin_result_seats}
 use Rattle.lin_ir.specs.Keeps.{IsNamedIn}
-use Rattle.lin_ir.specs.Meaning.{State, Locations, put_all, clear, values, destroyed_by, lin_act, on_act, wrote, has_label, after_label, code_at, passes_frame, begun, start}
+use Rattle.lin_ir.specs.Meaning.{State, Locations, put_all, clear, values, destroyed_by, lin_act, on_act, wrote, has_label, after_label, code_at, passes_frame, start}
 use Rattle.lin_ir.specs.Walks as walks
 use Rattle.lin_ir.specs.Walks.{targets, may_raise, tries_after, Writes, Reached, at_entry, by_step, by_raise, Live, read, on, aside, LiveAcross, across_step, across_raise}
 use Rattle.lin_ir.specs.declared.lin.Flow.{Flow}
@@ -35,8 +35,8 @@ use Rattle.tidy_rules.specs.Keeps.{Begins, KeepsLin}
 use Rattle.tidy_rules.specs.Leaving.{bare, LabelsBetween, none_between, label_between, with_code}
 use Rattle.tidy_rules.specs.Redirecting.{goes_by, redirected, redirect, GoesOnTo, itself, and_on, ExitsTo, by_exit, Redirects}
 use Rattle.tidy_rules.proofs.Turns.{turns}
-use Rattle.tidy_rules.proofs.Simulate.{Arrives, both_continue, both_pay, first_stuck, Answers, stays, stuck, steps, Closed, Leads, acts, simulates, alike_goes}
-use Rattle.tidy_rules.proofs.Leaving.{first_same, rest_same, jump_unwritten}
+use Rattle.tidy_rules.proofs.Simulate.{Arrives, both_continue, both_pay, first_stuck, Answers, stays, stuck, steps, Closed, Leads, acts, begins_alike}
+use Rattle.tidy_rules.proofs.Leaving.{jump_unwritten}
 
 -- ---- what is the same of a line that is redirected
 
@@ -183,7 +183,7 @@ quiet_reached is_there r = r
 quiet_reached (by_label p) r = quiet_reached p (by_step r (walks.goes On this))
 quiet_reached (by_jump {l = l} p) r = quiet_reached p (by_step r (walks.goes (At l) this))
 
-label_unwritten : (k : ℕ) (l : Loc) → Writes (bare (flow.Label k)) l → ⊥
+pub label_unwritten : (k : ℕ) (l : Loc) → Writes (bare (flow.Label k)) l → ⊥
 label_unwritten k l w = ⊎_elim (λ y. none_in (record { loc = l; comp = y.0 }) y.1) (λ e. true≢false (sym e)) w
 
 quiet_live : {m : Lin} {l : Loc} {t : Comp} {a b : List Line} {tries : List ℕ} → Quiet m a b → Live m l t b tries → Live m l t a tries
@@ -225,9 +225,6 @@ is_jump _ = false
 
 jump_label : (k l : ℕ) → lin.Flow (flow.Jump l) ≡ lin.Flow (flow.Jump k) → k ≡ l
 jump_label k l e = cc
-
-none_first : (j : Line) (js : List Line) → [] ≡ j ∷ js → ⊥
-none_first j js e = cc
 
 module _ (m : Lin) (to : ℕ → ℕ) (exits : ℕ → Option ℕ) (each : (l : ℕ) → GoesOnTo m l (to l)) (out : (l n : ℕ) → exits l ≡ Some n → ExitsTo m l n) where
   abbrev pub T : List Line → List Line
@@ -305,14 +302,13 @@ module _ (m : Lin) (to : ℕ → ℕ) (exits : ℕ → Option ℕ) (each : (l : 
     pub is_next : T next ≡ js
 
   pub split : (is : List Line) (j : Line) (js : List Line) → T is ≡ j ∷ js → Split is j js
-  split [] j js e = absurd (none_first j js e)
+  split [] j js e = absurd (none_there e)
   split (i ∷ is) j js e = record {
     line = i;
     next = is;
     is_code = refl;
-    is_line = first_same (redirect to exits i) j (T is) js e;
-    is_next = rest_same
-        (redirect to exits i) j (T is) js e;
+    is_line = head_same e;
+    is_next = tail_same e;
   }
 
   pub record Source (js : List Line) (tries : List ℕ) : Type 0 where
@@ -515,8 +511,8 @@ module _ (m : Lin) (to : ℕ → ℕ) (exits : ℕ → Option ℕ) (each : (l : 
     held_back i next g a vals =
         record {
           held = λ k ks same frame l w.
-              let head : redirect to exits i ≡ k = first_same (redirect to exits i) k (T next) ks same in
-              let tail : T next ≡ ks = rest_same (redirect to exits i) k (T next) ks same in
+              let head : redirect to exits i ≡ k = head_same same in
+              let tail : T next ≡ ks = tail_same same in
               vals.held i next refl (frame_was i head frame) l (live_across w i next head tail);
         }
 
@@ -527,7 +523,7 @@ module _ (m : Lin) (to : ℕ → ℕ) (exits : ℕ → Option ℕ) (each : (l : 
     jump_line k args results = record { op = lin.Flow (flow.Jump k); args = args; results = results }
 
     passes_none : (i k : Line) (is ks : List Line) → i ∷ is ≡ k ∷ ks → passes_frame i.op ≡ false → passes_frame k.op ≡ true → ⊥
-    passes_none i k is ks e none frame = true≢false (sym frame ∙ ap (λ (j : Line). passes_frame j.op) (sym (first_same i k is ks e)) ∙ none)
+    passes_none i k is ks e none frame = true≢false (sym frame ∙ ap (λ (j : Line). passes_frame j.op) (sym (head_same e)) ∙ none)
 
     exit_held : (n : ℕ) (args results : List Spot) (js : List Line) (g : Locations) (a : Around) → ValsHeld c turned (at (exit_line n args results ∷ js) g a)
     exit_held n args results js g a =
@@ -628,27 +624,7 @@ module _ (m : Lin) (to : ℕ → ℕ) (exits : ℕ → Option ℕ) (each : (l : 
 
     turned_begins : (arguments : List Value) (memory : Memory) (doings : List Doing) (s : State) → start c m arguments memory ≡ Some s →
         Begins c m turned arguments memory doings s
-    turned_begins arguments memory doings s is = by (put_all c.setting.end m.params arguments (λ l. None)) refl is
-      where
-        no_state : (s : State) → None ≡ Some s → ⊥
-        no_state s e = cc
-
-        same_state : (x y : State) → Some x ≡ Some y → x ≡ y
-        same_state x y e = cc
-
-        by : (o : Option Locations) → put_all c.setting.end m.params arguments (λ l. None) ≡ o → begun m memory o ≡ Some s →
-            Begins c m turned arguments memory doings s
-        by None e g = absurd (no_state s g)
-        by (Some f) e g =
-            subst (Begins c m turned arguments memory doings) (same_state (at m.code f (entered memory)) s g)
-            (record {
-              state = at (T m.code) f (entered memory);
-              begins = ap (begun turned memory) e;
-              follows = λ n proper.
-                  let b = simulates c m (step c turned) (ValsHeld c turned) Rel closed n (at m.code f (entered memory)) (at (T m.code) f (entered memory))
-                  (first_tally c doings) (rel at_entry is_there refl) proper in
-                  record { steps = b.count; alike = b.alike; proper = record { goes = alike_goes b.alike; vals = b.fair } };
-            })
+    turned_begins = begins_alike c m turned refl Rel closed (λ f memory. rel at_entry is_there refl)
 
   not_op : (f : Flow) (g : Op) → lin.Flow f ≡ lin.Op g → ⊥
   not_op f g e = cc

@@ -1,43 +1,23 @@
 -- A relation between states of two Linear functions that each step of the first keeps.
-use Rattle.std.proofs.Common.{◌≡◌, ℕ, zero, suc, ◌<◌, true, Option, Some, None, List, [], ◌∷◌, refl, sym, subst, arith}
+use Rattle.std.proofs.Common.{◌≡◌, ℕ, zero, suc, ◌<◌, true, Option, Some, None, List, [], ◌∷◌, refl, sym, subst, arith, ap, ◌∙◌}
+use Rattle.std.proofs.lemmas.Option.{none-some, same_Some}
 use Rattle.bs_words.specs.declared.types.Ret.{Ret}
 use Rattle.bs_words.specs.declared.values.Value.{Value}
+use Rattle.bs_words.specs.Memory.{Memory}
 use Rattle.cmm_meaning.specs.State.{Doing, Asked}
 use Rattle.mach_ir.specs.Acts.{Around, Target, On, At, AtLabel, AtHandler, Act, Goes, Pushes, Jumps, Unwinds, Asks, Replaces, Ends, EndsRaising, Stuck}
-use Rattle.mach_ir.specs.Runs.{Place, Step, Continues, Pays, Deepens, Waits, FinishesBy, Finishes, FinishesRaising, IsStuck, Tally, Run, Running, Asking, Ended, Wrong, runs, paid, came_back, kept_of, handed, onward}
+use Rattle.mach_ir.specs.Runs.{Place, Step, Continues, Pays, Deepens, Waits, FinishesBy, Finishes, FinishesRaising, IsStuck, Tally, Run, Running, Ended, Wrong, runs, paid, came_back, kept_of, handed, onward, first_tally, entered}
 use Rattle.mach_ir.specs.Keeps.{Alike, both_running, both_asking, both_ended}
 use Rattle.mach_ir.specs.Walks.{OneOf}
-use Rattle.lin_ir.specs.Meaning.{State, Locations, put_all, clear, destroyed_by, code_at, after_label, at_handler, wrote, on_act}
+use Rattle.lin_ir.specs.Meaning.{State, Locations, put_all, clear, destroyed_by, code_at, after_label, at_handler, wrote, on_act, begun, start}
 use Rattle.lin_ir.specs.Walks.{targets, may_raise, tries_after}
 use Rattle.lin_ir.specs.declared.lin.Line.{Line}
 use Rattle.lin_ir.specs.declared.lin.Lin.{Lin}
+use Rattle.lin_ir.specs.declared.lin.Spot.{Spot}
 use Rattle.linear_rules.specs.Kept.{step, run, ValsHeld, Proper}
-use Rattle.tidy_rules.specs.Keeps.{SameRound}
+use Rattle.mach_laws.proofs.Runs.{none_below, running_same, alike_goes}
+use Rattle.tidy_rules.specs.Keeps.{SameRound, Begins}
 use Rattle.tidy_rules.proofs.Turns.{is_bare, Turns, goes_in, exits_in, jumps_in, unwinds_in, pushes_in, asks_in}
-
-none_below : {A : Type 0} (k : ℕ) → k < 0 → A
-none_below k le = absurd (omega (arith, le))
-
-running_same : (u v : State) (y z : Tally) → Running u y ≡ Running v z → u ≡ v
-running_same u v y z e = cc
-
-abbrev IsRun : Run State → Run State → Type 0
-IsRun a b = a ≡ b
-
-asking_wrong : (call : Asked) (t : Tally) → IsRun (Asking call t) Wrong → ⊥
-asking_wrong call t e = cc
-
-ended_wrong : (d : Doing) (t : Tally) → IsRun (Ended d t) Wrong → ⊥
-ended_wrong d t e = cc
-
-running_wrong : (s : State) (t : Tally) → Running s t ≡ Wrong → ⊥
-running_wrong s t e = cc
-
--- a run that reports what another does is nowhere stuck
-pub alike_goes : {S : Type 0} {Suit : S → State → Type 0} {a : Run S} {b : Run State} → Alike Suit a b → b ≡ Wrong → ⊥
-alike_goes (both_running {u = u} {t = t} e) q = running_wrong u t q
-alike_goes (both_asking {call = call} {t = t}) q = asking_wrong call t q
-alike_goes (both_ended {doing = d} {t = t}) q = ended_wrong d t q
 
 -- The second function is known by its steps, and by what is asked of a state from which it takes one.
 module _ (c : Place) (m : Lin) (second : State → Step State) (Fair : State → Type 0) (R : State → State → Type 0) where
@@ -169,3 +149,29 @@ module _ (c : Place) (m : Lin) (second : State → Step State) (Fair : State →
     acts (Ends d) t = both_finish
     acts (EndsRaising d) t = both_finish_raising
     acts Stuck t = first_stuck
+
+-- ---- from the start
+
+-- Where the states in which two functions of the same parameters begin are related, the second begins as the first does.
+module _ (c : Place) (m q : Lin) (same : q.params ≡ m.params) (R : State → State → Type 0)
+    (closed : Closed c m (step c q) (ValsHeld c q) R)
+    (entry : (f : Locations) (memory : Memory) →
+    R (record { rest = m.code; file = f; around = entered memory }) (record { rest = q.code; file = f; around = entered memory })) where
+  pub begins_alike : (arguments : List Value) (memory : Memory) (doings : List Doing) (s : State) → start c m arguments memory ≡ Some s →
+      Begins c m q arguments memory doings s
+  begins_alike arguments memory doings s is = by (put_all c.setting.end m.params arguments (λ l. None)) refl is
+    where
+      by : (o : Option Locations) → put_all c.setting.end m.params arguments (λ l. None) ≡ o → begun m memory o ≡ Some s →
+          Begins c m q arguments memory doings s
+      by None e g = absurd (none-some _ g)
+      by (Some f) e g =
+          let one : State = record { rest = m.code; file = f; around = entered memory } in
+          let two : State = record { rest = q.code; file = f; around = entered memory } in
+          subst (Begins c m q arguments memory doings) (same_Some one s g)
+          (record {
+            state = two;
+            begins = ap (λ (ps : List Spot). begun q memory (put_all c.setting.end ps arguments (λ l. None))) same ∙ ap (begun q memory) e;
+            follows = λ n proper.
+                let b = simulates c m (step c q) (ValsHeld c q) R closed n one two (first_tally c doings) (entry f memory) proper in
+                record { steps = b.count; alike = b.alike; proper = record { goes = alike_goes b.alike; vals = b.fair } };
+          })

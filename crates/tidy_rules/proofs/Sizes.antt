@@ -16,8 +16,8 @@ use Rattle.lin_ir.specs.declared.lin.Lin.{Lin}
 use Rattle.linear_rules.specs.Lowered.{is_idle, pops, lines_of, lowered_code}
 use Rattle.linear_rules.specs.Lowered as lowered
 use Rattle.linear_rules.proofs.Homes.{in_of, contains_of}
-use Rattle.linear_rules.proofs.Marks.{instr}
 use Rattle.linear_rules.proofs.Walked.{Tail, tail_all, tail_next}
+use Rattle.mach_laws.proofs.Instructions.{instr}
 use Rattle.tidy_rules.specs.Leaving.{LeavesOften, not_once, once_more}
 use Rattle.tidy_rules.specs.Redirecting.{goes_by, redirected, redirect, Redirects, redirected_all}
 use Rattle.tidy_rules.specs.Regular.{IsRegular}

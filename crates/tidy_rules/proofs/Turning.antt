@@ -5,9 +5,9 @@ use Rattle.std.specs.List.{AllPairs}
 use Rattle.bs_words.specs.declared.types.Comp.{Comp}
 use Rattle.bs_words.specs.declared.types.Comp.TheVariants as comp
 use Rattle.bs_words.specs.declared.types.Loc.{Loc}
+use Rattle.bs_words.proofs.Lists.{none_in, head_same, tail_same, none_there}
 use Rattle.mach_ir.specs.Acts.{Target, On, At, drop_tries}
 use Rattle.mach_ir.specs.Walks.{OneOf, this, other}
-use Rattle.mach_laws.proofs.Walking.{none_in}
 use Rattle.lin_ir.specs.Formed.{label_of, labels_in, goes_to, pushes, is_exit, is_label, GoesDown, WellFormed}
 use Rattle.lin_ir.specs.Meaning.{has_label, after_label, code_at, passes_frame}
 use Rattle.lin_ir.specs.Walks as walks
@@ -26,7 +26,6 @@ use Rattle.tidy_rules.specs.Leaving.{bare, with_code}
 use Rattle.tidy_rules.specs.Turning.{Head, Turn, branch_line, tested_again, label_put, turned_line, turned_lines, ExitsToBranch, Turns}
 use Rattle.tidy_rules.proofs.Ends.{Differ, later_after, pairs_past, at_label, has_own_label, tail_past, split_in, in_left, in_right}
 use Rattle.tidy_rules.proofs.Handlers.{handler_stands}
-use Rattle.tidy_rules.proofs.Leaving.{first_same, rest_same}
 
 -- ---- lines that may be turned, or have a label put after them
 
@@ -55,10 +54,7 @@ new_labels None None = []
 new_labels None (Some l) = l ∷ []
 new_labels (Some t) o = t.here ∷ []
 
-none_first : (j : Line) (js : List Line) → [] ≡ j ∷ js → ⊥
-none_first j js e = cc
-
-none_left : (j : Line) (js : List Line) → j ∷ js ≡ [] → ⊥
+pub none_left : (j : Line) (js : List Line) → j ∷ js ≡ [] → ⊥
 none_left j js e = cc
 
 exit_unwritten : (k : ℕ) (l : Loc) → Writes (bare (flow.Exit k)) l → ⊥
@@ -326,11 +322,11 @@ module _ (m r : Lin) (h : Turns m r) (well : WellFormed m) where
 
   own_onto : {is ks js : List Line} {i j : Line} {tries : List ℕ} {top : Where} → i ∷ ks ≡ j ∷ js → Own is i ks tries top → Own is j js tries top
   own_onto {is} {ks} {js} {i} {j} {tries} {top} e o =
-      subst (λ i. Own is i js tries top) (first_same i j ks js e) (subst (λ ks. Own is i ks tries top) (rest_same i j ks js e) o)
+      subst (λ i. Own is i js tries top) (head_same e) (subst (λ ks. Own is i ks tries top) (tail_same e) o)
 
   view_onto : {is ks js : List Line} {i j : Line} {tries : List ℕ} {top : Where} → i ∷ ks ≡ j ∷ js → View is i ks tries top → View is j js tries top
   view_onto {is} {ks} {js} {i} {j} {tries} {top} e o =
-      subst (λ i. View is i js tries top) (first_same i j ks js e) (subst (λ ks. View is i ks tries top) (rest_same i j ks js e) o)
+      subst (λ i. View is i js tries top) (head_same e) (subst (λ ks. View is i ks tries top) (tail_same e) o)
 
   -- a step of the first goes down
   step_down : {i : Line} {next : List Line} {tries : List ℕ} → Reached m (i ∷ next) tries → (t : Target) → OneOf t (targets i.op) → (d : GoesDown m) →
@@ -385,7 +381,7 @@ module _ (m r : Lin) (h : Turns m r) (well : WellFormed m) where
       (subst (λ js. Stand (head_code c) js tries) (sym (at_here c)) (copied c refl)))))
 
   pub own_image : {j : Line} {ks : List Line} {tries : List ℕ} (is : List Line) → Reached m is tries → T is ≡ j ∷ ks → Own is j ks tries (own_place is)
-  own_image {j} {ks} [] r e = absurd (none_first j ks e)
+  own_image {j} {ks} [] r e = absurd (none_there e)
   own_image (i ∷ next) r e = own_line r (h.turns (length next)) refl (h.opens (length next)) refl e
 
   line_some : (x : Option Turn) (o : Option ℕ) (i : Line) (ks : List Line) → turned_line x o i ++ ks ≡ [] → ⊥

@@ -4,6 +4,7 @@ use Rattle.std.proofs.lemmas.Bool.{true≢false, eq-eqb, eqb-true}
 use Rattle.std.proofs.lemmas.List.Kept.{AllPairs-cons}
 use Rattle.std.proofs.Math.Nat.{le-max_left, le-max_right}
 use Rattle.std.specs.List.{AllPairs}
+use Rattle.std.proofs.lemmas.Option.{same_Some}
 use Rattle.lin_ir.specs.Formed.{label_of, labels_in, WellFormed}
 use Rattle.lin_ir.specs.Meaning.{after_label}
 use Rattle.lin_ir.specs.Walks.{Stands, here, below}
@@ -15,12 +16,12 @@ use Rattle.lin_ir.specs.declared.lin.Lin.{Lin}
 use Rattle.lin_ir.specs.declared.lin.Spot.{Spot}
 use Rattle.linear_rules.proofs.Homes.{IsIn, is_first, is_later}
 use Rattle.linear_rules.proofs.Lines.{all_of}
-use Rattle.linear_rules.proofs.Marks.{all_in, pairs_here}
+use Rattle.linear_rules.proofs.Marks.{all_in}
 use Rattle.linear_rules.proofs.Walked.{Tail, tail_all, tail_next, tail_label, tail_stands, stands_tail}
+use Rattle.bs_words.proofs.Lists.{pairs_here, head_same}
 use Rattle.tidy_rules.specs.Leaving.{bare}
 use Rattle.tidy_rules.specs.Turning.{Head, Turn, turned_lines, ExitsToBranch, Turns, next_free, label_here, label_on, head_by, head_at, stands_first, exit_head, turn_for, line_turn, turn_at, is_on, is_led_to, opened_at, turned_all}
 use Rattle.tidy_rules.proofs.Ends.{Differ, tail_length, same_tail, later_label, pairs_past, in_left, in_right, split_in}
-use Rattle.tidy_rules.proofs.Leaving.{first_same}
 use Rattle.tidy_rules.proofs.Turning.{head_line, new_labels, labels_of_line}
 
 no_head : {A : Type 0} (d : Head) → None ≡ Some d → A
@@ -46,9 +47,6 @@ no_label l e = absurd (out e)
   where
     out : None ≡ Some l → ⊥
     out e = cc
-
-same_label : (x y : ℕ) → Some x ≡ Some y → x ≡ y
-same_label x y e = cc
 
 -- labels that stand are below the first free one
 below_free : {l : ℕ} (ls : List ℕ) → IsIn l ls → l < next_free ls
@@ -191,7 +189,7 @@ module _ (m : Lin) (free : ℕ) where
   was_opened n l e = by (is_led_to m free (label_on free n) m.code) refl e
     where
       by : (b : Bool) → is_led_to m free (label_on free n) m.code ≡ b → cond b (Some (label_on free n)) None ≡ Some l → OpenedAt n l
-      by true u e = record { led = u; label = sym (same_label (label_on free n) l e) }
+      by true u e = record { led = u; label = sym (same_Some (label_on free n) l e) }
       by false u e = no_label l e
 
   branch_opened : (i : Line) (next : List Line) (l : ℕ) → Stands i next m.code → opened_at m free (length next) ≡ Some l → (d : Head) × (i ≡ head_line d)
@@ -201,7 +199,7 @@ module _ (m : Lin) (free : ℕ) where
       let at = t.exits.at in
       let there : Tail (head_line led.turn.head ∷ at.rest) m.code = subst (λ xs. Tail xs m.code) at.is (tail_label t.exits.label m.code) in
       let far : length next ≡ length at.rest = on_same free (length next) (length at.rest) (sym led.on ∙ at.on) in
-      (led.turn.head, first_same i (head_line led.turn.head) next at.rest (same_tail (stands_tail s) there (ap suc far)))
+      (led.turn.head, head_same (same_tail (stands_tail s) there (ap suc far)))
 
   exit_turned : (i : Line) (next : List Line) (t : Turn) → Stands i next m.code → turn_at m free m.code (length next) ≡ Some t →
       ExitsToBranch m (opened_at m free) i t.head

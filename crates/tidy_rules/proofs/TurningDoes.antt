@@ -4,15 +4,16 @@ use Rattle.std.proofs.lemmas.Bool.{true≢false}
 use Rattle.bs_words.specs.Memory.{Memory, sizes}
 use Rattle.bs_words.specs.declared.types.Comp.TheVariants as comp
 use Rattle.bs_words.specs.declared.values.Value.{Value}
+use Rattle.bs_words.proofs.Lists.{head_same, tail_same}
 use Rattle.cmm_meaning.specs.State.{Doing}
 use Rattle.mach_ir.specs.Acts.{Around, Target, On, At, opposite, truth_of, branches}
-use Rattle.mach_ir.specs.Runs.{Place, Step, Continues, first_tally, entered}
+use Rattle.mach_ir.specs.Runs.{Place, Step, Continues}
 use Rattle.mach_ir.specs.Walks.{OneOf, this, other}
 use Rattle.mach_ir.specs.declared.mach.MachOp.{MachOp}
 use Rattle.mach_ir.specs.declared.op.Op.{Op}
 use Rattle.lin_ir.specs.Formed.{WellFormed}
 use Rattle.lin_ir.specs.Keeps.{IsNamedIn}
-use Rattle.lin_ir.specs.Meaning.{State, Locations, put_all, values, lin_act, on_act, after_label, code_at, passes_frame, begun, start}
+use Rattle.lin_ir.specs.Meaning.{State, Locations, values, lin_act, on_act, after_label, code_at, passes_frame, start}
 use Rattle.lin_ir.specs.Walks as walks
 use Rattle.lin_ir.specs.Walks.{targets, tries_after, Reached, at_entry, by_step, by_raise, LiveAcross}
 use Rattle.lin_ir.specs.declared.lin.Flow.{Flow}
@@ -32,8 +33,7 @@ use Rattle.tidy_rules.specs.Regular.{IsRegular}
 use Rattle.tidy_rules.specs.Turning as turning
 use Rattle.tidy_rules.specs.Turning.{branch_line}
 use Rattle.tidy_rules.proofs.Turns.{turns}
-use Rattle.tidy_rules.proofs.Simulate.{Arrives, both_continue, both_pay, first_stuck, goes_alone, Answers, stays, stuck, steps, Closed, Leads, acts, simulates, alike_goes}
-use Rattle.tidy_rules.proofs.Leaving.{first_same, rest_same}
+use Rattle.tidy_rules.proofs.Simulate.{Arrives, both_continue, both_pay, first_stuck, goes_alone, Answers, stays, stuck, steps, Closed, Leads, acts, begins_alike}
 use Rattle.tidy_rules.proofs.Turning.{T, R, Where, Stand, image, Own, same, other_way, exits, View, own, past_label, past_jump, head_line, own_image, view, Moves, live_across, no_addr_turned, handler_turned, image_some, stands_none}
 use Rattle.tidy_rules.proofs.TurningLines.{From, was_line, new_line, new_flow, from_line}
 
@@ -63,7 +63,7 @@ module _ (m r : Lin) (h : turning.Turns m r) (well : WellFormed m) where
     -- ---- what is asked at frame points
 
     passes_none : (i k : Line) (is ks : List Line) → i ∷ is ≡ k ∷ ks → passes_frame i.op ≡ false → passes_frame k.op ≡ true → ⊥
-    passes_none i k is ks e none frame = true≢false (sym frame ∙ ap (λ (j : Line). passes_frame j.op) (sym (first_same i k is ks e)) ∙ none)
+    passes_none i k is ks e none frame = true≢false (sym frame ∙ ap (λ (j : Line). passes_frame j.op) (sym (head_same e)) ∙ none)
 
     flow_held : (j : Line) (js : List Line) (g : Locations) (a : Around) → passes_frame j.op ≡ false → ValsHeld c Q (at (j ∷ js) g a)
     flow_held j js g a none = record { held = λ k ks same frame l w. absurd (passes_none j k js ks same none frame) }
@@ -74,8 +74,8 @@ module _ (m r : Lin) (h : turning.Turns m r) (well : WellFormed m) where
     line_held {i} {next} {ks} g a moves reached vals =
         record {
           held = λ k js same frame l w.
-              let head : i ≡ k = first_same i k ks js same in
-              let tail : ks ≡ js = rest_same i k ks js same in
+              let head : i ≡ k = head_same same in
+              let tail : ks ≡ js = tail_same same in
               vals.held i next refl (ap (λ (k : Line). passes_frame k.op) head ∙ frame) l
               (live_across m r h well moves reached
               (subst (λ k. LiveAcross Q l comp.Val k ks a.tries) (sym head) (subst (λ js. LiveAcross Q l comp.Val k js a.tries) (sym tail) w)));
@@ -177,27 +177,7 @@ module _ (m r : Lin) (h : turning.Turns m r) (well : WellFormed m) where
 
     turning_begins : (arguments : List Value) (memory : Memory) (doings : List Doing) (s : State) → start c m arguments memory ≡ Some s →
         Begins c m Q arguments memory doings s
-    turning_begins arguments memory doings s is = by (put_all c.setting.end m.params arguments (λ l. None)) refl is
-      where
-        no_state : (s : State) → None ≡ Some s → ⊥
-        no_state s e = cc
-
-        same_state : (x y : State) → Some x ≡ Some y → x ≡ y
-        same_state x y e = cc
-
-        by : (o : Option Locations) → put_all c.setting.end m.params arguments (λ l. None) ≡ o → begun m memory o ≡ Some s →
-            Begins c m Q arguments memory doings s
-        by None e g = absurd (no_state s g)
-        by (Some f) e g =
-            subst (Begins c m Q arguments memory doings) (same_state (at m.code f (entered memory)) s g)
-            (record {
-              state = at Q.code f (entered memory);
-              begins = ap (begun Q memory) e;
-              follows = λ n proper.
-                  let b = simulates c m (step c Q) (ValsHeld c Q) Rel closed n (at m.code f (entered memory)) (at Q.code f (entered memory))
-                  (first_tally c doings) (rel (image refl) at_entry) proper in
-                  record { steps = b.count; alike = b.alike; proper = record { goes = alike_goes b.alike; vals = b.fair } };
-            })
+    turning_begins = begins_alike c m Q refl Rel closed (λ f memory. rel (image refl) at_entry)
 
   named_before : (Named : MachOp → Type 0) → IsNamedIn Named Q → IsNamedIn Named m
   named_before Named n = by (from_line m r h well m.code tail_all (in_of n.line Q.code n.among))

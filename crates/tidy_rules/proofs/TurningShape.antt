@@ -1,7 +1,6 @@
 -- Loops turned round: what is kept of the function's shape.
-use Rattle.std.proofs.Common.{◌≡◌, ◌≢◌, ℕ, suc, ◌+◌, ◌≤◌, ◌<◌, Bool, true, false, cond, nat_eq, nat_lt, ◌⊎◌, ⊎_elim, List, [], ◌∷◌, ◌++◌, length, All, Option, Some, None, refl, sym, ap, ◌∙◌, subst, arith}
-use Rattle.std.proofs.lemmas.Bool.{true≢false, eq-eqb, eqb-true}
-use Rattle.std.proofs.lemmas.Bool.Decides.{leb_tells}
+use Rattle.std.proofs.Common.{◌≡◌, ◌≢◌, ℕ, suc, ◌+◌, ◌≤◌, ◌<◌, Bool, true, false, cond, nat_eq, nat_lt, List, [], ◌∷◌, ◌++◌, length, All, Option, Some, None, refl, sym, ap, ◌∙◌, subst, arith}
+use Rattle.std.proofs.lemmas.Bool.{true≢false, eq-eqb, eqb-true, lt-ltb, le-ltb}
 use Rattle.bs_words.specs.declared.types.Comp.{Comp}
 use Rattle.mach_ir.specs.Acts.{Target, On, At}
 use Rattle.mach_ir.specs.Forms.{IsTested}
@@ -38,7 +37,7 @@ use Rattle.tidy_rules.proofs.TurningLines.{IsNew, new_exit, new_label, new_branc
 flow_not_op : (f : Flow) {g : _} → lin.Flow f ≡ lin.Op g → ⊥
 flow_not_op f e = cc
 
-same_flow : (f g : Flow) → lin.Flow f ≡ lin.Flow g → f ≡ g
+pub same_flow : (f g : Flow) → lin.Flow f ≡ lin.Flow g → f ≡ g
 same_flow f g e = cc
 
 label_not : (l : ℕ) (f : LinOp) → f ≡ lin.Flow (flow.Label l) → may_turn f ≡ false
@@ -77,13 +76,7 @@ label_on (lin.Flow (flow.PushTrap k)) e = this
 label_on (lin.Flow flow.PopTrap) e = this
 label_on (lin.Flow flow.EnterTrap) e = this
 
-is_less : (a b : ℕ) → a < b → nat_lt a b ≡ true
-is_less a b lt = ⊎_elim (λ y. y.0) (λ y. let le = y.1 in absurd (omega (arith, lt, le))) (leb_tells (suc a) b)
-
-not_less : (a b : ℕ) → b ≤ a → nat_lt a b ≡ false
-not_less a b le = ⊎_elim (λ y. let lt = y.1 in absurd (omega (arith, lt, le))) (λ y. y.0) (leb_tells (suc a) b)
-
-not_same : (a b : ℕ) → b < a → nat_eq a b ≡ false
+pub not_same : (a b : ℕ) → b < a → nat_eq a b ≡ false
 not_same a b lt = by (nat_eq a b) refl
   where
     by : (c : Bool) → nat_eq a b ≡ c → nat_eq a b ≡ false
@@ -240,15 +233,15 @@ module _ (m r : Lin) (h : Turns m r) (regular : IsRegular m) where
 
   -- a place inside of what became of a line
   found : {i : Line} {next zs : List Line} (n : ℕ) → Tail (i ∷ next) zs → length (L next) < n → n ≤ length (L (i ∷ next)) → where_in zs n ≡ where_at i next n
-  found {i} {next} n tail_all low high = ap (λ b. cond b (where_at i next n) (where_in next n)) (is_less (length (L next)) n low)
+  found {i} {next} n tail_all low high = ap (λ b. cond b (where_at i next n) (where_in next n)) (lt-ltb (length (L next)) n low)
   found n (tail_more {j = j} {zs = zs} w) low high =
       let le = longer w in
-      ap (λ b. cond b (where_at j zs n) (where_in zs n)) (not_less (length (L zs)) n (omega (arith, high, le)))
+      ap (λ b. cond b (where_at j zs n) (where_in zs n)) (le-ltb (length (L zs)) n (omega (arith, high, le)))
       ∙ found n w low high
 
   at_end : (zs : List Line) → where_in zs 0 ≡ own_place []
   at_end [] = refl
-  at_end (i ∷ zs) = ap (λ b. cond b (where_at i zs 0) (where_in zs 0)) (not_less (length (L zs)) 0 (omega arith)) ∙ at_end zs
+  at_end (i ∷ zs) = ap (λ b. cond b (where_at i zs 0) (where_in zs 0)) (le-ltb (length (L zs)) 0 (omega arith)) ∙ at_end zs
 
   own_length : (x : Option Turn) (o : Option ℕ) (i : Line) (next : List Line) → (length (L next) < length (turned_line x o i ++ L next)) ×
       (where_line x o i next (length (turned_line x o i ++ L next)) ≡ own_place (i ∷ next))

@@ -13,7 +13,7 @@ use Rattle.mach_ir.specs.Walks.{OneOf, this, other}
 use Rattle.mach_ir.specs.declared.op.Op.{Op}
 use Rattle.mach_ir.specs.declared.mach.Test.{Test}
 use Rattle.mach_ir.specs.declared.mach.MachOp.TheVariants as mach
-use Rattle.linear_rules.proofs.Turns as ops
+use Rattle.mach_laws.proofs.Turns as ops
 use Rattle.lin_ir.specs.Meaning.{flow_act, lin_act}
 use Rattle.lin_ir.specs.Walks.{targets, may_raise, tries_after}
 use Rattle.lin_ir.specs.declared.lin.Flow.{Flow}

@@ -4,6 +4,7 @@ use Rattle.std.specs.List.{Contains}
 use Rattle.bs_words.specs.declared.types.Comp.{Comp}
 use Rattle.bs_words.specs.declared.types.Comp.TheVariants as comp
 use Rattle.bs_words.specs.declared.types.Loc.{Loc}
+use Rattle.bs_words.proofs.Lists.{head_same, tail_same, none_there}
 use Rattle.mach_ir.specs.Acts.{Target, On, At}
 use Rattle.mach_ir.specs.Walks.{OneOf}
 use Rattle.lin_ir.specs.Meaning.{has_label, after_label, code_at}
@@ -15,11 +16,8 @@ use Rattle.lin_ir.specs.declared.lin.Spot.{Spot}
 use Rattle.linear_rules.proofs.Homes.{IsIn, is_first, is_later, in_of, contains_of}
 use Rattle.linear_rules.proofs.Walked.{Tail, reached_tail}
 use Rattle.tidy_rules.specs.Vals.{as_val, line_as_vals, as_vals}
-use Rattle.tidy_rules.proofs.Leaving.{first_same, rest_same}
 use Rattle.tidy_rules.proofs.Ends.{same_tail}
-
-abbrev spot : Loc → Comp → Spot
-spot l t = record { loc = l; comp = t }
+use Rattle.tidy_rules.proofs.Exact.{spot}
 
 -- ---- operands and results
 
@@ -42,9 +40,6 @@ writes_vals i l w = ⊎_elim (λ y. inl (comp.Val, contains_of (val_in (in_of (s
 writes_of : (i : Line) (l : Loc) → Writes (line_as_vals i) l → Writes i l
 writes_of i l w =
     ⊎_elim (λ y. let x = val_of l y.0 i.results (in_of (spot l y.0) (map as_val i.results) y.1) in inl (x.0, contains_of x.1)) (λ d. inr d) w
-
-none_first : (j : Line) (js : List Line) → [] ≡ j ∷ js → ⊥
-none_first j js e = cc
 
 module _ (m : Lin) where
   abbrev pub V : List Line → List Line
@@ -86,9 +81,9 @@ module _ (m : Lin) where
     is_next : V next ≡ js
 
   split : (is : List Line) (j : Line) (js : List Line) → V is ≡ j ∷ js → Split is j js
-  split [] j js e = absurd (none_first j js e)
+  split [] j js e = absurd (none_there e)
   split (i ∷ is) j js e =
-      record { line = i; next = is; is_code = refl; is_line = first_same (line_as_vals i) j (V is) js e; is_next = rest_same (line_as_vals i) j (V is) js e }
+      record { line = i; next = is; is_code = refl; is_line = head_same e; is_next = tail_same e }
 
   record Source (js : List Line) (tries : List ℕ) : Type 0 where
     code : List Line

@@ -1,6 +1,5 @@
 -- The tidy function: each of its frame points is reached, it is tight, and it keeps what it was made from.
-use Rattle.std.proofs.Common.{◌≡◌, ℕ, true, false, List, ◌∷◌, refl, sym, subst}
-use Rattle.std.proofs.lemmas.Bool.{true≢false}
+use Rattle.std.proofs.Common.{◌≡◌, ℕ, true, List, ◌∷◌, sym, subst}
 use Rattle.mach_ir.specs.Walks as mach_walks
 use Rattle.mach_ir.specs.declared.mach.Mach.{Mach}
 use Rattle.lin_ir.specs.Descriptors.{NamesLives, NoAddrLive}
@@ -9,7 +8,6 @@ use Rattle.lin_ir.specs.Keeps.{Keeps}
 use Rattle.lin_ir.specs.Meaning.{NamedAt, passes_frame}
 use Rattle.lin_ir.specs.Walks as walks
 use Rattle.lin_ir.specs.Walks.{Stands, Reached, Live, by_walk, after_step}
-use Rattle.lin_ir.specs.declared.lin.LinOp.{LinOp}
 use Rattle.lin_ir.specs.declared.lin.LinOp.TheVariants as lin
 use Rattle.lin_ir.specs.declared.lin.Line.{Line}
 use Rattle.lin_ir.specs.declared.lin.Lin.{Lin}
@@ -17,24 +15,19 @@ use Rattle.linear_rules.specs.Keeps.{KeepsReached}
 use Rattle.linear_rules.proofs.Homes.{contains_of}
 use Rattle.linear_rules.proofs.Lowering.{no_addr_live}
 use Rattle.linear_rules.proofs.Walked.{tail_in, stands_tail}
-use Rattle.tidy_rules.specs.Leaving.{is_landing}
 use Rattle.tidy_rules.specs.Redirecting.{Tidies}
 use Rattle.tidy_rules.specs.Regular.{IsRegular, IsTidy}
 use Rattle.tidy_rules.specs.Tidied.{IsTidied}
 use Rattle.tidy_rules.proofs.Keeping.{keeps_tidied, keeps_named}
-use Rattle.tidy_rules.proofs.Leaving.{self_goes}
+use Rattle.tidy_rules.proofs.Leaving.{self_goes, frame_landing}
 use Rattle.tidy_rules.proofs.Following.{tidied_tidies}
 use Rattle.tidy_rules.proofs.Sizes.{KeepsShape, tidied_shape}
 use Rattle.tidy_rules.proofs.Tidied.{tidied_regular}
 
-no_landing : (f : LinOp) → passes_frame f ≡ true → is_landing f ≡ false
-no_landing (lin.Op f) e = refl
-no_landing (lin.Flow f) e = absurd (true≢false (sym e))
-
 module _ (m : Lin) (regular : IsRegular m) (tidy : IsTidy m) where
   -- each frame point is reached
   pub points_reached : (i : Line) (next : List Line) → Stands i next m.code → passes_frame i.op ≡ true → (tries : List ℕ) × Reached m (i ∷ next) tries
-  points_reached i next s e = tidy.reached i next s (no_landing i.op e)
+  points_reached i next s e = tidy.reached i next s (frame_landing i.op e)
 
   -- A tidy function is tight.
   pub tidy_tight : IsTight m

@@ -1,8 +1,8 @@
 use Rattle.std.proofs.Common.{Err, ap, arith}
 use Rattle.cmm_front.specs.FileOf.{tree_of}
 use Rattle.cmm_walks.specs.Checked.{typed_of}
-use Rattle.file_compile.proofs.Promised.{all_bytes}
 use Rattle.image_form.specs.Tables.{tables}
+use Rattle.file_promise.proofs.Bytes.{all_bytes}
 use Rattle.text_commands.proofs.Listed.{image_of}
 use Rattle.text_commands.proofs.Passing.{too_large}
 use Rattle.text_commands.proofs.compile.compile_text.Goals as goal

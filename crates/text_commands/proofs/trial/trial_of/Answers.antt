@@ -8,8 +8,8 @@ use Rattle.cmm_tree.specs.Tree.{FileTree}
 use Rattle.cmm_tree.specs.View.{file_view}
 use Rattle.cmm_walks.specs.Checked.{typed_of}
 use Rattle.command_line.specs.View.{check_view}
-use Rattle.file_compile.proofs.Promised.{all_bytes}
 use Rattle.image_form.specs.Tables.{tables}
+use Rattle.file_promise.proofs.Bytes.{all_bytes}
 use Rattle.text_commands.proofs.Listed.{tried}
 use Rattle.text_commands.specs.Lines.{cmm_outcome_text}
 use Rattle.text_commands.proofs.trial.trial_of.Goals as goal

@@ -1,0 +1,36 @@
+-- Numbers of registers in rows of registers.
+use Rattle.std.proofs.Common.{ℕ, [], List, ◌∷◌, ◌++◌, ◌⊎◌, inl, inr, ⊎_elim, ap, ◌≡◌, subst}
+use Rattle.std.specs.List.{Contains}
+use Rattle.mach_ir.specs.Walks.{Among, first, later}
+use Rattle.mach_ir.specs.declared.reg.Reg.{Reg}
+use Rattle.bs_words.proofs.Lists.{none_in, in_cons, first_in, later_in}
+
+pub none_among : {A : Type 0} {n : ℕ} → Among n [] → A
+none_among a = elim a [ ]
+
+pub left_among : {n : ℕ} (rs qs : List Reg) → Among n rs → Among n (rs ++ qs)
+left_among (r ∷ rs) qs (first e) = first e
+left_among (r ∷ rs) qs (later a) = later (left_among rs qs a)
+left_among [] qs a = elim a [ ]
+
+pub right_among : {n : ℕ} (rs qs : List Reg) → Among n qs → Among n (rs ++ qs)
+right_among [] qs a = a
+right_among (r ∷ rs) qs a = later (right_among rs qs a)
+
+pub split_among : (n : ℕ) (rs qs : List Reg) → Among n (rs ++ qs) → Among n rs ⊎ Among n qs
+split_among n [] qs a = inr a
+split_among n (r ∷ rs) qs (first e) = inl (first e)
+split_among n (r ∷ rs) qs (later a) = ⊎_elim (λ h. inl (later h)) inr (split_among n rs qs a)
+
+pub among_of : (r : Reg) (rs : List Reg) → Contains rs r → Among r.number rs
+among_of r [] c = absurd (none_in r c)
+among_of r (k ∷ rs) c =
+    ⊎_elim (λ e. first (ap (λ (x : Reg). x.number) e)) (λ d. later (among_of r rs d)) (in_cons k r rs c)
+
+pub number_among : {n : ℕ} (rs : List Reg) → Among n rs → (r : Reg) × Contains rs r × (r.number ≡ n)
+number_among [] a = elim a [ ]
+number_among (r ∷ rs) (first e) = (r, first_in r rs, e)
+number_among (r ∷ rs) (later a) = let w = number_among rs a in (w.0, later_in r w.0 rs w.1, w.2)
+
+pub among_number : {n m : ℕ} {rs : List Reg} → n ≡ m → Among n rs → Among m rs
+among_number {rs = rs} e z = subst (λ k. Among k rs) e z
