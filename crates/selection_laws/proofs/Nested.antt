@@ -33,7 +33,9 @@ use Rattle.selection_rules.specs.Instructions.{bare}
 use Rattle.selection_rules.specs.Instructions as emit
 use Rattle.selection_rules.specs.Select.{Code, Shape, InRegisters, ConstantRight, ConstantLeft, PowerRight, rounded, power_code, operator_code, shape_of, shape_op, shape_right, shape_args, unless_left, unless_right, Named, Label, scopes, reg_of, label_of, move_from, move_to, moves_all, exit_to, ordered, only_when, from_seat, symbol_of, unless_symbol, right_of, unless_constant, bound_test, comparison, tested, select_test, is_based, select_base, call_of, callee_regs, bound_name, width, width_labels, inner_dest, inner_valued, regs_of, select, select_waiting, select_filled, select_bound, select_seq, select_cases, select_handlers, deeper, unless_bare, in_handlers, labels_from, count_cases, last_label, switch_labels, cell_stores, to_seat, selected, first, params_from, with_params, is_no_value, fresh, seats, result_seat}
 use Rattle.selection_rules.proofs.Exits.{scopes_params, scopes_after}
-use Rattle.selection_rules.proofs.Parts.{Ending, all, more, ending_in, ending_next, Within, inside_all, inside_more, inside_in}
+use Rattle.mach_laws.specs.Expand.{Ending, all, more}
+use Rattle.mach_laws.proofs.Places.{ending_next, ending_of}
+use Rattle.selection_rules.proofs.Parts.{ending_in, Within, inside_all, inside_more, inside_in}
 use Rattle.selection_rules.proofs.Endings.{ending_select, ending_handlers, ending_cases}
 use Rattle.selection_rules.proofs.Labels.{selected_labelled}
 use Rattle.selection_rules.proofs.Once.{Range}
@@ -773,10 +775,6 @@ whole_walk f fits =
 
 pub selected_kept : (f : FunctionTree) → FunctionFits f → AllKept (selected f).code (selected f).code
 selected_kept f fits = let w = whole_walk f fits in w.kept (returning f) refl all (one (kept_leaving (selected f).code _ (result_seat _ (result_of (body_type f))) [] [] refl) none)
-
-pub ending_of : {i : Instr} {next code : List Instr} → Stands i next code → Ending (i ∷ next) code
-ending_of here = all
-ending_of (below s) = more (ending_of s)
 
 place_there : {l : ℕ} {i : Instr} {rest code : List Instr} → Ending (i ∷ rest) code → has_label l i.op ≡ true → HasPlace l code
 place_there all e = place_here e
