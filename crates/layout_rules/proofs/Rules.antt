@@ -115,31 +115,31 @@ descs_keep len prev at behind (Label l ∷ ps) (f ∷ fs) m h k are in_code =
     descs_keep len prev (at + 0) behind ps fs m (omega (arith, h)) (λ e. let less = k e in omega (arith, less)) are (omega (arith, in_code))
 descs_keep len prev at behind (Known i ∷ ps) (f ∷ fs) m h k are in_code =
     within_words (words_of (Known i) f) prev at (total_words ps fs) len (omega arith) h in_code
-    (λ a b c. descs_keep len prev (at + words_of (Known i) f) true ps fs m a b are c)
+    (λ x y z. descs_keep len prev (at + words_of (Known i) f) true ps fs m x y are z)
 descs_keep len prev at behind (Branch c a b l ∷ ps) (f ∷ fs) m h k are in_code =
     within_words (words_of (Branch c a b l) f) prev at (total_words ps fs) len (branch_some f) h in_code
-    (λ a b c. descs_keep len prev (at + words_of (Branch c a b l) f) true ps fs m a b are c)
+    (λ x y z. descs_keep len prev (at + words_of (Branch c a b l) f) true ps fs m x y are z)
 descs_keep len prev at behind (Jump l ∷ ps) (f ∷ fs) m h k are in_code =
     within_words (words_of (Jump l) f) prev at (total_words ps fs) len (jump_some f) h in_code
-    (λ a b c. descs_keep len prev (at + words_of (Jump l) f) true ps fs m a b are c)
+    (λ x y z. descs_keep len prev (at + words_of (Jump l) f) true ps fs m x y are z)
 descs_keep len prev at behind (Row l ∷ ps) (f ∷ fs) m h k are in_code =
     within_words (words_of (Row l) f) prev at (total_words ps fs) len (omega arith) h in_code
-    (λ a b c. descs_keep len prev (at + words_of (Row l) f) true ps fs m a b are c)
+    (λ x y z. descs_keep len prev (at + words_of (Row l) f) true ps fs m x y are z)
 descs_keep len prev at behind (LabelAddress r l ∷ ps) (f ∷ fs) m h k are in_code =
     within_words (words_of (LabelAddress r l) f) prev at (total_words ps fs) len (omega arith) h in_code
-    (λ a b c. descs_keep len prev (at + words_of (LabelAddress r l) f) true ps fs m a b are c)
+    (λ x y z. descs_keep len prev (at + words_of (LabelAddress r l) f) true ps fs m x y are z)
 descs_keep len prev at behind (Call name ∷ ps) (f ∷ fs) m h k are in_code =
     within_words (words_of (Call name) f) prev at (total_words ps fs) len (omega arith) h in_code
-    (λ a b c. descs_keep len prev (at + words_of (Call name) f) true ps fs m a b are c)
+    (λ x y z. descs_keep len prev (at + words_of (Call name) f) true ps fs m x y are z)
 descs_keep len prev at behind (TailCall name ∷ ps) (f ∷ fs) m h k are in_code =
     within_words (words_of (TailCall name) f) prev at (total_words ps fs) len (omega arith) h in_code
-    (λ a b c. descs_keep len prev (at + words_of (TailCall name) f) true ps fs m a b are c)
+    (λ x y z. descs_keep len prev (at + words_of (TailCall name) f) true ps fs m x y are z)
 descs_keep len prev at behind (SymbolAddress r name ∷ ps) (f ∷ fs) m h k are in_code =
     within_words (words_of (SymbolAddress r name) f) prev at (total_words ps fs) len (omega arith) h in_code
-    (λ a b c. descs_keep len prev (at + words_of (SymbolAddress r name) f) true ps fs m a b are c)
+    (λ x y z. descs_keep len prev (at + words_of (SymbolAddress r name) f) true ps fs m x y are z)
 descs_keep len prev at behind (ExternalNumber r row ∷ ps) (f ∷ fs) m h k are in_code =
     within_words (words_of (ExternalNumber r row) f) prev at (total_words ps fs) len (omega arith) h in_code
-    (λ a b c. descs_keep len prev (at + words_of (ExternalNumber r row) f) true ps fs m a b are c)
+    (λ x y z. descs_keep len prev (at + words_of (ExternalNumber r row) f) true ps fs m x y are z)
 
 pub all_append : {A : Type 0} (P : A → Type 0) (xs ys : List A) → AllByRecursion P xs → AllByRecursion P ys → AllByRecursion P (xs ++ ys)
 all_append P [] ys a b = b
