@@ -140,11 +140,6 @@ cells_are count (a ∷ b ∷ c ∷ d ∷ e ∷ f ∷ g ∷ []) p = (cell_is coun
 cells_are count (a ∷ b ∷ c ∷ d ∷ e ∷ f ∷ g ∷ h ∷ rest) p =
     (cell_is count (a ∷ b ∷ c ∷ d ∷ e ∷ f ∷ g ∷ h ∷ []) (omega arith) (p.0, (p.1.0, (p.1.1.0, (p.1.1.1.0, (p.1.1.1.1.0, (p.1.1.1.1.1.0, (p.1.1.1.1.1.1.0, (p.1.1.1.1.1.1.1.0, tt)))))))), cells_are count rest p.1.1.1.1.1.1.1.1)
 
--- The cells of bytes, eight each, hold them all, and no cell more.
-pub record AreEnough (bytes cells : ℕ) : Type 0 where
-  pub all : bytes ≤ 8 * cells
-  pub no_more : 8 * cells < bytes + 8
-
 -- The cell after so many whole ones.
 pub cell_at : (j : ℕ) (before eight after : List DataByte) → length before ≡ 8 * j → length eight ≡ 8 →
     slice_index_or (cells_of (before ++ (eight ++ after))) j (Word 0) ≡ cell_of eight

@@ -22,9 +22,9 @@ end_of_lists-above end (d ∷ lists) =
 -- ---- the bytes of cells
 
 -- The cells of bytes, eight each, hold them all, and no cell more.
-record AreEnough (bytes cells : ℕ) : Type 0 where
-  all : bytes ≤ 8 * cells
-  no_more : 8 * cells < bytes + 8
+pub record AreEnough (bytes cells : ℕ) : Type 0 where
+  pub all : bytes ≤ 8 * cells
+  pub no_more : 8 * cells < bytes + 8
 
 pub cells_enough : (bs : List DataByte) → AreEnough (length bs) (length (cells_of bs))
 cells_enough [] = record { all = omega arith; no_more = omega arith }
