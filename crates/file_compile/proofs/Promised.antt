@@ -7,8 +7,6 @@ use Rattle.correctness.specs.Correct.{IsCorrect}
 use Rattle.correctness.specs.InNeed.{AsksInNeed}
 use Rattle.file_compile.specs.Listed.{IsStageText}
 use Rattle.file_compile.proofs.Once as listed
-use Rattle.file_promise.proofs.Bytes as bytes
-use Rattle.file_promise.proofs.Once as once
 use Rattle.file_promise.proofs.Promise as promise
 use Rattle.image_form.specs.Image.{AreTables}
 use Rattle.image_form.specs.Tables.{Tables}

@@ -7,8 +7,6 @@ use Rattle.std.proofs.lemmas.List.Folds.{find_at}
 use Rattle.std.proofs.lemmas.Option.{slice_get-map}
 use Rattle.std.proofs.lemmas.Slice.Eq.{bytes_eq-Decides}
 use Rattle.bs_words.specs.External.{External}
-use Rattle.bs_words.specs.declared.types.Comp.TheVariants as comp
-use Rattle.bs_words.specs.declared.types.Ret.TheVariants as ret
 use Rattle.image_form.specs.Image.{comp_byte, ret_byte}
 use Rattle.image_form.specs.Tables.{Ext}
 use Rattle.layout_rules.specs.Externals.{ext_of, number_of, same_row}

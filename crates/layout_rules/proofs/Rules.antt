@@ -48,6 +48,17 @@ unfolding RisesFrom
 in_order from [] rises = tt
 in_order from (d ∷ ds) rises = (in_order_first d ds rises.1, in_order d.after ds rises.1)
 
+-- behind a piece of some words
+past_words : {X : Type 0} (w prev at n : ℕ) (rest : List Desc) → 1 ≤ w → prev ≤ at → RisesFrom (4 * (at + (w + n))) rest →
+    (prev ≤ at + w → (true ≡ true → prev < at + w) → RisesFrom (4 * (at + w + n)) rest → X) → X
+past_words w prev at n rest some h rises go =
+    let same : 4 * (at + (w + n)) ≡ 4 * (at + w + n) = omega arith in
+    go (omega (arith, h)) (λ e. omega (arith, h, some)) (subst (λ n. RisesFrom n rest) same rises)
+
+within_words : {X : Type 0} (w prev at n len : ℕ) → 1 ≤ w → prev ≤ at → 4 * (at + (w + n)) ≤ len →
+    (prev ≤ at + w → (true ≡ true → prev < at + w) → 4 * (at + w + n) ≤ len → X) → X
+within_words w prev at n len some h in_code go = go (omega (arith, h)) (λ e. omega (arith, h, some)) (omega (arith, in_code))
+
 -- `prev` is the place of the last mark, or the entry of the function
 descs_rise : (prev at : ℕ) (behind : Bool) (ps : List Piece) (fs : List Form) (rest : List Desc) → AreDescriptors behind ps → prev ≤ at → (behind ≡ true → prev < at) →
     RisesFrom (4 * (at + total_words ps fs)) rest → RisesFrom (4 * prev) (descs_in at ps fs ++ rest)
@@ -62,50 +73,23 @@ descs_rise prev at behind (Label l ∷ ps) (f ∷ fs) rest are h k rises =
     let same : 4 * (at + (0 + total_words ps fs)) ≡ 4 * (at + 0 + total_words ps fs) = omega arith in
     descs_rise prev (at + 0) behind ps fs rest are (omega (arith, h)) (λ e. let less = k e in omega (arith, less)) (subst (λ n. RisesFrom n rest) same rises)
 descs_rise prev at behind (Known i ∷ ps) (f ∷ fs) rest are h k rises =
-    let w = words_of (Known i) f in
-    let some : 1 ≤ w = omega arith in
-    let same : 4 * (at + (w + total_words ps fs)) ≡ 4 * (at + w + total_words ps fs) = omega arith in
-    descs_rise prev (at + w) true ps fs rest are (omega (arith, h)) (λ e. omega (arith, h, some)) (subst (λ n. RisesFrom n rest) same rises)
+    past_words (words_of (Known i) f) prev at (total_words ps fs) rest (omega arith) h rises (descs_rise prev (at + words_of (Known i) f) true ps fs rest are)
 descs_rise prev at behind (Branch c a b l ∷ ps) (f ∷ fs) rest are h k rises =
-    let w = words_of (Branch c a b l) f in
-    let some : 1 ≤ w = branch_some f in
-    let same : 4 * (at + (w + total_words ps fs)) ≡ 4 * (at + w + total_words ps fs) = omega arith in
-    descs_rise prev (at + w) true ps fs rest are (omega (arith, h)) (λ e. omega (arith, h, some)) (subst (λ n. RisesFrom n rest) same rises)
+    past_words (words_of (Branch c a b l) f) prev at (total_words ps fs) rest (branch_some f) h rises (descs_rise prev (at + words_of (Branch c a b l) f) true ps fs rest are)
 descs_rise prev at behind (Jump l ∷ ps) (f ∷ fs) rest are h k rises =
-    let w = words_of (Jump l) f in
-    let some : 1 ≤ w = jump_some f in
-    let same : 4 * (at + (w + total_words ps fs)) ≡ 4 * (at + w + total_words ps fs) = omega arith in
-    descs_rise prev (at + w) true ps fs rest are (omega (arith, h)) (λ e. omega (arith, h, some)) (subst (λ n. RisesFrom n rest) same rises)
+    past_words (words_of (Jump l) f) prev at (total_words ps fs) rest (jump_some f) h rises (descs_rise prev (at + words_of (Jump l) f) true ps fs rest are)
 descs_rise prev at behind (Row l ∷ ps) (f ∷ fs) rest are h k rises =
-    let w = words_of (Row l) f in
-    let some : 1 ≤ w = omega arith in
-    let same : 4 * (at + (w + total_words ps fs)) ≡ 4 * (at + w + total_words ps fs) = omega arith in
-    descs_rise prev (at + w) true ps fs rest are (omega (arith, h)) (λ e. omega (arith, h, some)) (subst (λ n. RisesFrom n rest) same rises)
+    past_words (words_of (Row l) f) prev at (total_words ps fs) rest (omega arith) h rises (descs_rise prev (at + words_of (Row l) f) true ps fs rest are)
 descs_rise prev at behind (LabelAddress r l ∷ ps) (f ∷ fs) rest are h k rises =
-    let w = words_of (LabelAddress r l) f in
-    let some : 1 ≤ w = omega arith in
-    let same : 4 * (at + (w + total_words ps fs)) ≡ 4 * (at + w + total_words ps fs) = omega arith in
-    descs_rise prev (at + w) true ps fs rest are (omega (arith, h)) (λ e. omega (arith, h, some)) (subst (λ n. RisesFrom n rest) same rises)
+    past_words (words_of (LabelAddress r l) f) prev at (total_words ps fs) rest (omega arith) h rises (descs_rise prev (at + words_of (LabelAddress r l) f) true ps fs rest are)
 descs_rise prev at behind (Call name ∷ ps) (f ∷ fs) rest are h k rises =
-    let w = words_of (Call name) f in
-    let some : 1 ≤ w = omega arith in
-    let same : 4 * (at + (w + total_words ps fs)) ≡ 4 * (at + w + total_words ps fs) = omega arith in
-    descs_rise prev (at + w) true ps fs rest are (omega (arith, h)) (λ e. omega (arith, h, some)) (subst (λ n. RisesFrom n rest) same rises)
+    past_words (words_of (Call name) f) prev at (total_words ps fs) rest (omega arith) h rises (descs_rise prev (at + words_of (Call name) f) true ps fs rest are)
 descs_rise prev at behind (TailCall name ∷ ps) (f ∷ fs) rest are h k rises =
-    let w = words_of (TailCall name) f in
-    let some : 1 ≤ w = omega arith in
-    let same : 4 * (at + (w + total_words ps fs)) ≡ 4 * (at + w + total_words ps fs) = omega arith in
-    descs_rise prev (at + w) true ps fs rest are (omega (arith, h)) (λ e. omega (arith, h, some)) (subst (λ n. RisesFrom n rest) same rises)
+    past_words (words_of (TailCall name) f) prev at (total_words ps fs) rest (omega arith) h rises (descs_rise prev (at + words_of (TailCall name) f) true ps fs rest are)
 descs_rise prev at behind (SymbolAddress r name ∷ ps) (f ∷ fs) rest are h k rises =
-    let w = words_of (SymbolAddress r name) f in
-    let some : 1 ≤ w = omega arith in
-    let same : 4 * (at + (w + total_words ps fs)) ≡ 4 * (at + w + total_words ps fs) = omega arith in
-    descs_rise prev (at + w) true ps fs rest are (omega (arith, h)) (λ e. omega (arith, h, some)) (subst (λ n. RisesFrom n rest) same rises)
+    past_words (words_of (SymbolAddress r name) f) prev at (total_words ps fs) rest (omega arith) h rises (descs_rise prev (at + words_of (SymbolAddress r name) f) true ps fs rest are)
 descs_rise prev at behind (ExternalNumber r row ∷ ps) (f ∷ fs) rest are h k rises =
-    let w = words_of (ExternalNumber r row) f in
-    let some : 1 ≤ w = omega arith in
-    let same : 4 * (at + (w + total_words ps fs)) ≡ 4 * (at + w + total_words ps fs) = omega arith in
-    descs_rise prev (at + w) true ps fs rest are (omega (arith, h)) (λ e. omega (arith, h, some)) (subst (λ n. RisesFrom n rest) same rises)
+    past_words (words_of (ExternalNumber r row) f) prev at (total_words ps fs) rest (omega arith) h rises (descs_rise prev (at + words_of (ExternalNumber r row) f) true ps fs rest are)
 
 pub descs_keep : (len prev at : ℕ) (behind : Bool) (ps : List Piece) (fs : List Form) → 4 ≤ prev → prev ≤ at → (behind ≡ true → prev < at) → AreDescriptors behind ps →
     4 * (at + total_words ps fs) ≤ len → AllByRecursion (IsDesc 2 len) (descs_in at ps fs)
@@ -130,41 +114,32 @@ descs_keep len prev at behind (Descriptor d ∷ ps) (f ∷ fs) m h k are in_code
 descs_keep len prev at behind (Label l ∷ ps) (f ∷ fs) m h k are in_code =
     descs_keep len prev (at + 0) behind ps fs m (omega (arith, h)) (λ e. let less = k e in omega (arith, less)) are (omega (arith, in_code))
 descs_keep len prev at behind (Known i ∷ ps) (f ∷ fs) m h k are in_code =
-    let w = words_of (Known i) f in
-    let some : 1 ≤ w = omega arith in
-    descs_keep len prev (at + w) true ps fs m (omega (arith, h)) (λ e. omega (arith, h, some)) are (omega (arith, in_code))
+    within_words (words_of (Known i) f) prev at (total_words ps fs) len (omega arith) h in_code
+    (λ x y z. descs_keep len prev (at + words_of (Known i) f) true ps fs m x y are z)
 descs_keep len prev at behind (Branch c a b l ∷ ps) (f ∷ fs) m h k are in_code =
-    let w = words_of (Branch c a b l) f in
-    let some : 1 ≤ w = branch_some f in
-    descs_keep len prev (at + w) true ps fs m (omega (arith, h)) (λ e. omega (arith, h, some)) are (omega (arith, in_code))
+    within_words (words_of (Branch c a b l) f) prev at (total_words ps fs) len (branch_some f) h in_code
+    (λ x y z. descs_keep len prev (at + words_of (Branch c a b l) f) true ps fs m x y are z)
 descs_keep len prev at behind (Jump l ∷ ps) (f ∷ fs) m h k are in_code =
-    let w = words_of (Jump l) f in
-    let some : 1 ≤ w = jump_some f in
-    descs_keep len prev (at + w) true ps fs m (omega (arith, h)) (λ e. omega (arith, h, some)) are (omega (arith, in_code))
+    within_words (words_of (Jump l) f) prev at (total_words ps fs) len (jump_some f) h in_code
+    (λ x y z. descs_keep len prev (at + words_of (Jump l) f) true ps fs m x y are z)
 descs_keep len prev at behind (Row l ∷ ps) (f ∷ fs) m h k are in_code =
-    let w = words_of (Row l) f in
-    let some : 1 ≤ w = omega arith in
-    descs_keep len prev (at + w) true ps fs m (omega (arith, h)) (λ e. omega (arith, h, some)) are (omega (arith, in_code))
+    within_words (words_of (Row l) f) prev at (total_words ps fs) len (omega arith) h in_code
+    (λ x y z. descs_keep len prev (at + words_of (Row l) f) true ps fs m x y are z)
 descs_keep len prev at behind (LabelAddress r l ∷ ps) (f ∷ fs) m h k are in_code =
-    let w = words_of (LabelAddress r l) f in
-    let some : 1 ≤ w = omega arith in
-    descs_keep len prev (at + w) true ps fs m (omega (arith, h)) (λ e. omega (arith, h, some)) are (omega (arith, in_code))
+    within_words (words_of (LabelAddress r l) f) prev at (total_words ps fs) len (omega arith) h in_code
+    (λ x y z. descs_keep len prev (at + words_of (LabelAddress r l) f) true ps fs m x y are z)
 descs_keep len prev at behind (Call name ∷ ps) (f ∷ fs) m h k are in_code =
-    let w = words_of (Call name) f in
-    let some : 1 ≤ w = omega arith in
-    descs_keep len prev (at + w) true ps fs m (omega (arith, h)) (λ e. omega (arith, h, some)) are (omega (arith, in_code))
+    within_words (words_of (Call name) f) prev at (total_words ps fs) len (omega arith) h in_code
+    (λ x y z. descs_keep len prev (at + words_of (Call name) f) true ps fs m x y are z)
 descs_keep len prev at behind (TailCall name ∷ ps) (f ∷ fs) m h k are in_code =
-    let w = words_of (TailCall name) f in
-    let some : 1 ≤ w = omega arith in
-    descs_keep len prev (at + w) true ps fs m (omega (arith, h)) (λ e. omega (arith, h, some)) are (omega (arith, in_code))
+    within_words (words_of (TailCall name) f) prev at (total_words ps fs) len (omega arith) h in_code
+    (λ x y z. descs_keep len prev (at + words_of (TailCall name) f) true ps fs m x y are z)
 descs_keep len prev at behind (SymbolAddress r name ∷ ps) (f ∷ fs) m h k are in_code =
-    let w = words_of (SymbolAddress r name) f in
-    let some : 1 ≤ w = omega arith in
-    descs_keep len prev (at + w) true ps fs m (omega (arith, h)) (λ e. omega (arith, h, some)) are (omega (arith, in_code))
+    within_words (words_of (SymbolAddress r name) f) prev at (total_words ps fs) len (omega arith) h in_code
+    (λ x y z. descs_keep len prev (at + words_of (SymbolAddress r name) f) true ps fs m x y are z)
 descs_keep len prev at behind (ExternalNumber r row ∷ ps) (f ∷ fs) m h k are in_code =
-    let w = words_of (ExternalNumber r row) f in
-    let some : 1 ≤ w = omega arith in
-    descs_keep len prev (at + w) true ps fs m (omega (arith, h)) (λ e. omega (arith, h, some)) are (omega (arith, in_code))
+    within_words (words_of (ExternalNumber r row) f) prev at (total_words ps fs) len (omega arith) h in_code
+    (λ x y z. descs_keep len prev (at + words_of (ExternalNumber r row) f) true ps fs m x y are z)
 
 pub all_append : {A : Type 0} (P : A → Type 0) (xs ys : List A) → AllByRecursion P xs → AllByRecursion P ys → AllByRecursion P (xs ++ ys)
 all_append P [] ys a b = b

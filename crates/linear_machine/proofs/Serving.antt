@@ -1,5 +1,5 @@
 -- The services that move the blocks, from their ECALL on, under every schedule.
-use Rattle.std.proofs.Common.{◌≡◌, ℕ, ◌+◌, ◌*◌, ◌<◌, ◌≤◌, inl, inr, true, List, [], ◌++◌, length, reverse, Some, None, slice_index, refl, ap, arith, ◌∙◌, subst, ⊎_elim, mod-eq_of_lt}
+use Rattle.std.proofs.Common.{◌≡◌, ℕ, ◌+◌, ◌*◌, ◌<◌, ◌≤◌, inl, inr, true, List, [], ◌++◌, length, reverse, Some, None, slice_index, refl, ap, arith, ◌∙◌, subst, ⊎_elim}
 use Rattle.std.proofs.lemmas.Bool.{cases_lt}
 use Rattle.bs_words.specs.Word.{add_word}
 use Rattle.bs_words.specs.declared.types.Loc.{Loc}
@@ -65,9 +65,6 @@ hart_is s a v st =
     } ≡ hart_of s (with_memory v h) h =
     ap (λ x. record h { image = s.image; registers = v.registers; pc = code_start + 4 * v.place; stack_base = s.base; heap = s.heap; blocks = x }) st.blocks in
     e1 ∙ e2 ∙ e3 ∙ e4 ∙ e5 ∙ e6
-
-unfolding add_word
-sum_small a t l = mod-eq_of_lt l
 
 module _ (s : Fixed) (laid : Laid) (v : View) (young : List Placed) (taken : ℕ) (held : Locations) (a : Around) (c : Below)
     (within : Within s laid v young taken held a c)

@@ -9,8 +9,9 @@ use Rattle.mach_ir.specs.declared.reg.Reg.{Reg}
 use Rattle.pass_rules.specs.Carried.{EndsInReturn, at_return, further}
 use Rattle.selection_rules.specs.Select.{selected, select, returns, first, is_no_value, fresh, seats}
 use Rattle.selection_rules.proofs.Endings.{ending_moves, ending_select}
-use Rattle.selection_rules.proofs.Parts.{Ending, all, more, Within, inside_in}
+use Rattle.selection_rules.proofs.Parts.{Within, inside_in}
 use Rattle.selection_places.proofs.Whole.{value_at, params_of, env_of}
+use Rattle.mach_laws.specs.Expand.{Ending, all, more}
 
 ends_through : {rest code : List Instr} → Ending rest code → EndsInReturn rest → EndsInReturn code
 ends_through all e = e

@@ -62,11 +62,11 @@ rises_past (k ∷ is) n i j next rest here t =
     subst (λ a. past_instr a i ≤ start_at (i ∷ is) n (length rest)) (sym (at_head i is n))
     (subst (λ a. past_instr n i ≤ a) (sym (at_tail i is n (length rest) (shorter t))) x)
 rises_past (k ∷ is) n i j next rest (below s) t =
-    let shorter = shorter t in
+    let less = shorter t in
     let lt = shorter s in
     subst (λ a. past_instr a i ≤ start_at (k ∷ is) n (length rest)) (sym (at_tail k is n (length next) lt))
     (subst (λ a. past_instr (start_at is (past_instr n k) (length next)) i ≤ a)
-    (sym (at_tail k is n (length rest) (omega (arith, shorter, lt)))) (rises_past is (past_instr n k) i j next rest s t))
+    (sym (at_tail k is n (length rest) (omega (arith, less, lt)))) (rises_past is (past_instr n k) i j next rest s t))
 rises_past [] n i j next rest s t = elim s [ ]
 
 below_all : (code : List Instr) (n : ℕ) (i : Instr) (next : List Instr) → Stands i next code →

@@ -12,9 +12,11 @@ use Rattle.mach_ir.specs.declared.mach.MachOp.TheVariants as mach
 use Rattle.selection_rules.specs.Instructions as emit
 use Rattle.selection_rules.specs.Select.{selected}
 use Rattle.selection_rules.proofs.Once.{marks, labelled, no_mark_in, Distinct, cons, selected_once}
-use Rattle.selection_rules.proofs.Parts.{Ending, all, more, ending_in, ending_next}
+use Rattle.mach_laws.specs.Expand.{Ending, all, more}
+use Rattle.mach_laws.proofs.Places.{ending_next, ending_of}
+use Rattle.selection_rules.proofs.Parts.{ending_in}
 use Rattle.selection_laws.specs.Fits.{FunctionFits}
-use Rattle.selection_laws.proofs.Nested.{kept_of, selected_kept, ending_of}
+use Rattle.selection_laws.proofs.Nested.{kept_of, selected_kept}
 
 -- where an instruction stands
 record Somewhere (i : Instr) (code : List Instr) : Type 0 where

@@ -12,8 +12,8 @@ use Rattle.cmm_meaning.specs.State.{Doing, Asked}
 use Rattle.bs_words.specs.declared.types.Ret.{Ret}
 use Rattle.mach_ir.specs.Acts.{goes_on, Around, Target, On, At, Landing, AtLabel, AtHandler, Act, Goes, Pushes, Jumps, Unwinds, Asks, Replaces, Ends, EndsRaising, Stuck}
 use Rattle.mach_ir.specs.Runs.{Place, Step, Continues, Pays, Deepens, Waits, FinishesBy, Finishes, FinishesRaising, IsStuck, Tally, Run, Running, Asking, Ended, Wrong, paid, came_back, kept_of, handed, onward, first_tally, entered}
-use Rattle.mach_ir.specs.Meaning.{State, File, Held, put, put_if, put_all, clear, killed, killed_by, destroyed_by, values, with_held, is_addr, unless_addr, past_frame, passes_frame, code_at, after_label, from_handler, is_handler_of, tries_at, at_handler, landing_code, has_label, mach_act, wrote, on_act, on_values, at_code, run, begun, start}
-use Rattle.mach_ir.specs.Walks.{Among, first, later, OneOf, this, other, next_if, targets, may_raise, goes, raises, Reached, at_entry, by_step, by_raise, Writes, Live, read, on, aside, LiveAcross, across_step, across_raise, InCode, in_results, further, IsRegister, is_param, is_in_code, Stands, here, below, NoAddrLive}
+use Rattle.mach_ir.specs.Meaning.{State, File, Held, put, put_if, put_all, clear, killed, killed_by, destroyed_by, values, with_held, is_addr, unless_addr, past_frame, passes_frame, code_at, tries_at, at_handler, landing_code, mach_act, wrote, on_act, on_values, at_code, run, begun, start}
+use Rattle.mach_ir.specs.Walks.{Among, first, later, OneOf, this, other, next_if, targets, may_raise, goes, raises, Reached, at_entry, by_step, by_raise, Writes, Live, read, on, aside, LiveAcross, across_step, across_raise, IsRegister, is_param, is_in_code, Stands, NoAddrLive}
 use Rattle.mach_ir.specs.declared.mach.Instr.{Instr}
 use Rattle.mach_ir.specs.declared.mach.Mach.{Mach}
 use Rattle.mach_ir.specs.declared.mach.MachOp.{MachOp}
@@ -22,7 +22,8 @@ use Rattle.mach_ir.specs.declared.mach.Mark.TheVariants as mark
 use Rattle.mach_ir.specs.declared.mach.Test.{Test}
 use Rattle.mach_ir.specs.declared.reg.Reg.{Reg}
 use Rattle.selection_rules.specs.Kept as kept
-use Rattle.selection_rules.proofs.Parts.{Ending, all, more, ending_next}
+use Rattle.mach_laws.specs.Expand.{Ending, all, more}
+use Rattle.mach_laws.proofs.Places.{ending_next, ending_label, ending_from_handler, stands_of, results_in, ending_land}
 use Rattle.mach_laws.proofs.Leads.{IsTry, is_try, MayLand, lands_at_label, lands_at_handler, Within, goes_in, pushes_in, jumps_in, unwinds_in, asks_in, within}
 
 -- ---- two files that agree where it matters
@@ -118,34 +119,6 @@ pub next_try : {f : MachOp} → IsTry f → OneOf On (targets f)
 next_try is_try = this
 
 -- ---- places
-
-label_if : (b : Bool) (l : ℕ) (i : Instr) (is : List Instr) → Ending (after_label l is) is → Ending (cond b is (after_label l is)) (i ∷ is)
-label_if true l i is e = more all
-label_if false l i is e = more e
-
-pub ending_label : (l : ℕ) (code : List Instr) → Ending (after_label l code) code
-ending_label l [] = all
-ending_label l (i ∷ is) = label_if (has_label l i.op) l i is (ending_label l is)
-
-onto_if : (b : Bool) (l : ℕ) (i : Instr) (is : List Instr) → Ending (from_handler l is) is → Ending (cond b (i ∷ is) (from_handler l is)) (i ∷ is)
-onto_if true l i is e = all
-onto_if false l i is e = more e
-
-pub ending_onto : (l : ℕ) (code : List Instr) → Ending (from_handler l code) code
-ending_onto l [] = all
-ending_onto l (i ∷ is) = onto_if (is_handler_of l i.op) l i is (ending_onto l is)
-
-pub ending_nothing : (code : List Instr) → Ending [] code
-ending_nothing [] = all
-ending_nothing (i ∷ is) = more (ending_nothing is)
-
-pub stands_of : {i : Instr} {next code : List Instr} → Ending (i ∷ next) code → Stands i next code
-stands_of all = here
-stands_of (more e) = below (stands_of e)
-
-pub in_code : {i : Instr} {next code : List Instr} {r : Reg} → Ending (i ∷ next) code → Contains i.results r → InCode r code
-in_code all x = in_results x
-in_code (more e) x = further (in_code e x)
 
 module _ (c : Place) (m : Mach) where
   -- what this rests on: no addr is live after a frame point, and what jumps or pushes writes nothing
@@ -296,7 +269,7 @@ module _ (c : Place) (m : Mach) where
         by false q more' = more' q
 
     results_known : (r : Reg) → Contains i.results r → IsRegister m r
-    results_known r x = is_in_code (in_code rel.ending x)
+    results_known r x = is_in_code (results_in (stands_of rel.ending) x)
 
     put_agree : (vs : List Value) (t : Target) (after : Around) → OneOf t (targets i.op) →
         AgreeStep (wrote (code_at m.code next t) after (put_all c.setting.end i.results vs (clear (killed m i) a))) (wrote (code_at m.code next t) after (put_all c.setting.end i.results vs (clear (killed m i) b')))
@@ -317,16 +290,8 @@ module _ (c : Place) (m : Mach) where
             })
 
     land_agree : (to : Landing) → MayLand i.op to → Agree (landing_code m.code (i ∷ next) to) a b'
-    land_agree to l = record { ending = ends to; reached = comes_to to l; agree = λ n v. stays n (by to l n v); known = rel.known }
+    land_agree to l = record { ending = ending_land to (i ∷ next) m.code; reached = comes_to to l; agree = λ n v. stays n (by to l n v); known = rel.known }
       where
-        ends_at : (ts : List ℕ) → Ending (at_handler m.code ts) m.code
-        ends_at [] = ending_nothing m.code
-        ends_at (l ∷ ts) = ending_onto l m.code
-
-        ends : (to : Landing) → Ending (landing_code m.code (i ∷ next) to) m.code
-        ends (AtLabel l) = ending_label l m.code
-        ends AtHandler = ends_at (tries_at (i ∷ next))
-
         caught : (ts : List ℕ) → tries_at (i ∷ next) ≡ ts → may_raise i.op ≡ true → (n : ℕ) → Live m n (at_handler m.code ts) → LiveAcross m n i next
         caught [] e r n v = elim v [ ]
         caught (l ∷ ts) e r n v = across_raise (raises r e) v

@@ -24,20 +24,21 @@ use Rattle.mach_ir.specs.declared.mach.MachOp.TheVariants as mach
 use Rattle.mach_ir.specs.declared.mach.Test.{Test}
 use Rattle.mach_ir.specs.declared.mach.Test.TheVariants as test
 use Rattle.mach_ir.specs.declared.op.Op.{Op}
-use Rattle.mach_ir.specs.declared.op.Right.{Right}
-use Rattle.mach_ir.specs.declared.op.Right.TheVariants as right
 use Rattle.bs_words.specs.declared.operators.IntOp.{IntOp}
 use Rattle.bs_words.specs.declared.operators.IntOp.TheVariants as operator
 use Rattle.mach_ir.specs.declared.reg.Reg.{Reg}
 use Rattle.selection_rules.specs.Instructions.{bare}
 use Rattle.selection_rules.specs.Instructions as emit
-use Rattle.selection_rules.specs.Select.{Code, Shape, InRegisters, ConstantRight, ConstantLeft, PowerRight, rounded, power_code, operator_code, shape_of, shape_op, shape_right, shape_args, unless_left, unless_right, Named, Label, scopes, reg_of, label_of, move_from, move_to, moves_all, exit_to, ordered, only_when, from_seat, symbol_of, unless_symbol, right_of, unless_constant, bound_test, comparison, tested, select_test, is_based, select_base, call_of, callee_regs, bound_name, width, width_labels, inner_dest, inner_valued, regs_of, select, select_waiting, select_filled, select_bound, select_seq, select_cases, select_handlers, deeper, unless_bare, in_handlers, labels_from, count_cases, last_label, switch_labels, cell_stores, to_seat, selected, first, params_from, with_params, is_no_value, fresh, seats, result_seat}
+use Rattle.selection_rules.specs.Select.{Code, Shape, InRegisters, ConstantRight, ConstantLeft, PowerRight, rounded, power_code, operator_code, shape_of, shape_op, shape_right, shape_args, Named, Label, scopes, reg_of, label_of, move_from, move_to, moves_all, exit_to, from_seat, symbol_of, right_of, bound_test, comparison, tested, select_test, is_based, select_base, call_of, callee_regs, bound_name, width, width_labels, inner_dest, inner_valued, regs_of, select, select_waiting, select_filled, select_bound, select_seq, select_cases, select_handlers, deeper, unless_bare, in_handlers, labels_from, count_cases, last_label, switch_labels, cell_stores, to_seat, selected, first, params_from, with_params, is_no_value, fresh, seats, result_seat}
 use Rattle.selection_rules.proofs.Exits.{scopes_params, scopes_after}
-use Rattle.selection_rules.proofs.Parts.{Ending, all, more, ending_in, ending_next, Within, inside_all, inside_more, inside_in}
+use Rattle.mach_laws.specs.Expand.{Ending, all, more}
+use Rattle.mach_laws.proofs.Places.{ending_next, ending_of}
+use Rattle.selection_rules.proofs.Parts.{ending_in, Within, inside_all, inside_more, inside_in}
 use Rattle.selection_rules.proofs.Endings.{ending_select, ending_handlers, ending_cases}
 use Rattle.selection_rules.proofs.Labels.{selected_labelled}
 use Rattle.selection_rules.proofs.Once.{Range}
 use Rattle.selection_laws.specs.Fits.{HasCase, Fits, RowFits, BindingsFit, CasesFit, HandlersFit, FunctionFits}
+use Rattle.selection_rules.proofs.Choices.{kept_when, kept_unless, kept_constant, kept_left, kept_right, kept_if, kept_ordered}
 
 -- the mark of a label stands in a code, and these tries stand round the place after it
 pub record Found (l : ℕ) (ts : List ℕ) (code : List Instr) : Type 0 where
@@ -220,38 +221,6 @@ module _ (whole : List Instr) where
   walks_from_seat : {ts : List ℕ} → Caught whole ts → (n : ℕ) (result : Ret) (d : Reg) → Walks ts (from_seat n result d)
   walks_from_seat c n ret.Unit d = idle
   walks_from_seat c n (ret.Comp k) d = op_step c _ _ (d ∷ []) refl
-
-  walks_ordered : {ts : List ℕ} {x y : Code} (b : Bool) → Walks ts x → Walks ts y → Walks ts (ordered b x y)
-  walks_ordered true x y = then x y
-  walks_ordered false x y = then y x
-
-  walks_when : {ts : List ℕ} {x : Code} (b : Bool) → Walks ts x → Walks ts (only_when b x)
-  walks_when true x = x
-  walks_when false x = idle
-
-  walks_unless : {ts : List ℕ} {x : Code} (o : Option (List ℕ)) → Walks ts x → Walks ts (unless_symbol o x)
-  walks_unless (Some name) x = idle
-  walks_unless None x = x
-
-  walks_constant : {ts : List ℕ} {x : Code} (r : Right) → Walks ts x → Walks ts (unless_constant r x)
-  walks_constant right.Register x = x
-  walks_constant (right.Constant w) x = idle
-
-  walks_if : {ts : List ℕ} {x y : Code} (q : Bool) → Walks ts x → Walks ts y → Walks ts (λ next. cond q (x next) (y next))
-  walks_if true x y = x
-  walks_if false x y = y
-
-  walks_left : {ts : List ℕ} {x : Code} (s : Shape) → Walks ts x → Walks ts (unless_left s x)
-  walks_left InRegisters x = x
-  walks_left (ConstantRight i) x = x
-  walks_left (ConstantLeft i) x = idle
-  walks_left (PowerRight k) x = x
-
-  walks_right : {ts : List ℕ} {x : Code} (s : Shape) → Walks ts x → Walks ts (unless_right s x)
-  walks_right InRegisters x = x
-  walks_right (ConstantRight i) x = idle
-  walks_right (ConstantLeft i) x = x
-  walks_right (PowerRight k) x = idle
 
   walks_rounded : {ts : List ℕ} → Caught whole ts → (k : ℕ) (x y : Reg) → Walks ts (rounded k x y)
   walks_rounded c k x y = then (op_step c _ (x ∷ []) (y ∷ []) refl) (then (op_step c _ (y ∷ []) (y ∷ []) refl) (op_step c _ (x ∷ y ∷ []) (y ∷ []) refl))
@@ -632,14 +601,14 @@ module _ (whole : List Instr) where
     walks_select env labels valued tail d b (Operator at op left right) fine x =
         let s = shape_of op left right in
         then
-        (walks_ordered (is_left_first (scopes env) left right) (walks_left s (walks_select env labels false false _ _ left fine.0 (quiet x))) (walks_right s (walks_select env labels false false _ _ right fine.1 (quiet x))))
+        (kept_ordered (Walks _) (λ x y. then) (is_left_first (scopes env) left right) (kept_left (Walks _) idle s (walks_select env labels false false _ _ left fine.0 (quiet x))) (kept_right (Walks _) idle s (walks_select env labels false false _ _ right fine.1 (quiet x))))
         (walks_operator x.catches s op _ _ _)
     walks_select env labels valued tail d b (App at callee arguments result result_at) fine x =
         let light = is_light_address (scopes env) callee in
         then (walks_waiting env labels _ _ arguments fine.1.1 (quiet x))
-        (then (walks_when (not light) (walks_unless (symbol_of callee) (walks_select env labels false false _ _ callee fine.1.0 (quiet x))))
+        (then (kept_when (Walks _) idle (not light) (kept_unless (Walks _) idle (symbol_of callee) (walks_select env labels false false _ _ callee fine.1.0 (quiet x))))
         (then (walks_filled env labels _ _ arguments fine.1.1 (quiet x))
-        (then (walks_when light (walks_select env labels false false _ _ callee fine.1.0 (quiet x)))
+        (then (kept_when (Walks _) idle light (walks_select env labels false false _ _ callee fine.1.0 (quiet x)))
         (then (walks_moves x.catches (regs_of env (suc (suc b)) arguments) _)
         (walks_call tail _ x result (symbol_of callee) _ _ _ _)))))
     walks_select env labels valued tail d b (Extcall at frame name arguments result result_at) fine x =
@@ -678,11 +647,11 @@ module _ (whole : List Instr) where
         then (walks_base env labels _ _ address fine (quiet x) (walks_select env labels false false _ _ address fine (quiet x))) (op_step x.catches _ (_ ∷ []) (_ ∷ []) refl)
     walks_select env labels valued tail d b (Store at chunk address e) fine x =
         then
-        (walks_ordered (is_left_first (scopes env) address e) (walks_base env labels _ _ address fine.0 (quiet x) (walks_select env labels false false _ _ address fine.0 (quiet x))) (walks_select env labels false false _ _ e fine.1 (quiet x)))
+        (kept_ordered (Walks _) (λ x y. then) (is_left_first (scopes env) address e) (walks_base env labels _ _ address fine.0 (quiet x) (walks_select env labels false false _ _ address fine.0 (quiet x))) (walks_select env labels false false _ _ e fine.1 (quiet x)))
         (op_step x.catches _ (_ ∷ _ ∷ []) [] refl)
     walks_select env labels valued tail d b (Checkbound at bound index) fine x =
         then
-        (walks_ordered (is_left_first (scopes env) bound index) (walks_select env labels false false _ _ bound fine.0 (quiet x)) (walks_constant (right_of bound_test index) (walks_select env labels false false _ _ index fine.1 (quiet x))))
+        (kept_ordered (Walks _) (λ x y. then) (is_left_first (scopes env) bound index) (walks_select env labels false false _ _ bound fine.0 (quiet x)) (kept_constant (Walks _) idle (right_of bound_test index) (walks_select env labels false false _ _ index fine.1 (quiet x))))
         (op_step x.catches _ _ [] refl)
     walks_select env labels valued tail d b (Raise at e) fine x =
         then (walks_select env labels false false _ _ e fine (quiet x)) (then (op_step x.catches _ (_ ∷ []) (_ ∷ []) refl) (op_step x.catches _ (_ ∷ []) [] refl))
@@ -707,14 +676,14 @@ module _ (whole : List Instr) where
         (walks_select _ labels wants tail d' (base + width body) handler fine.1 x) (λ next. ending_select env labels valued tail d b (Try at body name_at name handler) next)
 
     walks_base : {ts : List ℕ} {whole_code : Code} (env : List Named) (labels : List Label) (t b : ℕ) (e : Expression) → Fits (scopes env) e → Surrounds ts labels false → Walks ts whole_code → Walks ts (select_base env labels t b e whole_code)
-    walks_base env labels t b (Operator at op base (Integer at' w)) fine x inside = walks_if (is_based op w) (walks_select env labels false false _ _ base fine.0 x) inside
+    walks_base env labels t b (Operator at op base (Integer at' w)) fine x inside = kept_if (Walks _) (is_based op w) (walks_select env labels false false _ _ base fine.0 x) inside
     walks_base env labels t b e fine x inside = inside
 
     walks_test : {ts : List ℕ} {value : Code} (env : List Named) (labels : List Label) (l b : ℕ) (e : Expression) → Fits (scopes env) e → Surrounds ts labels false → Tests ts l value → Tests ts l (λ next. select_test env labels l b e (value next) next)
     walks_test env labels l b (Operator at op left right) fine x v =
         let s = shape_of op left right in
         tests_either (comparison (shape_op s op) (shape_right s)) _
-        (λ t. tests_branch x.catches (walks_ordered (is_left_first (scopes env) left right) (walks_left s (walks_select env labels false false _ _ left fine.0 x)) (walks_right s (walks_select env labels false false _ _ right fine.1 x))) t l (shape_args s _ _))
+        (λ t. tests_branch x.catches (kept_ordered (Walks _) (λ x y. then) (is_left_first (scopes env) left right) (kept_left (Walks _) idle s (walks_select env labels false false _ _ left fine.0 x)) (kept_right (Walks _) idle s (walks_select env labels false false _ _ right fine.1 x))) t l (shape_args s _ _))
         v
     walks_test env labels l b e fine x v = v
 
@@ -727,11 +696,11 @@ module _ (whole : List Instr) where
 
     walks_waiting : {ts : List ℕ} (env : List Named) (labels : List Label) (b i : ℕ) (es : Expressions) → RowFits (scopes env) es → Surrounds ts labels false → Walks ts (select_waiting env labels b i es)
     walks_waiting env labels b i NoMore fine x = idle
-    walks_waiting env labels b i (More e rest) fine x = then (walks_waiting env labels _ _ rest fine.1 x) (walks_when (not (is_light_address (scopes env) e)) (walks_select env labels false false _ i e fine.0 x))
+    walks_waiting env labels b i (More e rest) fine x = then (walks_waiting env labels _ _ rest fine.1 x) (kept_when (Walks _) idle (not (is_light_address (scopes env) e)) (walks_select env labels false false _ i e fine.0 x))
 
     walks_filled : {ts : List ℕ} (env : List Named) (labels : List Label) (b i : ℕ) (es : Expressions) → RowFits (scopes env) es → Surrounds ts labels false → Walks ts (select_filled env labels b i es)
     walks_filled env labels b i NoMore fine x = idle
-    walks_filled env labels b i (More e rest) fine x = then (walks_filled env labels _ _ rest fine.1 x) (walks_when (is_light_address (scopes env) e) (walks_select env labels false false _ i e fine.0 x))
+    walks_filled env labels b i (More e rest) fine x = then (walks_filled env labels _ _ rest fine.1 x) (kept_when (Walks _) idle (is_light_address (scopes env) e) (walks_select env labels false false _ i e fine.0 x))
 
     walks_bound : {ts : List ℕ} (env : List Named) (labels : List Label) (b : ℕ) (bs : Bindings) → BindingsFit (scopes env) bs → Surrounds ts labels false → Walks ts (select_bound env labels b bs)
     walks_bound env labels b NoBinding fine x = idle
@@ -773,10 +742,6 @@ whole_walk f fits =
 
 pub selected_kept : (f : FunctionTree) → FunctionFits f → AllKept (selected f).code (selected f).code
 selected_kept f fits = let w = whole_walk f fits in w.kept (returning f) refl all (one (kept_leaving (selected f).code _ (result_seat _ (result_of (body_type f))) [] [] refl) none)
-
-pub ending_of : {i : Instr} {next code : List Instr} → Stands i next code → Ending (i ∷ next) code
-ending_of here = all
-ending_of (below s) = more (ending_of s)
 
 place_there : {l : ℕ} {i : Instr} {rest code : List Instr} → Ending (i ∷ rest) code → has_label l i.op ≡ true → HasPlace l code
 place_there all e = place_here e

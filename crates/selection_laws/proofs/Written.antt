@@ -12,13 +12,14 @@ use Rattle.mach_ir.specs.Acts.{Around, Target, On, At, Landing, AtLabel, AtHandl
 use Rattle.mach_ir.specs.Keeps.{ValsWritten, OriginsAgree, Proper}
 use Rattle.mach_ir.specs.Runs.{Place, Step, Continues, Pays, Deepens, Waits, FinishesBy, Finishes, FinishesRaising, IsStuck, Tally, Run, Running, Asking, Ended, Wrong, paid, came_back, kept_of, handed, onward, first_tally, entered}
 use Rattle.mach_ir.specs.Meaning.{State, File, Held, put_if, put_all, clear, killed, killed_by, killed_among, Destroyed, Nothing, Temporaries, Everything, destroyed_by, values, is_addr, unless_addr, past_frame, passes_frame, code_at, tries_at, at_handler, landing_code, mach_act, wrote, on_act, on_values, at_code, run, begun, start}
-use Rattle.mach_ir.specs.Walks.{Among, first, later, OneOf, targets, may_raise, Leads, Raises, goes, raises, Reached, at_entry, by_step, by_raise, Live, read, on, aside, LiveAcross, across_step, across_raise, InCode, in_args, further, is_param, is_in_code}
+use Rattle.mach_ir.specs.Walks.{Among, first, later, OneOf, targets, may_raise, Leads, Raises, goes, raises, Reached, at_entry, by_step, by_raise, Live, read, on, aside, LiveAcross, across_step, across_raise, InCode, is_param, is_in_code}
 use Rattle.mach_ir.specs.declared.mach.Instr.{Instr}
 use Rattle.mach_ir.specs.declared.mach.Mach.{Mach}
 use Rattle.mach_ir.specs.declared.reg.Reg.{Reg}
-use Rattle.selection_rules.proofs.Parts.{Ending, all, more, ending_next}
+use Rattle.mach_laws.specs.Expand.{Ending, all}
+use Rattle.mach_laws.proofs.Places.{ending_next, ending_label, ending_from_handler, stands_of, results_in, args_in, ending_land}
 use Rattle.mach_laws.proofs.Leads.{IsTry, MayLand, lands_at_label, lands_at_handler, Within, goes_in, pushes_in, jumps_in, unwinds_in, asks_in, within}
-use Rattle.selection_laws.proofs.Losing.{not_first, frame_keeps, not_addr, none_not, bare_at, bare_try, next_try, ending_label, ending_onto, ending_nothing, stands_of, in_code, Steady, Known, AllKnown, Stood, comes, at_end, free_both, live_in, clear_known, put_all_known, known_of, bare_free}
+use Rattle.selection_laws.proofs.Losing.{not_first, frame_keeps, not_addr, none_not, bare_at, bare_try, next_try, Steady, Known, AllKnown, Stood, comes, at_end, free_both, live_in, clear_known, put_all_known, known_of, bare_free}
 
 pub data Holding : Option Held → Type 0 where
   holding : {x : Held} → Holding (Some x)
@@ -81,10 +82,6 @@ killed_colour n rs Everything results i = killed_in n rs Everything results i
 
 -- ---- what is read stands in the code
 
-args_in_code : {i : Instr} {next code : List Instr} {r : Reg} → Ending (i ∷ next) code → Contains i.args r → InCode r code
-args_in_code all x = in_args x
-args_in_code (more e) x = further (args_in_code e x)
-
 reg_among : {n : ℕ} (rs : List Reg) → Among n rs → (r : Reg) × Contains rs r × (r.number ≡ n)
 reg_among [] i = elim i [ ]
 reg_among (r ∷ rs) (first e) = (r, contains_head r rs, e)
@@ -102,12 +99,12 @@ module _ (c : Place) (m : Mach) where
   ending_leads (goes (At l) o) e = ending_label l m.code
 
   ending_raises : {i : Instr} {next to : List Instr} → Raises m i next to → Ending to m.code
-  ending_raises (raises {l = l} mr t) = ending_onto l m.code
+  ending_raises (raises {l = l} mr t) = ending_from_handler l m.code
 
   no_colour : Assigned → {n : ℕ} {code : List Instr} → Ending code m.code → Live m n code → Among n m.colours → ⊥
   no_colour z {n} e (read {i = i} a) k =
       let x = reg_among i.args a in
-      z.colours x.0 (args_in_code e x.1) (subst (λ q. Among q m.colours) (sym x.2) k)
+      z.colours x.0 (args_in (stands_of e) x.1) (subst (λ q. Among q m.colours) (sym x.2) k)
   no_colour z e (on free l w) k = no_colour z (ending_leads l e) w k
   no_colour z e (aside r w) k = no_colour z (ending_raises r) w k
 
@@ -192,21 +189,13 @@ module _ (c : Place) (m : Mach) where
               written = q;
               known =
                   known_of c m
-                  (put_all_known c m c.setting.end i.results vs (clear (killed m i) a') (λ r x. is_in_code (in_code rel.ending x))
+                  (put_all_known c m c.setting.end i.results vs (clear (killed m i) a') (λ r x. is_in_code (results_in (stands_of rel.ending) x))
                   (clear_known c m (killed m i) a' known')) e;
             })
 
     land_fine : (to : Landing) → MayLand i.op to → Fine (landing_code m.code (i ∷ next) to) a'
-    land_fine to l = record { ending = ends to; reached = comes_to to l; written = λ n v. stays n (by to l n v); known = known' }
+    land_fine to l = record { ending = ending_land to (i ∷ next) m.code; reached = comes_to to l; written = λ n v. stays n (by to l n v); known = known' }
       where
-        ends_at : (ts : List ℕ) → Ending (at_handler m.code ts) m.code
-        ends_at [] = ending_nothing m.code
-        ends_at (l ∷ ts) = ending_onto l m.code
-
-        ends : (to : Landing) → Ending (landing_code m.code (i ∷ next) to) m.code
-        ends (AtLabel l) = ending_label l m.code
-        ends AtHandler = ends_at (tries_at (i ∷ next))
-
         caught : (ts : List ℕ) → tries_at (i ∷ next) ≡ ts → may_raise i.op ≡ true → (n : ℕ) → Live m n (at_handler m.code ts) → LiveAcross m n i next
         caught [] e r n v = elim v [ ]
         caught (l ∷ ts) e r n v = across_raise (raises r e) v

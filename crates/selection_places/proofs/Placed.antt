@@ -14,8 +14,9 @@ use Rattle.selection_places.proofs.Sets.{Role, Plain, New, Seated, IsColour, lef
 use Rattle.selection_places.proofs.Coded as coded
 use Rattle.selection_places.proofs.Coded.{Member, later, Each, none, one, each_of, Apart, seats_apart}
 use Rattle.selection_places.proofs.Codes.{onto}
-use Rattle.selection_places.proofs.Soon.{found, contains_of, whole, live_soon, soon_in, written_fine}
+use Rattle.selection_places.proofs.Soon.{found, contains_of, live_soon, soon_in, written_fine}
 use Rattle.selection_places.proofs.Whole.{Whole, whole_block, others_block, params_of, HasRole, has, has_role, member_of, selected_coded, selected_numbers}
+use Rattle.mach_laws.specs.Expand.{all}
 
 -- ---- where registers stand
 
@@ -71,7 +72,7 @@ meets_apart f r q x y apart (at_write i next there w live no_move) fixed same =
     (fixed_colour f q y (λ e. fixed (same ∙ e))) r x apart same i next there w live
 meets_apart f r q x y apart (at_params a live) fixed same =
     let open_q : q.loc ≢ loc.Unset = λ e. fixed (same ∙ e) in
-    let soon = live_soon (Whole f) (plain_open f) (new_open f) (selected f) (selected_numbers f) _ (selected_coded f) q y open_q refl live whole in
+    let soon = live_soon (Whole f) (plain_open f) (new_open f) (selected f) (selected_numbers f) _ (selected_coded f) q y open_q refl live all in
     let there = soon_in (Whole f) (plain_open f) (new_open f) q open_q (selected_coded f) soon in
     let q_in = ⊎_elim (λ z. z) (λ z. absurd (not_in_none z)) (from_onto (seats 0 first (params_of f)) [] there) in
     let p = found a in

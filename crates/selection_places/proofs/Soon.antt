@@ -19,29 +19,15 @@ use Rattle.selection_laws.proofs.WellFormed.{NumbersTell}
 use Rattle.selection_places.proofs.Sets.{Role, Plain, New, IsColour}
 use Rattle.selection_places.proofs.Coded as coded
 use Rattle.selection_places.proofs.Coded.{Member, Each, each_of, is_heavy, Apart, Reads, reads_plain, reads_new, ReadsSeats, reads, reads_seat, Gives, gives_none, gives_one, Coded, ends, plain, fills, empties, asks, handles, allocs}
+use Rattle.mach_laws.specs.Expand.{Ending, all, more}
+use Rattle.mach_laws.proofs.Places.{ending_next, ending_of, ending_handler, stands_of, args_in, results_in}
 
--- ---- what a code ends with
-
-pub data Suffix (rest : List Instr) : List Instr → Type 0 where
-  whole : Suffix rest rest
-  beyond : {i : Instr} {is : List Instr} → Suffix rest is → Suffix rest (i ∷ is)
-
-pub suffix_of : {i : Instr} {next code : List Instr} → Stands i next code → Suffix (i ∷ next) code
-suffix_of here = whole
-suffix_of (below s) = beyond (suffix_of s)
-
-pub suffix_next : {i : Instr} {next code : List Instr} → Suffix (i ∷ next) code → Suffix next code
-suffix_next whole = beyond whole
-suffix_next (beyond s) = beyond (suffix_next s)
-
-none_after : (code : List Instr) → Suffix [] code
-none_after [] = whole
-none_after (i ∷ is) = beyond (none_after is)
+-- ---- where labels and handlers are
 
 -- the code after a label is none, or that after a mark with it
 data Labelled (l : ℕ) (code : List Instr) : List Instr → Type 0 where
   no_place : Labelled l code []
-  place : {i : Instr} {next : List Instr} → has_label l i.op ≡ true → Suffix (i ∷ next) code → Labelled l code next
+  place : {i : Instr} {next : List Instr} → has_label l i.op ≡ true → Ending (i ∷ next) code → Labelled l code next
 
 labelled : (l : ℕ) (code : List Instr) → Labelled l code (after_label l code)
 labelled l [] = no_place
@@ -49,15 +35,15 @@ labelled l (i ∷ is) = by (has_label l i.op) refl (labelled l is)
   where
     further' : {rest : List Instr} → Labelled l is rest → Labelled l (i ∷ is) rest
     further' no_place = no_place
-    further' (place e s) = place e (beyond s)
+    further' (place e s) = place e (more s)
 
     by : (b : Bool) → has_label l i.op ≡ b → Labelled l is (after_label l is) → Labelled l (i ∷ is) (cond b is (after_label l is))
-    by true e others = place e whole
+    by true e others = place e all
     by false e others = further' others
 
 data Handled (l : ℕ) (code : List Instr) : List Instr → Type 0 where
   no_handler : Handled l code []
-  handler : {i : Instr} {next : List Instr} → is_handler_of l i.op ≡ true → Suffix (i ∷ next) code → Handled l code (i ∷ next)
+  handler : {i : Instr} {next : List Instr} → is_handler_of l i.op ≡ true → Ending (i ∷ next) code → Handled l code (i ∷ next)
 
 handled : (l : ℕ) (code : List Instr) → Handled l code (from_handler l code)
 handled l [] = no_handler
@@ -65,19 +51,19 @@ handled l (i ∷ is) = by (is_handler_of l i.op) refl (handled l is)
   where
     further' : {rest : List Instr} → Handled l is rest → Handled l (i ∷ is) rest
     further' no_handler = no_handler
-    further' (handler e s) = handler e (beyond s)
+    further' (handler e s) = handler e (more s)
 
     by : (b : Bool) → is_handler_of l i.op ≡ b → Handled l is (from_handler l is) → Handled l (i ∷ is) (cond b (i ∷ is) (from_handler l is))
-    by true e others = handler e whole
+    by true e others = handler e all
     by false e others = further' others
 
-label_suffix : {l : ℕ} {code rest : List Instr} → Labelled l code rest → Suffix rest code
-label_suffix {code = code} no_place = none_after code
-label_suffix (place e s) = suffix_next s
+label_ending : {l : ℕ} {code rest : List Instr} → Labelled l code rest → Ending rest code
+label_ending {code = code} no_place = ending_handler [] code
+label_ending (place e s) = ending_next s
 
-handler_suffix : {l : ℕ} {code rest : List Instr} → Handled l code rest → Suffix rest code
-handler_suffix {code = code} no_handler = none_after code
-handler_suffix (handler e s) = s
+handler_ending : {l : ℕ} {code rest : List Instr} → Handled l code rest → Ending rest code
+handler_ending {code = code} no_handler = ending_handler [] code
+handler_ending (handler e s) = s
 
 -- ---- soon
 
@@ -175,40 +161,40 @@ module _ (Q : Role → Reg → Type 0) (open_plain : (r : Reg) → Q Plain r →
   fine_handler {l} {y} (coded.first g) = given refl (λ k. refl) (ap (λ (z : Reg). z ∷ []) (sym g))
   fine_handler (coded.later m) = elim m [ ]
 
-  pub fine_in : {S P : List Reg} {code : List Instr} {i : Instr} {next : List Instr} → Coded Q S P code → Suffix (i ∷ next) code → Soon q next → Fine q i
+  pub fine_in : {S P : List Reg} {code : List Instr} {i : Instr} {next : List Instr} → Coded Q S P code → Ending (i ∷ next) code → Soon q next → Fine q i
   fine_in ends w s = elim w [ ]
-  fine_in (plain a u n x) whole s = absurd (elim (soon_in x s) [ ])
-  fine_in (plain a u n x) (beyond w) s = fine_in x w s
-  fine_in (fills a u v x) whole s = fine_fill v (soon_in x s)
-  fine_in (fills a u v x) (beyond w) s = fine_in x w s
-  fine_in (empties u v x) whole s = fine_empty v
-  fine_in (empties u v x) (beyond w) s = fine_in x w s
-  fine_in (asks a g h x) whole s = fine_given h g (soon_in x s)
-  fine_in (asks a g h x) (beyond w) s = fine_in x w s
-  fine_in (handles u x) whole s = fine_handler (soon_in x s)
-  fine_in (handles u x) (beyond w) s = fine_in x w s
-  fine_in (allocs u v x) whole s = absurd (elim (soon_in x s) [ ])
-  fine_in (allocs u v x) (beyond w) s = fine_in x w s
+  fine_in (plain a u n x) all s = absurd (elim (soon_in x s) [ ])
+  fine_in (plain a u n x) (more w) s = fine_in x w s
+  fine_in (fills a u v x) all s = fine_fill v (soon_in x s)
+  fine_in (fills a u v x) (more w) s = fine_in x w s
+  fine_in (empties u v x) all s = fine_empty v
+  fine_in (empties u v x) (more w) s = fine_in x w s
+  fine_in (asks a g h x) all s = fine_given h g (soon_in x s)
+  fine_in (asks a g h x) (more w) s = fine_in x w s
+  fine_in (handles u x) all s = fine_handler (soon_in x s)
+  fine_in (handles u x) (more w) s = fine_in x w s
+  fine_in (allocs u v x) all s = absurd (elim (soon_in x s) [ ])
+  fine_in (allocs u v x) (more w) s = fine_in x w s
 
   heavy_handler : (f : MachOp) → is_heavy f ≡ true → (l : ℕ) → is_handler_of l f ≡ false
   heavy_handler (mach.Op f) e l = refl
   heavy_handler (mach.Mark f) e l = absurd (true≢false (sym e))
 
-  pub not_at_handler : {S P : List Reg} {code : List Instr} {i : Instr} {next : List Instr} (l : ℕ) → Coded Q S P code → Suffix (i ∷ next) code →
+  pub not_at_handler : {S P : List Reg} {code : List Instr} {i : Instr} {next : List Instr} (l : ℕ) → Coded Q S P code → Ending (i ∷ next) code →
       is_handler_of l i.op ≡ true → Soon q (i ∷ next) → ⊥
   not_at_handler l ends w e s = elim w [ ]
-  not_at_handler l (plain a u n x) whole e s = elim (soon_in (plain a u n x) s) [ ]
-  not_at_handler l (plain a u n x) (beyond w) e s = not_at_handler l x w e s
-  not_at_handler l (fills a u v x) whole e s = true≢false (sym e)
-  not_at_handler l (fills a u v x) (beyond w) e s = not_at_handler l x w e s
-  not_at_handler l (empties u v x) whole e s = true≢false (sym e)
-  not_at_handler l (empties u v x) (beyond w) e s = not_at_handler l x w e s
-  not_at_handler l (asks {i = i} a g h x) whole e s = true≢false (sym e ∙ heavy_handler i.op h l)
-  not_at_handler l (asks a g h x) (beyond w) e s = not_at_handler l x w e s
-  not_at_handler l (handles u x) whole e s = elim (soon_in (handles u x) s) [ ]
-  not_at_handler l (handles u x) (beyond w) e s = not_at_handler l x w e s
-  not_at_handler l (allocs u v x) whole e s = elim (soon_in (allocs u v x) s) [ ]
-  not_at_handler l (allocs u v x) (beyond w) e s = not_at_handler l x w e s
+  not_at_handler l (plain a u n x) all e s = elim (soon_in (plain a u n x) s) [ ]
+  not_at_handler l (plain a u n x) (more w) e s = not_at_handler l x w e s
+  not_at_handler l (fills a u v x) all e s = true≢false (sym e)
+  not_at_handler l (fills a u v x) (more w) e s = not_at_handler l x w e s
+  not_at_handler l (empties u v x) all e s = true≢false (sym e)
+  not_at_handler l (empties u v x) (more w) e s = not_at_handler l x w e s
+  not_at_handler l (asks {i = i} a g h x) all e s = true≢false (sym e ∙ heavy_handler i.op h l)
+  not_at_handler l (asks a g h x) (more w) e s = not_at_handler l x w e s
+  not_at_handler l (handles u x) all e s = elim (soon_in (handles u x) s) [ ]
+  not_at_handler l (handles u x) (more w) e s = not_at_handler l x w e s
+  not_at_handler l (allocs u v x) all e s = elim (soon_in (allocs u v x) s) [ ]
+  not_at_handler l (allocs u v x) (more w) e s = not_at_handler l x w e s
 
 -- ---- registers by their numbers
 
@@ -224,14 +210,6 @@ found (later a) = let f = found a in record { reg = f.reg; member = coded.later 
 pub contains_of : {r : Reg} {rs : List Reg} → Member r rs → Contains rs r
 contains_of {r} (coded.first {q = q} {qs = qs} e) = subst (λ z. Contains (q ∷ qs) z) (sym e) (contains_head q qs)
 contains_of {r} (coded.later {q = q} {qs = qs} m) = contains_tail q qs r (contains_of m)
-
-pub in_code_args : {r : Reg} {i : Instr} {next code : List Instr} → Suffix (i ∷ next) code → Member r i.args → InCode r code
-in_code_args whole m = in_args (contains_of m)
-in_code_args (beyond w) m = further (in_code_args w m)
-
-pub in_code_results : {r : Reg} {i : Instr} {next code : List Instr} → Suffix (i ∷ next) code → Member r i.results → InCode r code
-in_code_results whole m = in_results (contains_of m)
-in_code_results (beyond w) m = further (in_code_results w m)
 
 among_left : {n : ℕ} {xs : List Reg} (ys : List Reg) → Among n xs → Among n (xs ++ ys)
 among_left ys (first e) = first e
@@ -288,7 +266,7 @@ killed_member rs i m = let k = killed_from rs (destroyed_by i.op) i.results m in
 module _ (Q : Role → Reg → Type 0) (open_plain : (r : Reg) → Q Plain r → r.loc ≡ loc.Unset) (open_new : (r : Reg) → Q New r → r.loc ≡ loc.Unset) (m : Mach)
     (numbers : NumbersTell m) (S : List Reg) (is : Coded Q S [] m.code)
     (q : Reg) (among : IsRegister m q) (fixed : q.loc ≢ loc.Unset) where
-  fine : {i : Instr} {next : List Instr} → Suffix (i ∷ next) m.code → Soon q next → Fine q i
+  fine : {i : Instr} {next : List Instr} → Ending (i ∷ next) m.code → Soon q next → Fine q i
   fine w s = fine_in Q open_plain open_new q fixed is w s
 
   not_labelled : (l : ℕ) {rest : List Instr} → Labelled l m.code rest → Soon q rest → ⊥
@@ -304,11 +282,11 @@ module _ (Q : Role → Reg → Type 0) (open_plain : (r : Reg) → Q Plain r →
   not_handled l (handler e w) s = not_at_handler Q open_plain open_new q fixed l is w e s
 
   -- a register with a fixed place is live only where it is read soon
-  pub live_soon : {n : ℕ} {rest : List Instr} → q.number ≡ n → Live m n rest → Suffix rest m.code → Soon q rest
+  pub live_soon : {n : ℕ} {rest : List Instr} → q.number ≡ n → Live m n rest → Ending rest m.code → Soon q rest
   live_soon e (read {i = i} a) w =
       let f = found a in
-      reads_now (subst (λ z. Member z i.args) (numbers f.reg q (is_in_code (in_code_args w f.member)) among (f.same ∙ sym e)) f.member)
-  live_soon {n} e (on {i = i} {next = next} unwritten (goes On o) live) w = by (live_soon e live (suffix_next w))
+      reads_now (subst (λ z. Member z i.args) (numbers f.reg q (is_in_code (args_in (stands_of w) (contains_of f.member))) among (f.same ∙ sym e)) f.member)
+  live_soon {n} e (on {i = i} {next = next} unwritten (goes On o) live) w = by (live_soon e live (ending_next w))
     where
       by : Soon q next → Soon q (i ∷ next)
       by s = by' (fine w s)
@@ -316,17 +294,17 @@ module _ (Q : Role → Reg → Type 0) (open_plain : (r : Reg) → Q Plain r →
           by' : Fine q i → Soon q (i ∷ next)
           by' (straight p apart) = past p (λ a. unwritten (among_left (killed m i) (subst (λ z. Among z i.results) e a))) s
           by' (given p no_label g) = absurd (unwritten (among_left (killed m i) (subst (λ rs. Among n rs) (sym g) (first e))))
-  live_soon e (on unwritten (goes (At l) o) live) w = absurd (not_labelled l (labelled l m.code) (live_soon e live (label_suffix (labelled l m.code))))
-  live_soon e (aside (raises {l = l} b t) live) w = absurd (not_handled l (handled l m.code) (live_soon e live (handler_suffix (handled l m.code))))
+  live_soon e (on unwritten (goes (At l) o) live) w = absurd (not_labelled l (labelled l m.code) (live_soon e live (label_ending (labelled l m.code))))
+  live_soon e (aside (raises {l = l} b t) live) w = absurd (not_handled l (handled l m.code) (live_soon e live (handler_ending (handled l m.code))))
 
   -- where a write goes on to a place before which it is read soon, it goes on after the instruction
   goes_on : {i : Instr} {next to : List Instr} → Leads m i next to → Soon q to → Soon q next
   goes_on (goes On o) s = s
   goes_on (goes (At l) o) s = absurd (not_labelled l (labelled l m.code) s)
 
-  leads_suffix : {i : Instr} {next to : List Instr} → Suffix (i ∷ next) m.code → Leads m i next to → Suffix to m.code
-  leads_suffix w (goes On o) = suffix_next w
-  leads_suffix w (goes (At l) o) = label_suffix (labelled l m.code)
+  leads_ending : {i : Instr} {next to : List Instr} → Ending (i ∷ next) m.code → Leads m i next to → Ending to m.code
+  leads_ending w (goes On o) = ending_next w
+  leads_ending w (goes (At l) o) = label_ending (labelled l m.code)
 
   colour_same : {l k : Loc} → IsColour l → k ≡ l → same_colour k l ≡ true
   colour_same {l} {k} c e = subst (λ z. same_colour k z ≡ true) e (subst (λ z. same_colour z z ≡ true) (sym (e ∙ c.is)) (eq-eqb c.colour c.colour refl))
@@ -336,10 +314,10 @@ module _ (Q : Role → Reg → Type 0) (open_plain : (r : Reg) → Q Plain r →
     is_other : (s : Reg) → IsRegister m s → s.number ≡ r.number → s ≡ r
     is_other s x e = numbers s r x other e
 
-    result_fine : {i : Instr} {next : List Instr} → Suffix (i ∷ next) m.code → Fine q i → Among r.number i.results → ⊥
+    result_fine : {i : Instr} {next : List Instr} → Ending (i ∷ next) m.code → Fine q i → Among r.number i.results → ⊥
     result_fine {i} w (straight p stands) a =
         let f = found a in
-        let is_r = is_other f.reg (is_in_code (in_code_results w f.member)) f.same in
+        let is_r = is_other f.reg (is_in_code (results_in (stands_of w) (contains_of f.member))) f.same in
         apart (sym f.same ∙ ap (λ (z : Reg). z.number) (stands f.reg f.member (ap (λ (z : Reg). z.loc) is_r ∙ same)))
     result_fine {i} w (given p no_label g) a = by (subst (λ rs. Among r.number rs) g a)
       where
@@ -358,6 +336,6 @@ module _ (Q : Role → Reg → Type 0) (open_plain : (r : Reg) → Q Plain r →
 
     pub written_fine : (i : Instr) (next : List Instr) → Stands i next m.code → Writes m i r.number → LiveAfter m q.number i next → ⊥
     written_fine i next stands w (after_step leads live) =
-        let there = suffix_of stands in
-        let f = fine there (goes_on leads (live_soon refl live (leads_suffix there leads))) in
+        let there = ending_of stands in
+        let f = fine there (goes_on leads (live_soon refl live (leads_ending there leads))) in
         ⊎_elim (λ a. result_fine there f a) (λ a. killed_fine f a) (among_cases i.results (killed m i) w)

@@ -1,5 +1,5 @@
 -- No more tries stand round a place of selected code than stand round one of the text.
-use Rattle.std.proofs.Common.{◌≡◌, ℕ, suc, ◌+◌, ◌≤◌, max, length, Bool, true, false, not, cond, List, [], ◌∷◌, Option, Some, None, refl, ap, ◌∙◌, arith}
+use Rattle.std.proofs.Common.{◌≡◌, ℕ, suc, ◌+◌, ◌≤◌, max, length, Bool, true, false, not, List, [], ◌∷◌, Option, Some, None, refl, ap, ◌∙◌, arith}
 use Rattle.bs_words.specs.declared.operators.IntOp.{IntOp}
 use Rattle.bs_words.specs.declared.operators.IntOp.TheVariants as operator
 use Rattle.bs_words.specs.declared.types.Chunk.{Chunk}
@@ -19,14 +19,13 @@ use Rattle.mach_ir.specs.declared.mach.MachOp.{MachOp}
 use Rattle.mach_ir.specs.declared.mach.MachOp.TheVariants as mach
 use Rattle.mach_ir.specs.declared.mach.Test.{Test}
 use Rattle.mach_ir.specs.declared.mach.Test.TheVariants as test
-use Rattle.mach_ir.specs.declared.op.Right.{Right}
-use Rattle.mach_ir.specs.declared.op.Right.TheVariants as right
 use Rattle.mach_ir.specs.declared.reg.Reg.{Reg}
 use Rattle.selection_rules.specs.Instructions.{bare}
 use Rattle.selection_rules.specs.Instructions as emit
-use Rattle.selection_rules.specs.Select.{Code, Shape, InRegisters, ConstantRight, ConstantLeft, PowerRight, shape_of, shape_op, shape_right, shape_args, unless_left, unless_right, power_code, operator_code, Named, Label, scopes, reg_of, label_of, move_from, move_to, moves_all, exit_to, ordered, only_when, from_seat, symbol_of, unless_symbol, right_of, unless_constant, bound_test, comparison, tested, select_test, is_based, select_base, call_of, regs_of, select, select_waiting, select_filled, select_bound, select_seq, select_cases, select_handlers, deeper, cell_stores, returns, selected, first, is_no_value, fresh, seats}
+use Rattle.selection_rules.specs.Select.{Code, Shape, InRegisters, ConstantRight, ConstantLeft, PowerRight, shape_of, shape_op, shape_right, shape_args, power_code, operator_code, Named, Label, scopes, reg_of, label_of, move_from, move_to, moves_all, exit_to, from_seat, symbol_of, right_of, bound_test, comparison, select_test, is_based, select_base, call_of, regs_of, select, select_waiting, select_filled, select_bound, select_seq, select_cases, select_handlers, deeper, cell_stores, returns, selected, first, is_no_value, fresh, seats}
 use Rattle.selection_places.proofs.Whole.{value_at, params_of, env_of}
 use Rattle.pass_rules.specs.Carried.{TriesAtMost}
+use Rattle.selection_rules.proofs.Choices.{kept_when, kept_unless, kept_constant, kept_left, kept_right, kept_tested, kept_if, kept_ordered}
 
 -- the most tries round a place of a code
 abbrev deepest : List Instr → ℕ
@@ -98,43 +97,6 @@ n_cells : {n : ℕ} (k : Chunk) (p : Reg) (i : ℕ) (rs : List Reg) → Nests n 
 n_cells k p i [] = n_none
 n_cells k p i (r ∷ rs) = n_then (n_op _ (p ∷ r ∷ []) []) (n_cells k p (suc i) rs)
 
-n_ordered : {x y : Code} {n : ℕ} (b : Bool) → Nests n x → Nests n y → Nests n (ordered b x y)
-n_ordered true p q = n_then p q
-n_ordered false p q = n_then q p
-
-n_when : {code : Code} {n : ℕ} (b : Bool) → Nests n code → Nests n (only_when b code)
-n_when true e = e
-n_when false e = n_none
-
-n_unless : {code : Code} {n : ℕ} (o : Option (List ℕ)) → Nests n code → Nests n (unless_symbol o code)
-n_unless (Some name) e = n_none
-n_unless None e = e
-
-n_constant : {code : Code} {n : ℕ} (r : Right) → Nests n code → Nests n (unless_constant r code)
-n_constant right.Register e = e
-n_constant (right.Constant w) e = n_none
-
-n_left : {code : Code} {n : ℕ} (s : Shape) → Nests n code → Nests n (unless_left s code)
-n_left InRegisters e = e
-n_left (ConstantRight i) e = e
-n_left (ConstantLeft i) e = n_none
-n_left (PowerRight k) e = e
-
-n_right : {code : Code} {n : ℕ} (s : Shape) → Nests n code → Nests n (unless_right s code)
-n_right InRegisters e = e
-n_right (ConstantRight i) e = n_none
-n_right (ConstantLeft i) e = e
-n_right (PowerRight k) e = n_none
-
-n_tested : {value : Code} {n : ℕ} (o : Option Test) (fused : Test → Code) → ((t : Test) → Nests n (fused t)) → Nests n value → Nests n
-    (λ next. tested o (λ t. fused t next) (value next))
-n_tested (Some t) fused f v = f t
-n_tested None fused f v = v
-
-n_if : {x y : Code} {n : ℕ} (q : Bool) → Nests n x → Nests n y → Nests n (λ next. cond q (x next) (y next))
-n_if true a b = a
-n_if false a b = b
-
 n_power : {n : ℕ} (f : IntOp) (k : ℕ) (x y d : Reg) → Nests n (power_code f k x y d)
 n_power operator.Div k x y d =
     n_then (n_op _ (x ∷ []) (y ∷ [])) (n_then (n_op _ (y ∷ []) (y ∷ [])) (n_then (n_op _ (x ∷ y ∷ []) (y ∷ [])) (n_op _ (y ∷ []) (d ∷ []))))
@@ -199,15 +161,15 @@ mutual
   n_select env labels valued tail d b (Operator at op e g) =
       let s = shape_of op e g in
       n_then
-      (n_ordered (is_left_first (scopes env) e g) (n_left s (n_up (omega arith) (n_select env labels false false _ _ e)))
-      (n_right s (n_up (omega arith) (n_select env labels false false _ _ g)))) (n_operator s op _ _ _)
+      (kept_ordered (Nests _) (λ x y. n_then) (is_left_first (scopes env) e g) (kept_left (Nests _) n_none s (n_up (omega arith) (n_select env labels false false _ _ e)))
+      (kept_right (Nests _) n_none s (n_up (omega arith) (n_select env labels false false _ _ g)))) (n_operator s op _ _ _)
   n_select env labels valued tail d b (App at callee arguments result result_at) =
       let light = is_light_address (scopes env) callee in
       let regs = regs_of env (suc (suc b)) arguments in
       n_then (n_up (omega arith) (n_waiting env labels _ _ arguments))
-      (n_then (n_when (not light) (n_unless (symbol_of callee) (n_up (omega arith) (n_select env labels false false _ _ callee))))
+      (n_then (kept_when (Nests _) n_none (not light) (kept_unless (Nests _) n_none (symbol_of callee) (n_up (omega arith) (n_select env labels false false _ _ callee))))
       (n_then (n_up (omega arith) (n_filled env labels _ _ arguments))
-      (n_then (n_when light (n_up (omega arith) (n_select env labels false false _ _ callee)))
+      (n_then (kept_when (Nests _) n_none light (n_up (omega arith) (n_select env labels false false _ _ callee)))
       (n_then (n_moves regs _) (n_call tail _ result (symbol_of callee) _ _ _ _)))))
   n_select env labels valued tail d b (Extcall at frame name arguments result result_at) =
       let regs = regs_of env (suc b) arguments in
@@ -232,12 +194,12 @@ mutual
       n_then (n_base env labels _ _ address (n_select env labels false false _ _ address)) (n_op _ _ _)
   n_select env labels valued tail d b (Store at chunk address e) =
       n_then
-      (n_ordered (is_left_first (scopes env) address e) (n_up (omega arith) (n_base env labels _ _ address (n_select env labels false false _ _ address)))
+      (kept_ordered (Nests _) (λ x y. n_then) (is_left_first (scopes env) address e) (n_up (omega arith) (n_base env labels _ _ address (n_select env labels false false _ _ address)))
       (n_up (omega arith) (n_select env labels false false _ _ e))) (n_op _ _ [])
   n_select env labels valued tail d b (Checkbound at e g) =
       n_then
-      (n_ordered (is_left_first (scopes env) e g) (n_up (omega arith) (n_select env labels false false _ _ e))
-      (n_constant (right_of bound_test g) (n_up (omega arith) (n_select env labels false false _ _ g)))) (n_op _ _ [])
+      (kept_ordered (Nests _) (λ x y. n_then) (is_left_first (scopes env) e g) (n_up (omega arith) (n_select env labels false false _ _ e))
+      (kept_constant (Nests _) n_none (right_of bound_test g) (n_up (omega arith) (n_select env labels false false _ _ g)))) (n_op _ _ [])
   n_select env labels valued tail d b (Raise at e) = n_then (n_select env labels false false _ _ e) (n_then (n_move _ _) (n_op _ _ []))
   n_select env labels valued tail d b (Switch at size_at size selector cases) =
       n_then (n_up (omega arith) (n_select env labels false false _ _ selector))
@@ -247,7 +209,7 @@ mutual
 
   n_base : {whole : Code} (env : List Named) (labels : List Label) (t b : ℕ) (e : Expression) → Nests (tries_in e) whole → Nests (tries_in e)
       (select_base env labels t b e whole)
-  n_base env labels t b (Operator at op base (Integer at' w)) inside = n_if (is_based op w)
+  n_base env labels t b (Operator at op base (Integer at' w)) inside = kept_if (Nests _) (is_based op w)
       (n_up (omega arith) (n_select env labels false false (fresh t (type_of (scopes env) base)) b base)) inside
   n_base env labels t b e inside = inside
 
@@ -255,11 +217,11 @@ mutual
       (λ next. select_test env labels l b e (value next) next)
   n_test env labels l b (Operator at op e g) le v =
       let s = shape_of op e g in
-      n_tested (comparison (shape_op s op) (shape_right s)) _
+      kept_tested (Nests _) (comparison (shape_op s op) (shape_right s)) _
       (λ t.
       n_then
-      (n_ordered (is_left_first (scopes env) e g) (n_left s (n_up (omega (arith, le)) (n_select env labels false false _ _ e)))
-      (n_right s (n_up (omega (arith, le)) (n_select env labels false false _ _ g)))) (n_branch t l (shape_args s _ _)))
+      (kept_ordered (Nests _) (λ x y. n_then) (is_left_first (scopes env) e g) (kept_left (Nests _) n_none s (n_up (omega (arith, le)) (n_select env labels false false _ _ e)))
+      (kept_right (Nests _) n_none s (n_up (omega (arith, le)) (n_select env labels false false _ _ g)))) (n_branch t l (shape_args s _ _)))
       v
   n_test env labels l b e le v = v
 
@@ -273,13 +235,13 @@ mutual
   n_waiting : (env : List Named) (labels : List Label) (b i : ℕ) (es : Expressions) → Nests (tries_in_row es) (select_waiting env labels b i es)
   n_waiting env labels b i NoMore = n_none
   n_waiting env labels b i (More e rest) =
-      n_then (n_up (omega arith) (n_waiting env labels _ _ rest)) (n_when (not (is_light_address (scopes env) e))
+      n_then (n_up (omega arith) (n_waiting env labels _ _ rest)) (kept_when (Nests _) n_none (not (is_light_address (scopes env) e))
       (n_up (omega arith) (n_select env labels false false _ i e)))
 
   n_filled : (env : List Named) (labels : List Label) (b i : ℕ) (es : Expressions) → Nests (tries_in_row es) (select_filled env labels b i es)
   n_filled env labels b i NoMore = n_none
   n_filled env labels b i (More e rest) =
-      n_then (n_up (omega arith) (n_filled env labels _ _ rest)) (n_when (is_light_address (scopes env) e)
+      n_then (n_up (omega arith) (n_filled env labels _ _ rest)) (kept_when (Nests _) n_none (is_light_address (scopes env) e)
       (n_up (omega arith) (n_select env labels false false _ i e)))
 
   n_bound : (env : List Named) (labels : List Label) (b : ℕ) (bs : Bindings) → Nests (tries_in_bindings bs) (select_bound env labels b bs)

@@ -23,16 +23,15 @@ use Rattle.mach_ir.specs.declared.mach.Test.TheVariants as test
 use Rattle.mach_ir.specs.declared.op.Access.TheVariants as access
 use Rattle.mach_ir.specs.declared.op.Op.{Op}
 use Rattle.mach_ir.specs.declared.op.Op.TheVariants as op
-use Rattle.mach_ir.specs.declared.op.Right.{Right}
-use Rattle.mach_ir.specs.declared.op.Right.TheVariants as right
 use Rattle.mach_ir.specs.declared.reg.Reg.{Reg}
 use Rattle.selection_rules.specs.Instructions.{bare}
 use Rattle.selection_rules.specs.Instructions as emit
-use Rattle.selection_rules.specs.Select.{Code, Shape, InRegisters, ConstantRight, ConstantLeft, PowerRight, shape_of, shape_op, shape_right, shape_args, unless_left, unless_right, power_code, operator_code, Named, Label, scopes, reg_of, label_of, move_from, move_to, moves_all, exit_to, ordered, only_when, from_seat, symbol_of, unless_symbol, right_of, unless_constant, bound_test, comparison, tested, select_test, is_based, is_address_sum, offset_of, header_offset, select_base, call_of, regs_of, width, width_row, width_bound, width_cases, width_handlers, select, select_waiting, select_filled, select_bound, select_seq, select_cases, select_handlers, deeper, cell_stores, returns, selected, first, is_no_value, fresh, seats}
+use Rattle.selection_rules.specs.Select.{Code, Shape, InRegisters, ConstantRight, ConstantLeft, PowerRight, shape_of, shape_op, shape_right, shape_args, power_code, operator_code, Named, Label, scopes, reg_of, label_of, move_from, move_to, moves_all, exit_to, from_seat, symbol_of, right_of, bound_test, comparison, select_test, is_based, is_address_sum, offset_of, header_offset, select_base, call_of, regs_of, width, width_row, width_bound, width_cases, width_handlers, select, select_waiting, select_filled, select_bound, select_seq, select_cases, select_handlers, deeper, cell_stores, returns, selected, first, is_no_value, fresh, seats}
 use Rattle.selection_rules.proofs.Rows.{regs_length, count_width}
 use Rattle.selection_laws.proofs.Constants.{word_12}
 use Rattle.selection_places.proofs.Whole.{value_at, params_of, env_of}
 use Rattle.pass_rules.specs.Carried.{OffsetFits}
+use Rattle.selection_rules.proofs.Choices.{kept_when, kept_unless, kept_constant, kept_left, kept_right, kept_tested, kept_if, kept_ordered}
 
 -- ---- offsets of addresses
 
@@ -104,43 +103,6 @@ o_cells k p i [] le = o_none
 o_cells k p i (r ∷ rs) le =
     o_then (o_op (op.Access (access.Store k (8 * i))) (p ∷ r ∷ []) [] (λ j less. inr (omega (arith, le, less)))) (o_cells k p (suc i) rs (omega (arith, le)))
 
-o_ordered : {n : ℕ} {x y : Code} (b : Bool) → Offsets n x → Offsets n y → Offsets n (ordered b x y)
-o_ordered true p q = o_then p q
-o_ordered false p q = o_then q p
-
-o_when : {n : ℕ} {code : Code} (b : Bool) → Offsets n code → Offsets n (only_when b code)
-o_when true e = e
-o_when false e = o_none
-
-o_unless : {n : ℕ} {code : Code} (o : Option (List ℕ)) → Offsets n code → Offsets n (unless_symbol o code)
-o_unless (Some name) e = o_none
-o_unless None e = e
-
-o_constant : {n : ℕ} {code : Code} (r : Right) → Offsets n code → Offsets n (unless_constant r code)
-o_constant right.Register e = e
-o_constant (right.Constant w) e = o_none
-
-o_left : {n : ℕ} {code : Code} (s : Shape) → Offsets n code → Offsets n (unless_left s code)
-o_left InRegisters e = e
-o_left (ConstantRight i) e = e
-o_left (ConstantLeft i) e = o_none
-o_left (PowerRight k) e = e
-
-o_right : {n : ℕ} {code : Code} (s : Shape) → Offsets n code → Offsets n (unless_right s code)
-o_right InRegisters e = e
-o_right (ConstantRight i) e = o_none
-o_right (ConstantLeft i) e = e
-o_right (PowerRight k) e = o_none
-
-o_tested : {n : ℕ} {value : Code} (o : Option Test) (fused : Test → Code) → ((t : Test) → Offsets n (fused t)) → Offsets n value → Offsets n
-    (λ next. tested o (λ t. fused t next) (value next))
-o_tested (Some t) fused f v = f t
-o_tested None fused f v = v
-
-o_if : {n : ℕ} {x y : Code} (q : Bool) → Offsets n x → Offsets n y → Offsets n (λ next. cond q (x next) (y next))
-o_if true a b = a
-o_if false a b = b
-
 o_power : {n : ℕ} (f : IntOp) (k : ℕ) (x y d : Reg) → Offsets n (power_code f k x y d)
 o_power operator.Div k x y d =
     o_then (o_op (op.Pure _) (x ∷ []) (y ∷ []) (λ k le. tt)) (o_then (o_op (op.Pure _) (y ∷ []) (y ∷ []) (λ k le. tt)) (o_then (o_op (op.Pure _) (x ∷ y ∷ []) (y ∷ []) (λ k le. tt)) (o_op (op.Pure _) (y ∷ []) (d ∷ []) (λ k le. tt))))
@@ -184,15 +146,15 @@ mutual
   o_select env labels valued tail d b (Operator at op e g) =
       let s = shape_of op e g in
       o_then
-      (o_ordered (is_left_first (scopes env) e g) (o_left s (o_up (omega arith) (o_select env labels false false _ _ e)))
-      (o_right s (o_up (omega arith) (o_select env labels false false _ _ g)))) (o_operator s op _ _ _)
+      (kept_ordered (Offsets _) (λ x y. o_then) (is_left_first (scopes env) e g) (kept_left (Offsets _) o_none s (o_up (omega arith) (o_select env labels false false _ _ e)))
+      (kept_right (Offsets _) o_none s (o_up (omega arith) (o_select env labels false false _ _ g)))) (o_operator s op _ _ _)
   o_select env labels valued tail d b (App at callee arguments result result_at) =
       let light = is_light_address (scopes env) callee in
       let regs = regs_of env (suc (suc b)) arguments in
       o_then (o_up (omega arith) (o_waiting env labels _ _ arguments))
-      (o_then (o_when (not light) (o_unless (symbol_of callee) (o_up (omega arith) (o_select env labels false false _ _ callee))))
+      (o_then (kept_when (Offsets _) o_none (not light) (kept_unless (Offsets _) o_none (symbol_of callee) (o_up (omega arith) (o_select env labels false false _ _ callee))))
       (o_then (o_up (omega arith) (o_filled env labels _ _ arguments))
-      (o_then (o_when light (o_up (omega arith) (o_select env labels false false _ _ callee)))
+      (o_then (kept_when (Offsets _) o_none light (o_up (omega arith) (o_select env labels false false _ _ callee)))
       (o_then (o_moves regs _) (o_call tail _ result (symbol_of callee) _ _ _ _)))))
   o_select env labels valued tail d b (Extcall at frame name arguments result result_at) =
       let regs = regs_of env (suc b) arguments in
@@ -222,13 +184,13 @@ mutual
       (o_op (op.Access (access.Load chunk (offset_of address))) _ _ (λ k le. offset_word address))
   o_select env labels valued tail d b (Store at chunk address e) =
       o_then
-      (o_ordered (is_left_first (scopes env) address e) (o_up (omega arith) (o_base env labels _ _ address (o_select env labels false false _ _ address)))
+      (kept_ordered (Offsets _) (λ x y. o_then) (is_left_first (scopes env) address e) (o_up (omega arith) (o_base env labels _ _ address (o_select env labels false false _ _ address)))
       (o_up (omega arith) (o_select env labels false false _ _ e)))
       (o_op (op.Access (access.Store chunk (offset_of address))) _ [] (λ k le. inl (offset_word address)))
   o_select env labels valued tail d b (Checkbound at e g) =
       o_then
-      (o_ordered (is_left_first (scopes env) e g) (o_up (omega arith) (o_select env labels false false _ _ e))
-      (o_constant (right_of bound_test g) (o_up (omega arith) (o_select env labels false false _ _ g)))) (o_op (op.Leaving _) _ [] (λ k le. tt))
+      (kept_ordered (Offsets _) (λ x y. o_then) (is_left_first (scopes env) e g) (o_up (omega arith) (o_select env labels false false _ _ e))
+      (kept_constant (Offsets _) o_none (right_of bound_test g) (o_up (omega arith) (o_select env labels false false _ _ g)))) (o_op (op.Leaving _) _ [] (λ k le. tt))
   o_select env labels valued tail d b (Raise at e) = o_then (o_up (omega arith) (o_select env labels false false _ _ e)) (o_then (o_move _ _) (o_op (op.Leaving _) _ [] (λ k le. tt)))
   o_select env labels valued tail d b (Switch at size_at size selector cases) =
       o_then (o_up (omega arith) (o_select env labels false false _ _ selector))
@@ -241,7 +203,7 @@ mutual
 
   o_base : {whole : Code} (env : List Named) (labels : List Label) (t b : ℕ) (e : Expression) → Offsets (width e) whole → Offsets (width e)
       (select_base env labels t b e whole)
-  o_base env labels t b (Operator at op base (Integer at' w)) inside = o_if (is_based op w)
+  o_base env labels t b (Operator at op base (Integer at' w)) inside = kept_if (Offsets _) (is_based op w)
       (o_up (omega arith) (o_select env labels false false (fresh t (type_of (scopes env) base)) b base)) inside
   o_base env labels t b e inside = inside
 
@@ -249,11 +211,11 @@ mutual
       (λ next. select_test env labels l b e (value next) next)
   o_test env labels l b (Operator at op e g) le v =
       let s = shape_of op e g in
-      o_tested (comparison (shape_op s op) (shape_right s)) _
+      kept_tested (Offsets _) (comparison (shape_op s op) (shape_right s)) _
       (λ t.
       o_then
-      (o_ordered (is_left_first (scopes env) e g) (o_left s (o_up (omega (arith, le)) (o_select env labels false false _ _ e)))
-      (o_right s (o_up (omega (arith, le)) (o_select env labels false false _ _ g)))) (o_branch t l (shape_args s _ _)))
+      (kept_ordered (Offsets _) (λ x y. o_then) (is_left_first (scopes env) e g) (kept_left (Offsets _) o_none s (o_up (omega (arith, le)) (o_select env labels false false _ _ e)))
+      (kept_right (Offsets _) o_none s (o_up (omega (arith, le)) (o_select env labels false false _ _ g)))) (o_branch t l (shape_args s _ _)))
       v
   o_test env labels l b e le v = v
 
@@ -267,13 +229,13 @@ mutual
   o_waiting : (env : List Named) (labels : List Label) (b i : ℕ) (es : Expressions) → Offsets (width_row es) (select_waiting env labels b i es)
   o_waiting env labels b i NoMore = o_none
   o_waiting env labels b i (More e rest) =
-      o_then (o_up (omega arith) (o_waiting env labels _ _ rest)) (o_when (not (is_light_address (scopes env) e))
+      o_then (o_up (omega arith) (o_waiting env labels _ _ rest)) (kept_when (Offsets _) o_none (not (is_light_address (scopes env) e))
       (o_up (omega arith) (o_select env labels false false _ i e)))
 
   o_filled : (env : List Named) (labels : List Label) (b i : ℕ) (es : Expressions) → Offsets (width_row es) (select_filled env labels b i es)
   o_filled env labels b i NoMore = o_none
   o_filled env labels b i (More e rest) =
-      o_then (o_up (omega arith) (o_filled env labels _ _ rest)) (o_when (is_light_address (scopes env) e)
+      o_then (o_up (omega arith) (o_filled env labels _ _ rest)) (kept_when (Offsets _) o_none (is_light_address (scopes env) e)
       (o_up (omega arith) (o_select env labels false false _ i e)))
 
   o_bound : (env : List Named) (labels : List Label) (b : ℕ) (bs : Bindings) → Offsets (width_bound bs) (select_bound env labels b bs)

@@ -15,7 +15,8 @@ use Rattle.mach_ir.specs.declared.mach.Test.{Test}
 use Rattle.mach_ir.specs.declared.op.Right.{Right}
 use Rattle.mach_ir.specs.declared.op.Right.TheVariants as right
 use Rattle.selection_rules.specs.Select.{Shape, InRegisters, ConstantRight, ConstantLeft, PowerRight, rounded, power_code, operator_code, shape_of, shape_op, shape_right, unless_left, unless_right, Named, Label, scopes, reg_of, label_of, move_from, move_to, moves_all, exit_to, ordered, only_when, from_seat, symbol_of, unless_symbol, right_of, unless_constant, bound_test, comparison, tested, select_test, is_based, select_base, call_of, regs_of, select, select_waiting, select_filled, select_bound, select_seq, select_cases, select_handlers, deeper, cell_stores}
-use Rattle.selection_rules.proofs.Parts.{more, ending_in, Within, inside_all, inside_more, inside_in}
+use Rattle.mach_laws.specs.Expand.{more}
+use Rattle.selection_rules.proofs.Parts.{ending_in, Within, inside_all, inside_more, inside_in}
 use Rattle.selection_rules.specs.Instructions as emit
 use Rattle.selection_rules.specs.Instructions.{bare}
 use Rattle.mach_ir.specs.declared.mach.Mark.TheVariants as mark

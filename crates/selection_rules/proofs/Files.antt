@@ -1,7 +1,7 @@
 -- What stands in registers, and what writes leave of it.
 use Rattle.std.proofs.Common.{◌≡◌, ℕ, suc, ◌<◌, ◌≤◌, Bool, true, false, cond, List, [], ◌∷◌, Option, Some, None, option_map, map, length, refl, sym, ap, ◌∙◌, subst, arith}
 use Rattle.std.specs.Prelude.{nat_eq, bytes_eq, not, ◌&&◌}
-use Rattle.std.proofs.lemmas.Bool.{eq-eqb, eqb-true}
+use Rattle.std.proofs.lemmas.Bool.{eq-eqb, eqb-true, cond-false, false_from_ne_true}
 use Rattle.bs_words.specs.declared.types.Ty.{Ty}
 use Rattle.bs_words.specs.declared.values.Value.{Value}
 use Rattle.cmm_types.specs.Types.{Scoped, binding_of, type_bound_by, type_named}
@@ -10,17 +10,11 @@ use Rattle.mach_ir.specs.declared.reg.Reg.{Reg}
 use Rattle.mach_ir.specs.Meaning.{Held, File, put, clear, killed_among, killed_by, Destroyed, Nothing, Temporaries, Everything, is_destroyed, is_at_one_of}
 use Rattle.selection_rules.specs.Select.{Named, scopes, comp_of, reg_of}
 use Rattle.bs_words.specs.declared.types.Ty.TheVariants as ty
+use Rattle.mach_laws.proofs.Files.{put_other}
 
 -- this value stands in a register
 pub record Holds (r : Reg) (v : Value) (f : File) : Type 0 where
   pub is : f r.number ≡ Some (record { comp = r.comp; value = v })
-
-cond_false : {A : Type 0} (b : Bool) (x y : A) → (b ≡ true → ⊥) → cond b x y ≡ y
-cond_false true x y no' = absurd (no' refl)
-cond_false false x y no' = refl
-
-pub put_other : (r : Reg) (v : Value) (f : File) (n : ℕ) → (r.number ≡ n → ⊥) → put r v f n ≡ f n
-put_other r v f n apart = cond_false (nat_eq r.number n) (Some (record { comp = r.comp; value = v })) (f n) (λ e. apart (eqb-true r.number n e))
 
 pub put_same : (r : Reg) (v : Value) (f : File) → Holds r v (put r v f)
 put_same r v f = record { is = ap (λ b. cond b (Some (record { comp = r.comp; value = v })) (f r.number)) (eq-eqb r.number r.number refl) }
@@ -55,7 +49,7 @@ low_killed Everything results l = low_among Everything results l
 cleared : {rs : List Reg} (f : File) (n : ℕ) → Low rs → 21 ≤ n → clear rs f n ≡ f n
 cleared f n none le = refl
 cleared f n (one {r = r} {rs = rs} b l) le =
-    cond_false (nat_eq r.number n) None (clear rs f n) (λ e. let same : r.number ≡ n = eqb-true r.number n e in omega (arith, same, b, le)) ∙ cleared f n l le
+    cond-false (nat_eq r.number n) None (clear rs f n) (false_from_ne_true _ (λ e. let same : r.number ≡ n = eqb-true r.number n e in omega (arith, same, b, le))) ∙ cleared f n l le
 
 pub survives_call : {rs : List Reg} (d : Destroyed) (results : List Reg) (f : File) → Low rs → Survives f (clear (killed_by rs d results) f)
 survives_call d results f low =

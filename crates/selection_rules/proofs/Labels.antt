@@ -6,7 +6,8 @@ use Rattle.mach_ir.specs.declared.mach.Instr.{Instr}
 use Rattle.mach_ir.specs.declared.mach.Mach.{Mach}
 use Rattle.mach_ir.specs.Meaning.{has_label as marks_of, after_label, is_handler_of, from_handler}
 use Rattle.selection_rules.specs.Select.{selected}
-use Rattle.selection_rules.proofs.Parts.{Ending, all, more, WellLabelled}
+use Rattle.mach_laws.specs.Expand.{Ending, all, more}
+use Rattle.selection_rules.proofs.Parts.{WellLabelled}
 use Rattle.selection_rules.proofs.Once.{marks, labelled, Distinct, cons, no_mark_in, selected_once}
 
 behind_one : (l : ℕ) {i : Instr} {rest code : List Instr} → Ending (i ∷ rest) code → Distinct labelled code → marks_of l i.op ≡ true → after_label l code ≡ rest

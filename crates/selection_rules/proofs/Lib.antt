@@ -22,6 +22,7 @@ pub mod Rows
 pub mod Calls
 pub mod Exits
 pub mod Catches
+pub mod Choices
 pub mod Once
 pub mod Labels
 pub mod LightOnes

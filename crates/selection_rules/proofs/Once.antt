@@ -1,6 +1,6 @@
 -- Selected code gives a number once: each label is that of one mark, and the register of each new block that of one
 -- allocation.
-use Rattle.std.proofs.Common.{◌≡◌, ℕ, suc, ◌+◌, ◌<◌, ◌≤◌, Bool, true, false, cond, not, ◌&&◌, ◌||◌, ◌⊎◌, inl, inr, ⊎_elim, List, [], ◌∷◌, Option, Some, None, refl, sym, ◌∙◌, arith, le_refl}
+use Rattle.std.proofs.Common.{◌≡◌, ℕ, suc, ◌+◌, ◌<◌, ◌≤◌, Bool, true, false, not, ◌&&◌, ◌||◌, ◌⊎◌, inl, inr, ⊎_elim, List, [], ◌∷◌, Option, Some, None, refl, sym, ◌∙◌, arith, le_refl}
 use Rattle.std.specs.Prelude.{nat_eq, length}
 use Rattle.std.proofs.lemmas.Bool.{true≢false, cases_Bool, eqb-true, and_parts, or_left, or_right}
 use Rattle.cmm_tree.specs.Tree.{FunctionTree, Expression, Integer, Pointer, Symbol, Name, Nothing, Float, Let, Assign, Operator, Load, Store, Alloc, App, Extcall, Checkbound, Raise, Seq, If, Switch, Catch, Exit, Try, Expressions, NoMore, More, Bindings, NoBinding, Bind, Cases, NoCase, Choose, Handlers, NoHandler, Handle}
@@ -12,20 +12,18 @@ use Rattle.bs_words.specs.declared.types.Chunk.{Chunk}
 use Rattle.cmm_types.specs.Light.{is_light, is_light_operator, is_light_address}
 use Rattle.cmm_types.specs.Types.{Scoped, type_of, body_type, result_of}
 use Rattle.cmm_meaning.specs.Evaluation.{is_left_first}
-use Rattle.mach_ir.specs.declared.mach.Test.{Test}
-use Rattle.mach_ir.specs.declared.op.Right.{Right}
-use Rattle.mach_ir.specs.declared.op.Right.TheVariants as right
 use Rattle.mach_ir.specs.declared.reg.Reg.{Reg}
 use Rattle.mach_ir.specs.declared.op.Access.TheVariants as access
 use Rattle.mach_ir.specs.declared.op.Op.TheVariants as op
 use Rattle.mach_ir.specs.declared.mach.MachOp.{MachOp}
 use Rattle.mach_ir.specs.declared.mach.MachOp.TheVariants as mach
 use Rattle.mach_ir.specs.Meaning.{has_label, is_handler_of}
-use Rattle.selection_rules.proofs.Parts.{Ending, all, more}
+use Rattle.mach_laws.specs.Expand.{Ending, all, more}
 use Rattle.std.proofs.Math.Bool.{or-false}
 use Rattle.mach_ir.specs.declared.mach.Instr.{Instr}
-use Rattle.selection_rules.specs.Select.{Shape, InRegisters, ConstantRight, ConstantLeft, PowerRight, shape_of, shape_op, shape_right, unless_left, unless_right, power_code, operator_code, Named, Label, scopes, fresh, reg_of, label_of, move_from, move_to, moves_all, exit_to, ordered, only_when, seats, from_seat, to_seat, first, params_from, symbol_of, unless_symbol, right_of, unless_constant, bound_test, comparison, tested, select_test, is_based, select_base, call_of, count_of, count_cases, width_cases, select_cases, cell_stores, regs_of, width, width_row, width_bound, width_labels, width_handlers, select, select_waiting, select_filled, select_bound, select_seq, select_handlers, selected, with_params, is_no_value}
+use Rattle.selection_rules.specs.Select.{Shape, InRegisters, ConstantRight, ConstantLeft, PowerRight, shape_of, shape_op, shape_right, power_code, operator_code, Named, Label, scopes, fresh, reg_of, label_of, move_from, move_to, moves_all, exit_to, ordered, only_when, seats, from_seat, to_seat, first, params_from, symbol_of, unless_symbol, right_of, bound_test, comparison, select_test, is_based, select_base, call_of, count_of, count_cases, width_cases, select_cases, cell_stores, regs_of, width, width_row, width_bound, width_labels, width_handlers, select, select_waiting, select_filled, select_bound, select_seq, select_handlers, selected, with_params, is_no_value}
 use Rattle.selection_rules.specs.Instructions as emit
+use Rattle.selection_rules.proofs.Choices.{kept_when, kept_unless, kept_constant, kept_left, kept_right, kept_tested, kept_if, kept_ordered}
 
 -- ---- the numbers that an instruction gives
 
@@ -148,6 +146,9 @@ marked n i is =
 nothing_marked : Quiet (λ next. next)
 nothing_marked = record { distinct = λ next d c. d; outside = λ l next un n. n }
 
+no_marks : {A : ℕ → Type 0} → Marks A (λ next. next)
+no_marks = quiet_in nothing_marked
+
 from_quiet : (o : Option Reg) (d : Reg) → Quiet (move_from o d)
 from_quiet None d = nothing_marked
 from_quiet (Some a) d = unmarked (emit.move a d) (λ l. refl)
@@ -183,44 +184,6 @@ ordered_marks : {a b c d lo hi : ℕ} {x y : List Instr → List Instr} (first :
 ordered_marks true m n le la bh lc dh = both_in m n (inl le) la bh lc dh
 ordered_marks false m n le la bh lc dh = both_in n m (inr le) lc dh la bh
 
-ordered_quiet : {x y : List Instr → List Instr} (first : Bool) → Quiet x → Quiet y → Quiet (ordered first x y)
-ordered_quiet true m n = then_quiet m n
-ordered_quiet false m n = then_quiet n m
-
-when_marks : {A : ℕ → Type 0} {x : List Instr → List Instr} (b : Bool) → Marks A x → Marks A (only_when b x)
-when_marks true m = m
-when_marks false m = quiet_in nothing_marked
-
-unless_marks : {A : ℕ → Type 0} {x : List Instr → List Instr} (o : Option (List ℕ)) → Marks A x → Marks A (unless_symbol o x)
-unless_marks (Some name) m = quiet_in nothing_marked
-unless_marks None m = m
-
-constant_marks : {A : ℕ → Type 0} {x : List Instr → List Instr} (r : Right) → Marks A x → Marks A (unless_constant r x)
-constant_marks right.Register m = m
-constant_marks (right.Constant w) m = quiet_in nothing_marked
-
-if_marks : {A : ℕ → Type 0} (q : Bool) (x y : List Instr → List Instr) → Marks A x → Marks A y → Marks A (λ next. cond q (x next) (y next))
-if_marks true x y f g = f
-if_marks false x y f g = g
-
-tested_marks : {A : ℕ → Type 0} (o : Option Test) (fused : Test → List Instr → List Instr) (value : List Instr → List Instr) →
-    ((t : Test) → Marks A (fused t)) → Marks A value →
-    Marks A (λ next. tested o (λ t. fused t next) (value next))
-tested_marks (Some t) fused value f v = f t
-tested_marks None fused value f v = v
-
-left_marks : {A : ℕ → Type 0} {x : List Instr → List Instr} (s : Shape) → Marks A x → Marks A (unless_left s x)
-left_marks InRegisters m = m
-left_marks (ConstantRight i) m = m
-left_marks (ConstantLeft i) m = quiet_in nothing_marked
-left_marks (PowerRight k) m = m
-
-right_marks : {A : ℕ → Type 0} {x : List Instr → List Instr} (s : Shape) → Marks A x → Marks A (unless_right s x)
-right_marks InRegisters m = m
-right_marks (ConstantRight i) m = quiet_in nothing_marked
-right_marks (ConstantLeft i) m = m
-right_marks (PowerRight k) m = quiet_in nothing_marked
-
 power_quiet : (f : IntOp) (k : ℕ) (x y d : Reg) → Quiet (power_code f k x y d)
 power_quiet Div k x y d = then_quiet (unmarked _ (λ l. refl)) (then_quiet (unmarked _ (λ l. refl))
     (then_quiet (unmarked _ (λ l. refl)) (unmarked _ (λ l. refl))))
@@ -244,10 +207,10 @@ light_quiet env labels valued tail d b (Name at x) light = from_quiet (reg_of en
 light_quiet env labels valued tail d b (Operator at op left right) light =
     let both = (and_parts (is_light_operator op) (is_light (scopes env) left && is_light (scopes env) right) light).1 in
     then_quiet
-    (ordered_quiet (is_left_first (scopes env) left right)
-    (left_marks (shape_of op left right) (light_quiet env labels false false _ _ left
+    (kept_ordered Quiet (λ x y. then_quiet) (is_left_first (scopes env) left right)
+    (kept_left (Marks _) no_marks (shape_of op left right) (light_quiet env labels false false _ _ left
     (and_parts (is_light (scopes env) left) (is_light (scopes env) right) both).0))
-    (right_marks (shape_of op left right) (light_quiet env labels false false _ _ right
+    (kept_right (Marks _) no_marks (shape_of op left right) (light_quiet env labels false false _ _ right
     (and_parts (is_light (scopes env) left) (is_light (scopes env) right) both).1)))
     (operator_quiet (shape_of op left right) op _ _ _)
 light_quiet env labels valued tail d b (Pointer at w) light = absurd (true≢false (sym light))
@@ -309,7 +272,7 @@ callee_marks : {lo hi : ℕ} (env : List Named) (labels : List Label) (f : Reg) 
     (select_filled env labels row i arguments (only_when light (select env labels false false f base callee) next)))
 callee_marks env labels f callee base row i arguments true o is m = quiet_in
     (then_quiet (filled_quiet env labels row i arguments) (light_quiet env labels false false f base callee (address_is_light (scopes env) callee is)))
-callee_marks env labels f callee base row i arguments false o is m = then_quiet (unless_marks o m) (filled_quiet env labels row i arguments)
+callee_marks env labels f callee base row i arguments false o is m = then_quiet (kept_unless (Marks _) no_marks o m) (filled_quiet env labels row i arguments)
 
 mutual
   marks_select : (env : List Named) (labels : List Label) (valued tail : Bool) (d : Reg) (b : ℕ) (e : Expression) → Marks (Range b (b + width e))
@@ -326,9 +289,9 @@ mutual
       (widen (omega arith) (omega arith) (marks_select env labels false false _ (suc (suc b)) e)) (to_quiet _ (reg_of env x))
   marks_select env labels valued tail d b (Operator at op left right) =
       then_quiet
-      (ordered_marks (is_left_first (scopes env) left right) (left_marks (shape_of op left right)
+      (ordered_marks (is_left_first (scopes env) left right) (kept_left (Marks _) no_marks (shape_of op left right)
       (marks_select env labels false false _ (suc (suc (suc b))) left))
-      (right_marks (shape_of op left right) (marks_select env labels false false _ (suc (suc (suc b)) + width left) right))
+      (kept_right (Marks _) no_marks (shape_of op left right) (marks_select env labels false false _ (suc (suc (suc b)) + width left) right))
       (le_refl (suc (suc (suc b)) + width left)) (omega arith) (omega arith) (omega arith) (omega arith))
       (operator_quiet (shape_of op left right) op _ _ _)
   marks_select env labels valued tail d b (App at callee arguments result result_at) =
@@ -402,7 +365,7 @@ mutual
   marks_select env labels valued tail d b (Checkbound at left right) =
       then_quiet
       (ordered_marks (is_left_first (scopes env) left right) (marks_select env labels false false _ (suc (suc (suc b))) left)
-      (constant_marks (right_of bound_test right) (marks_select env labels false false _ (suc (suc (suc b)) + width left) right))
+      (kept_constant (Marks _) no_marks (right_of bound_test right) (marks_select env labels false false _ (suc (suc (suc b)) + width left) right))
       (le_refl (suc (suc (suc b)) + width left)) (omega arith) (omega arith) (omega arith) (omega arith))
       (unmarked _ (λ l. refl))
   marks_select env labels valued tail d b (Switch at q n e cs) =
@@ -434,17 +397,17 @@ mutual
   marks_base : (env : List Named) (labels : List Label) (t b : ℕ) (e : Expression) (whole : List Instr → List Instr) → Marks (Range b (b + width e)) whole →
       Marks (Range b (b + width e)) (select_base env labels t b e whole)
   marks_base env labels t b (Operator at op base (Integer at' w)) whole m =
-      if_marks (is_based op w) _ whole (widen (omega arith) (omega arith) (marks_select env labels false false (fresh t (type_of (scopes env) base)) b base)) m
+      kept_if (Marks _) (is_based op w) (widen (omega arith) (omega arith) (marks_select env labels false false (fresh t (type_of (scopes env) base)) b base)) m
   marks_base env labels t b e whole m = m
 
   marks_test : (env : List Named) (labels : List Label) (l b : ℕ) (e : Expression) (value : List Instr → List Instr) → Marks (Range b (b + width e)) value →
       Marks (Range b (b + width e)) (λ next. select_test env labels l b e (value next) next)
   marks_test env labels l b (Operator at op left right) value v =
       let s = shape_of op left right in
-      tested_marks (comparison (shape_op s op) (shape_right s)) _ value
+      kept_tested (Marks _) (comparison (shape_op s op) (shape_right s)) _
       (λ t. then_quiet
-      (ordered_marks (is_left_first (scopes env) left right) (left_marks s (marks_select env labels false false _ (suc (suc (suc b))) left))
-      (right_marks s (marks_select env labels false false _ (suc (suc (suc b)) + width left) right))
+      (ordered_marks (is_left_first (scopes env) left right) (kept_left (Marks _) no_marks s (marks_select env labels false false _ (suc (suc (suc b))) left))
+      (kept_right (Marks _) no_marks s (marks_select env labels false false _ (suc (suc (suc b)) + width left) right))
       (le_refl (suc (suc (suc b)) + width left)) (omega arith) (omega arith) (omega arith) (omega arith))
       (unmarked _ (λ l. refl)))
       v
@@ -466,7 +429,7 @@ mutual
   marks_waiting : (env : List Named) (labels : List Label) (b i : ℕ) (es : Expressions) → Marks (Range i (i + row_sum es)) (select_waiting env labels b i es)
   marks_waiting env labels b i NoMore = quiet_in nothing_marked
   marks_waiting env labels b i (More e rest) =
-      both_in (marks_waiting env labels (suc b) (i + width e) rest) (when_marks (not (is_light_address (scopes env) e))
+      both_in (marks_waiting env labels (suc b) (i + width e) rest) (kept_when (Marks _) no_marks (not (is_light_address (scopes env) e))
       (marks_select env labels false false _ i e)) (inr (le_refl (i + width e)))
       (omega arith) (omega arith) (omega arith) (omega arith)
 

@@ -11,7 +11,7 @@ use Rattle.cmm_tree.specs.Tree.{LabelTree, Expression}
 use Rattle.cmm_types.specs.Types.{type_of}
 use Rattle.cmm_meaning.specs.State.{Gave, Threw, Binding, Here, outermost}
 use Rattle.meaning_laws.specs.Does.{Leaves, Giving, Exiting, Raising, Does}
-use Rattle.meaning_laws.specs.Interaction.{Part, onward, and_then, only_value, with_value, proper, tested, of_type, typed, node, does}
+use Rattle.meaning_laws.specs.Interaction.{Part, onward, of_type, node}
 use Rattle.mach_ir.specs.declared.reg.Reg.{Reg}
 use Rattle.mach_ir.specs.declared.mach.Instr.{Instr}
 use Rattle.mach_ir.specs.declared.mach.Mach.{Mach}
@@ -25,17 +25,10 @@ use Rattle.bs_words.specs.declared.values.Value.TheVariants as value
 use Rattle.bs_words.specs.declared.types.Ty.TheVariants as ty
 use Rattle.meaning_laws.specs.Interaction as part
 use Rattle.selection_rules.specs.Follow.{text_of}
+use Rattle.mach_laws.specs.Expand.{Ending, all, more}
+use Rattle.mach_laws.proofs.Places.{ending_next}
 
 -- ---- places
-
--- the second list ends with the first
-pub data Ending (rest : List Instr) : List Instr → Type 0 where
-  all : Ending rest rest
-  more : {i : Instr} {code : List Instr} → Ending rest code → Ending rest (i ∷ code)
-
-pub ending_next : {i : Instr} {rest code : List Instr} → Ending (i ∷ rest) code → Ending rest code
-ending_next all = more all
-ending_next (more e) = more (ending_next e)
 
 pub ending_in : {a b c : List Instr} → Ending a b → Ending b c → Ending a c
 ending_in e all = e

@@ -14,13 +14,14 @@ use Rattle.meaning_laws.specs.Interaction.{onward, of_type, does, from, trying, 
 use Rattle.mach_ir.specs.declared.reg.Reg.{Reg}
 use Rattle.mach_ir.specs.declared.mach.Instr.{Instr}
 use Rattle.mach_ir.specs.declared.mach.Mach.{Mach}
-use Rattle.mach_ir.specs.Runs.{Place, Step, Continues}
+use Rattle.mach_ir.specs.Runs.{Place, Continues}
 use Rattle.mach_ir.specs.Acts.{drop_tries}
 use Rattle.mach_ir.specs.Meaning.{Everything, tries_at, File, put, put_if, clear, killed, after_label, from_handler, wrote}
 use Rattle.selection_rules.specs.Select.{Named, Label, scopes, label_of, inner_valued, inner_dest, width, seat, deeper, raised_name, select}
 use Rattle.selection_rules.specs.Follow.{Follows, walks, deepens}
 use Rattle.selection_rules.proofs.Files.{Low, survives_call, Survives, put_same, under_more, IsNamed, named_under, Stands, stands_put, stands_survives, stands_length}
-use Rattle.selection_rules.proofs.Parts.{ending_in, ending_next, Placed, WellLabelled, Lower, no_label, a_label, lower_more, Stable, stable_same, May, new, dest, name, calm, calm_in, at, arrive, Level, reaching_now, reaching_out, raised_to, any, Left, nothing, gone_any, holding, After, after_typed, node_follows, Ready}
+use Rattle.mach_laws.proofs.Places.{ending_next}
+use Rattle.selection_rules.proofs.Parts.{ending_in, Placed, WellLabelled, Lower, no_label, a_label, lower_more, Stable, stable_same, May, new, dest, name, calm, calm_in, at, arrive, Level, reaching_now, reaching_out, raised_to, any, Left, nothing, gone_any, holding, After, after_typed, node_follows, Ready}
 use Rattle.selection_rules.proofs.Operands.{Selected}
 use Rattle.selection_rules.proofs.Endings.{ending_select}
 use Rattle.selection_rules.proofs.Leaves.{ready_inner, stable_dest, move_follows}

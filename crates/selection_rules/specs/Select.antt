@@ -86,13 +86,13 @@ abbrev pub moves_all : List Reg → List Reg → Code
 moves_all (a ∷ from) (d ∷ to) next = moves_all from to (emit.move a d ∷ next)
 moves_all _ _ next = next
 
+-- the left part first, or the right one
 abbrev pub ordered : Bool → Code → Code → Code
-ordered true left right next = left (right next)
-ordered false left right next = right (left next)
+ordered left_first left right next =
+    cond left_first (left (right next)) (right (left next))
 
 abbrev pub only_when : Bool → Code → Code
-only_when true code next = code next
-only_when false code next = next
+only_when holds code next = cond holds (code next) next
 
 -- ---- operands
 
@@ -103,8 +103,7 @@ pub record Immediate : Type 0 where
 
 -- the exponent of a power of two below 2 ^ 64, from this exponent on
 abbrev pub exponent_if : Bool → ℕ → Option ℕ → Option ℕ
-exponent_if true k further = Some k
-exponent_if false k further = further
+exponent_if found k further = cond found (Some k) further
 
 unfoldable pub exponent_from : ℕ → ℕ → ℕ → Option ℕ
 exponent_from zero k w = None
@@ -120,8 +119,7 @@ shift_by (Some k) = Some (record { op = operator.Shl; word = k })
 shift_by None = None
 
 abbrev pub immediate_if : Bool → IntOp → ℕ → Option Immediate
-immediate_if true op w = Some (record { op = op; word = w })
-immediate_if false op w = None
+immediate_if has op w = cond has (Some (record { op = op; word = w })) None
 
 -- what the machine has for an operator with this right operand: the operator with an immediate, or
 -- a shift for a product with a power of two
@@ -312,8 +310,7 @@ from_seat n (ret.Comp c) d next = emit.move (seat 0 n c) d ∷ next
 
 -- what a tail call leaves, where the text drops a value
 abbrev pub tail_result : Bool → Ret → Ret
-tail_result true result = result
-tail_result false result = ret.Unit
+tail_result valued result = cond valued result ret.Unit
 
 -- a function that is called by its symbol needs no register
 abbrev pub symbol_of : Expression → Option (List ℕ)
@@ -368,8 +365,7 @@ labels_from b (Handle at label params body rest) =
     ∷ labels_from (suc b + length params) rest
 
 abbrev pub unless_bare : Bool → Label → List Label → List Label
-unless_bare true t labels = labels
-unless_bare false t labels = t ∷ labels
+unless_bare bare t labels = cond bare labels (t ∷ labels)
 
 abbrev pub in_handlers : List Label → List Label
 in_handlers [] = []

@@ -14,7 +14,7 @@ use Rattle.cmm_types.specs.Types.{type_without_float, type_of_cases, join}
 use Rattle.cmm_walks.specs.Walks.{Task, Evaluates, Slotted, bodies}
 use Rattle.mach_ir.specs.Acts.{Target, On, At}
 use Rattle.mach_ir.specs.Meaning.{passes_frame, after_label, code_at, tries_at}
-use Rattle.mach_ir.specs.Walks.{Among, first, later, this, other, targets, may_raise}
+use Rattle.mach_ir.specs.Walks.{Among, this, other, targets, may_raise}
 use Rattle.mach_ir.specs.Walks as mach
 use Rattle.mach_ir.specs.declared.mach.Instr.{Instr}
 use Rattle.mach_ir.specs.declared.mach.Mach.{Mach}
@@ -23,7 +23,7 @@ use Rattle.mach_ir.specs.declared.mach.Mark.TheVariants as mark
 use Rattle.mach_ir.specs.declared.reg.Reg.{Reg}
 use Rattle.selection_rules.specs.Instructions.{bare}
 use Rattle.selection_rules.specs.Select.{Named, Label, scopes, count_cases, width, switch_labels, last_label, select_cases}
-use Rattle.selection_rules.proofs.Parts.{ending_in, ending_next, Within, Placed, placed_in, placed_next, WellLabelled}
+use Rattle.selection_rules.proofs.Parts.{Within, Placed, placed_in, placed_next, WellLabelled}
 use Rattle.selection_rules.proofs.Endings.{ending_select, ending_cases}
 use Rattle.selection_laws.proofs.Accepting.{left, right}
 use Rattle.selection_laws.specs.Fits.{CasesFit}

@@ -21,7 +21,8 @@ use Rattle.mach_ir.specs.declared.reg.Reg.{Reg}
 use Rattle.selection_rules.specs.Instructions as emit
 use Rattle.selection_rules.specs.Instructions.{bare}
 use Rattle.selection_rules.specs.Select.{Named, Label, scopes, label_of, labels_from, in_handlers, unless_bare, deeper, width, width_labels, params_from, with_params, raised_name, inner_dest, inner_valued, seat, select, select_handlers}
-use Rattle.selection_rules.proofs.Parts.{Within, ending_in, ending_next, Placed, placed_in, placed_next, WellLabelled, inside_in}
+use Rattle.mach_laws.proofs.Places.{ending_next}
+use Rattle.selection_rules.proofs.Parts.{Within, ending_in, Placed, placed_in, placed_next, WellLabelled, inside_in}
 use Rattle.selection_rules.proofs.Endings.{ending_select, ending_handlers}
 use Rattle.selection_laws.proofs.Accepting.{left, right}
 use Rattle.selection_laws.specs.Fits.{Fits, HandlersFit}

@@ -1,5 +1,5 @@
 -- No address is live after a frame point of selected code that is reached, where none is in the text.
-use Rattle.std.proofs.Common.{◌≡◌, ℕ, suc, ◌+◌, ◌<◌, Bool, true, false, cond, not, ◌⊎◌, inl, inr, ⊎_elim, List, [], ◌∷◌, ◌++◌, Option, Some, None, refl, sym, ap, ◌∙◌, subst, arith}
+use Rattle.std.proofs.Common.{◌≡◌, ℕ, suc, ◌+◌, ◌<◌, Bool, true, false, not, ◌⊎◌, inl, inr, ⊎_elim, List, [], ◌∷◌, ◌++◌, Option, Some, None, refl, sym, ap, ◌∙◌, subst, arith}
 use Rattle.std.specs.Prelude.{length, nat_eq, Contains}
 use Rattle.std.proofs.lemmas.Bool.{true≢false, eq-eqb, eqb-true}
 use Rattle.bs_words.specs.declared.types.Comp.TheVariants as comp
@@ -14,15 +14,17 @@ use Rattle.cmm_types.specs.Types.{body_type, result_of, type_without_float, with
 use Rattle.cmm_walks.specs.AddrLive.{IsLiveIn}
 use Rattle.cmm_walks.specs.Walks.{Evaluates, with_slots, walk_tasks}
 use Rattle.mach_ir.specs.Acts.{Target, On, At}
-use Rattle.mach_ir.specs.Meaning.{passes_frame, code_at, after_label, from_handler, tries_at, has_label, is_handler_of}
-use Rattle.mach_ir.specs.Walks.{Among, first, later, Leads, goes, Raises, raises, Reached, at_entry, by_step, by_raise, Live, read, on, aside, LiveAcross, across_step, across_raise, InCode, in_results, further, IsRegister, is_in_code, NoAddrLive}
+use Rattle.mach_ir.specs.Meaning.{passes_frame, code_at, tries_at}
+use Rattle.mach_ir.specs.Walks.{Among, first, later, Leads, goes, Raises, raises, Reached, at_entry, by_step, by_raise, Live, read, on, aside, LiveAcross, across_step, across_raise, IsRegister, is_in_code, NoAddrLive}
 use Rattle.mach_ir.specs.declared.mach.Instr.{Instr}
 use Rattle.mach_ir.specs.declared.mach.Mach.{Mach}
 use Rattle.mach_ir.specs.declared.reg.Reg.{Reg}
 use Rattle.selection_rules.specs.Instructions as emit
 use Rattle.selection_rules.specs.Select.{Named, Label, scopes, fresh, moves_all, params_from, with_params, seat, seats, returns, is_no_value, selected, select}
 use Rattle.selection_rules.specs.Select as select
-use Rattle.selection_rules.proofs.Parts.{Ending, all, more, ending_next, Placed, placed_in}
+use Rattle.mach_laws.specs.Expand.{Ending, all}
+use Rattle.mach_laws.proofs.Places.{ending_next, ending_label, ending_from_handler, stands_of, results_in}
+use Rattle.selection_rules.proofs.Parts.{Placed, placed_in}
 use Rattle.selection_rules.proofs.Endings.{ending_select, ending_moves}
 use Rattle.selection_rules.proofs.Labels.{selected_labelled}
 use Rattle.selection_laws.proofs.Accepting.{left, right}
@@ -39,29 +41,9 @@ use Rattle.selection_rules.proofs.Rows.{seats_length}
 
 -- ---- places
 
-label_if : (b : Bool) (l : ℕ) (i : Instr) (is : List Instr) → Ending (after_label l is) is → Ending (cond b is (after_label l is)) (i ∷ is)
-label_if true l i is e = more all
-label_if false l i is e = more e
-
-ending_label : (l : ℕ) (code : List Instr) → Ending (after_label l code) code
-ending_label l [] = all
-ending_label l (i ∷ is) = label_if (has_label l i.op) l i is (ending_label l is)
-
-onto_if : (b : Bool) (l : ℕ) (i : Instr) (is : List Instr) → Ending (from_handler l is) is → Ending (cond b (i ∷ is) (from_handler l is)) (i ∷ is)
-onto_if true l i is e = all
-onto_if false l i is e = more e
-
-ending_onto : (l : ℕ) (code : List Instr) → Ending (from_handler l code) code
-ending_onto l [] = all
-ending_onto l (i ∷ is) = onto_if (is_handler_of l i.op) l i is (ending_onto l is)
-
 ending_to : {i : Instr} {next code : List Instr} (t : Target) → Ending (i ∷ next) code → Ending (code_at code next t) code
 ending_to On e = ending_next e
 ending_to {code = code} (At l) e = ending_label l code
-
-in_code : {i : Instr} {next code : List Instr} {r : Reg} → Ending (i ∷ next) code → Contains i.results r → InCode r code
-in_code all x = in_results x
-in_code (more e) x = further (in_code e x)
 
 among_either : (n : ℕ) (rs : List Reg) → Among n rs ⊎ (Among n rs → ⊥)
 among_either n [] = inr (λ a. elim a [ ])
@@ -89,7 +71,7 @@ results_among ks (r ∷ rs) (later i) = later (results_among ks rs i)
 
 module _ (m : Mach) (tells : NumbersTell m) (r : Reg) (is : IsRegister m r) (address : r.comp ≡ comp.Addr) where
   own : {i : Instr} {next : List Instr} → Ending (i ∷ next) m.code → Addresses r.number i.results
-  own {i} e = addresses_of r.number i.results (λ q c z. ap (λ (x : Reg). x.comp) (sym (tells r q is (is_in_code (in_code e c)) (sym z))) ∙ address)
+  own {i} e = addresses_of r.number i.results (λ q c z. ap (λ (x : Reg). x.comp) (sym (tells r q is (is_in_code (results_in (stands_of e) c)) (sym z))) ∙ address)
 
   record SomeAhead (p : Phase) (code : List Instr) : Type 0 where
     count : ℕ
@@ -99,7 +81,7 @@ module _ (m : Mach) (tells : NumbersTell m) (r : Reg) (is : IsRegister m r) (add
   ending_leads (goes t o) e = ending_to t e
 
   ending_raises : {i : Instr} {next to : List Instr} → Raises m i next to → Ending to m.code
-  ending_raises (raises {l = l} mr t) = ending_onto l m.code
+  ending_raises (raises {l = l} mr t) = ending_from_handler l m.code
 
   live_ahead : {code : List Instr} → Live m r.number code → Ending code m.code → SomeAhead Passed code
   live_ahead (read a) e = record { count = 0; ahead = ends a }

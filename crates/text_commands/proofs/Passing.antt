@@ -1,10 +1,10 @@
 -- The image of a file is one, and no section of a roomy file's passes its limit.
-use Rattle.std.proofs.Common.{◌≡◌, ℕ, List, None, Some, sym, ◌∙◌}
+use Rattle.std.proofs.Common.{◌≡◌, ℕ, List, Some, sym, ◌∙◌}
+use Rattle.std.proofs.lemmas.Option.{none-some}
 use Rattle.bs_fault.specs.declared.large.Large.{Large}
 use Rattle.cmm_front.specs.FileOf.{IsFileOf}
 use Rattle.cmm_tree.specs.Tree.{FileTree}
 use Rattle.correctness.specs.Bounds.{IsRoomy}
-use Rattle.file_compile.proofs.Promised as promised
 use Rattle.file_compile.proofs.Promised.{roomy_fits}
 use Rattle.image_form.specs.Tables.{Tables}
 use Rattle.layout_rules.specs.TooLarge.{first_too_large}
@@ -12,15 +12,12 @@ use Rattle.file_compile.specs.Made.{IsMadeFor}
 use Rattle.file_promise.proofs.Once.{made_for_once}
 use Rattle.text_commands.specs.Compile.{IsOnlyMadeFor, IsTooLarge}
 
-none_some : (large : Large) → None ≡ Some large → ⊥
-none_some large e = cc
-
 pub only_made : (file : FileTree) (image : Tables) → IsMadeFor file image → IsOnlyMadeFor file image
 only_made file image made = record { made = made; only = λ other m. made_for_once file other image m made }
 
 module _ (text : List ℕ) (file : FileTree) (large : Large) (is : IsFileOf text file) (of : (t : Tables) × (IsMadeFor file t × (first_too_large t ≡ Some large))) where
   pub not_roomy : IsRoomy file → ⊥
-  not_roomy roomy = none_some large (sym (roomy_fits text file is of.0 of.1.0 roomy) ∙ of.1.1)
+  not_roomy roomy = none-some large (sym (roomy_fits text file is of.0 of.1.0 roomy) ∙ of.1.1)
 
   pub too_large : IsTooLarge text large
   too_large = record {

@@ -12,7 +12,7 @@ use Rattle.linear_rules.proofs.Homes.{IsIn, is_first, is_later}
 use Rattle.linear_rules.proofs.Marks.{all_in}
 use Rattle.linear_rules.proofs.Walked.{Tail, tail_all, tail_more}
 use Rattle.bs_words.proofs.Lists.{pairs_here, pairs_later}
-use Rattle.tidy_rules.specs.Leaving.{bare, LabelsBetween, none_between, label_between}
+use Rattle.tidy_rules.specs.Leaving.{bare}
 use Rattle.tidy_rules.proofs.Shape.{compare}
 
 -- ---- ends of a list
@@ -32,10 +32,6 @@ whole_tail (tail_more t) le = let more = tail_length t in absurd (omega (arith, 
 -- ends of one length are the same
 pub same_tail : {a b zs : List Line} → Tail a zs → Tail b zs → length a ≡ length b → a ≡ b
 same_tail {a} {b} s t e = ⊎_elim (λ u. whole_tail u (omega (arith, e))) (λ u. sym (whole_tail u (omega (arith, e)))) (compare s t)
-
-pub between_tail : {a b : List Line} → LabelsBetween a b → Tail b a
-between_tail none_between = tail_all
-between_tail (label_between p) = tail_more (between_tail p)
 
 pub past_labels : {l : ℕ} {ls : List ℕ} (ks : List ℕ) → IsIn l ls → IsIn l (ks ++ ls)
 past_labels [] z = z

@@ -15,7 +15,6 @@ use Rattle.lin_ir.specs.declared.lin.Lin.{Lin}
 use Rattle.linear_rules.proofs.Walked.{Tail, tail_all, tail_more, tail_next, tail_stands, tail_label, tail_target, reached_tail}
 use Rattle.tidy_rules.specs.Leaving.{is_landing, bare, LabelsBetween, none_between, label_between, IsUseless, unreached, unread, skipped}
 use Rattle.tidy_rules.proofs.Leaving.{self_goes, raise_landing, Comes, there, before, comes_tail, comes_line, K, rest, target_rest, handler_rest, source_line}
-use Rattle.tidy_rules.proofs.Ends.{between_tail}
 
 -- a move is neither an exit nor a label
 self_no_exit : {i : Line} {from to : _} → IsSelfMove i from to → is_exit i.op ≡ false
@@ -39,6 +38,10 @@ no_label_line (lin.Flow flow.EnterTrap) e = refl
 comes_there : {m : Lin} {j : Line} {next : List Line} {tries : List ℕ} → Comes m (j ∷ next) tries → is_label j.op ≡ false → Reached m (j ∷ next) tries
 comes_there (there r) e = r
 comes_there (before w c) e = absurd (true≢false e)
+
+pub between_tail : {a b : List Line} → LabelsBetween a b → Tail b a
+between_tail none_between = tail_all
+between_tail (label_between p) = tail_more (between_tail p)
 
 module _ (m : Lin) (goes : ℕ → Bool) (each : (i : Line) (next : List Line) → Stands i next m.code → goes (length next) ≡ true → IsUseless m i next) where
   abbrev L : List Line → List Line

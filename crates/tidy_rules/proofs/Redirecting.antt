@@ -15,6 +15,7 @@ use Rattle.mach_ir.specs.Runs.{Place, Step, Pays}
 use Rattle.mach_ir.specs.Walks.{OneOf, this, other}
 use Rattle.mach_ir.specs.declared.mach.MachOp.{MachOp}
 use Rattle.mach_ir.specs.declared.op.Op.{Op}
+use Rattle.mach_ir.specs.declared.mach.Test.{Test}
 use Rattle.lin_ir.specs.Formed.{is_exit, label_of, lin_operand_seats, lin_result_seats}
 use Rattle.lin_ir.specs.Keeps.{IsNamedIn}
 use Rattle.lin_ir.specs.Meaning.{State, Locations, put_all, clear, values, destroyed_by, lin_act, on_act, wrote, has_label, after_label, code_at, passes_frame, start}
@@ -46,71 +47,40 @@ pub jump_same : {X : Type 0} (h : LinOp → X) (x : X) → ((l : ℕ) → h (lin
 jump_same h x jumps exits None l = jumps l
 jump_same h x jumps exits (Some n) l = exits n
 
+-- what says nothing of where a line leads, and the same of every jump and of every exit
+pub record IsBlind {X : Type 0} (h : LinOp → X) : Type 0 where
+  pub jump : (l : ℕ) → h (lin.Flow (flow.Jump l)) ≡ h (lin.Flow (flow.Jump 0))
+  pub exit : (l : ℕ) → h (lin.Flow (flow.Exit l)) ≡ h (lin.Flow (flow.Jump 0))
+  pub branch : (test : Test) (k l : ℕ) → h (lin.Flow (flow.Branch test k)) ≡ h (lin.Flow (flow.Branch test l))
+
+pub same_said : {X : Type 0} (h : LinOp → X) → IsBlind h → (to : ℕ → ℕ) (exits : ℕ → Option ℕ) (f : LinOp) → h (redirected to exits f) ≡ h f
+same_said h is to exits (lin.Op f) = refl
+same_said h is to exits (lin.Flow (flow.Label k)) = refl
+same_said h is to exits (lin.Flow (flow.Jump k)) = jump_same h _ is.jump is.exit (exits k) (to k) ∙ sym (is.jump k)
+same_said h is to exits (lin.Flow (flow.Exit k)) = is.exit (to k) ∙ sym (is.exit k)
+same_said h is to exits (lin.Flow (flow.Branch t k)) = is.branch t (to k) k
+same_said h is to exits (lin.Flow (flow.Switch ls)) = refl
+same_said h is to exits (lin.Flow (flow.PushTrap k)) = refl
+same_said h is to exits (lin.Flow flow.PopTrap) = refl
+same_said h is to exits (lin.Flow flow.EnterTrap) = refl
+
 pub same_destroyed : (to : ℕ → ℕ) (exits : ℕ → Option ℕ) (f : LinOp) → destroyed_by (redirected to exits f) ≡ destroyed_by f
-same_destroyed to exits (lin.Op f) = refl
-same_destroyed to exits (lin.Flow (flow.Label k)) = refl
-same_destroyed to exits (lin.Flow (flow.Jump k)) = jump_same destroyed_by _ (λ l. refl) (λ l. refl) (exits k) (to k)
-same_destroyed to exits (lin.Flow (flow.Exit k)) = refl
-same_destroyed to exits (lin.Flow (flow.Branch t k)) = refl
-same_destroyed to exits (lin.Flow (flow.Switch ls)) = refl
-same_destroyed to exits (lin.Flow (flow.PushTrap k)) = refl
-same_destroyed to exits (lin.Flow flow.PopTrap) = refl
-same_destroyed to exits (lin.Flow flow.EnterTrap) = refl
+same_destroyed = same_said destroyed_by (record { jump = λ l. refl; exit = λ l. refl; branch = λ test k l. refl })
 
 pub same_tries : (ts : List ℕ) (to : ℕ → ℕ) (exits : ℕ → Option ℕ) (f : LinOp) → tries_after (redirected to exits f) ts ≡ tries_after f ts
-same_tries ts to exits (lin.Op f) = refl
-same_tries ts to exits (lin.Flow (flow.Label k)) = refl
-same_tries ts to exits (lin.Flow (flow.Jump k)) = jump_same (λ f. tries_after f ts) _ (λ l. refl) (λ l. refl) (exits k) (to k)
-same_tries ts to exits (lin.Flow (flow.Exit k)) = refl
-same_tries ts to exits (lin.Flow (flow.Branch t k)) = refl
-same_tries ts to exits (lin.Flow (flow.Switch ls)) = refl
-same_tries ts to exits (lin.Flow (flow.PushTrap k)) = refl
-same_tries ts to exits (lin.Flow flow.PopTrap) = refl
-same_tries ts to exits (lin.Flow flow.EnterTrap) = refl
+same_tries ts = same_said (λ f. tries_after f ts) (record { jump = λ l. refl; exit = λ l. refl; branch = λ test k l. refl })
 
 pub same_raise : (to : ℕ → ℕ) (exits : ℕ → Option ℕ) (f : LinOp) → may_raise (redirected to exits f) ≡ may_raise f
-same_raise to exits (lin.Op f) = refl
-same_raise to exits (lin.Flow (flow.Label k)) = refl
-same_raise to exits (lin.Flow (flow.Jump k)) = jump_same may_raise _ (λ l. refl) (λ l. refl) (exits k) (to k)
-same_raise to exits (lin.Flow (flow.Exit k)) = refl
-same_raise to exits (lin.Flow (flow.Branch t k)) = refl
-same_raise to exits (lin.Flow (flow.Switch ls)) = refl
-same_raise to exits (lin.Flow (flow.PushTrap k)) = refl
-same_raise to exits (lin.Flow flow.PopTrap) = refl
-same_raise to exits (lin.Flow flow.EnterTrap) = refl
+same_raise = same_said may_raise (record { jump = λ l. refl; exit = λ l. refl; branch = λ test k l. refl })
 
 pub same_frame : (to : ℕ → ℕ) (exits : ℕ → Option ℕ) (f : LinOp) → passes_frame (redirected to exits f) ≡ passes_frame f
-same_frame to exits (lin.Op f) = refl
-same_frame to exits (lin.Flow (flow.Label k)) = refl
-same_frame to exits (lin.Flow (flow.Jump k)) = jump_same passes_frame _ (λ l. refl) (λ l. refl) (exits k) (to k)
-same_frame to exits (lin.Flow (flow.Exit k)) = refl
-same_frame to exits (lin.Flow (flow.Branch t k)) = refl
-same_frame to exits (lin.Flow (flow.Switch ls)) = refl
-same_frame to exits (lin.Flow (flow.PushTrap k)) = refl
-same_frame to exits (lin.Flow flow.PopTrap) = refl
-same_frame to exits (lin.Flow flow.EnterTrap) = refl
+same_frame = same_said passes_frame (record { jump = λ l. refl; exit = λ l. refl; branch = λ test k l. refl })
 
 pub same_label : (l : ℕ) (to : ℕ → ℕ) (exits : ℕ → Option ℕ) (f : LinOp) → has_label l (redirected to exits f) ≡ has_label l f
-same_label l to exits (lin.Op f) = refl
-same_label l to exits (lin.Flow (flow.Label k)) = refl
-same_label l to exits (lin.Flow (flow.Jump k)) = jump_same (has_label l) _ (λ l. refl) (λ l. refl) (exits k) (to k)
-same_label l to exits (lin.Flow (flow.Exit k)) = refl
-same_label l to exits (lin.Flow (flow.Branch t k)) = refl
-same_label l to exits (lin.Flow (flow.Switch ls)) = refl
-same_label l to exits (lin.Flow (flow.PushTrap k)) = refl
-same_label l to exits (lin.Flow flow.PopTrap) = refl
-same_label l to exits (lin.Flow flow.EnterTrap) = refl
+same_label l = same_said (has_label l) (record { jump = λ k. refl; exit = λ k. refl; branch = λ test j k. refl })
 
 pub same_leaves : (to : ℕ → ℕ) (exits : ℕ → Option ℕ) (f : LinOp) → walks.leaves (redirected to exits f) ≡ walks.leaves f
-same_leaves to exits (lin.Op f) = refl
-same_leaves to exits (lin.Flow (flow.Label k)) = refl
-same_leaves to exits (lin.Flow (flow.Jump k)) = jump_same walks.leaves _ (λ l. refl) (λ l. refl) (exits k) (to k)
-same_leaves to exits (lin.Flow (flow.Exit k)) = refl
-same_leaves to exits (lin.Flow (flow.Branch t k)) = refl
-same_leaves to exits (lin.Flow (flow.Switch ls)) = refl
-same_leaves to exits (lin.Flow (flow.PushTrap k)) = refl
-same_leaves to exits (lin.Flow flow.PopTrap) = refl
-same_leaves to exits (lin.Flow flow.EnterTrap) = refl
+same_leaves = same_said walks.leaves (record { jump = λ l. refl; exit = λ l. refl; branch = λ test k l. refl })
 
 -- a line that becomes no exit was none
 pub exit_was : (to : ℕ → ℕ) (exits : ℕ → Option ℕ) (f : LinOp) → is_exit (redirected to exits f) ≡ false → is_exit f ≡ false
@@ -125,37 +95,13 @@ exit_was to exits (lin.Flow flow.PopTrap) e = refl
 exit_was to exits (lin.Flow flow.EnterTrap) e = refl
 
 pub same_labels : (to : ℕ → ℕ) (exits : ℕ → Option ℕ) (f : LinOp) → label_of (redirected to exits f) ≡ label_of f
-same_labels to exits (lin.Op f) = refl
-same_labels to exits (lin.Flow (flow.Label k)) = refl
-same_labels to exits (lin.Flow (flow.Jump k)) = jump_same label_of _ (λ l. refl) (λ l. refl) (exits k) (to k)
-same_labels to exits (lin.Flow (flow.Exit k)) = refl
-same_labels to exits (lin.Flow (flow.Branch t k)) = refl
-same_labels to exits (lin.Flow (flow.Switch ls)) = refl
-same_labels to exits (lin.Flow (flow.PushTrap k)) = refl
-same_labels to exits (lin.Flow flow.PopTrap) = refl
-same_labels to exits (lin.Flow flow.EnterTrap) = refl
+same_labels = same_said label_of (record { jump = λ l. refl; exit = λ l. refl; branch = λ test k l. refl })
 
 pub same_operands : (to : ℕ → ℕ) (exits : ℕ → Option ℕ) (f : LinOp) → lin_operand_seats (redirected to exits f) ≡ lin_operand_seats f
-same_operands to exits (lin.Op f) = refl
-same_operands to exits (lin.Flow (flow.Label k)) = refl
-same_operands to exits (lin.Flow (flow.Jump k)) = jump_same lin_operand_seats _ (λ l. refl) (λ l. refl) (exits k) (to k)
-same_operands to exits (lin.Flow (flow.Exit k)) = refl
-same_operands to exits (lin.Flow (flow.Branch t k)) = refl
-same_operands to exits (lin.Flow (flow.Switch ls)) = refl
-same_operands to exits (lin.Flow (flow.PushTrap k)) = refl
-same_operands to exits (lin.Flow flow.PopTrap) = refl
-same_operands to exits (lin.Flow flow.EnterTrap) = refl
+same_operands = same_said lin_operand_seats (record { jump = λ l. refl; exit = λ l. refl; branch = λ test k l. refl })
 
 pub same_results : (to : ℕ → ℕ) (exits : ℕ → Option ℕ) (f : LinOp) → lin_result_seats (redirected to exits f) ≡ lin_result_seats f
-same_results to exits (lin.Op f) = refl
-same_results to exits (lin.Flow (flow.Label k)) = refl
-same_results to exits (lin.Flow (flow.Jump k)) = jump_same lin_result_seats _ (λ l. refl) (λ l. refl) (exits k) (to k)
-same_results to exits (lin.Flow (flow.Exit k)) = refl
-same_results to exits (lin.Flow (flow.Branch t k)) = refl
-same_results to exits (lin.Flow (flow.Switch ls)) = refl
-same_results to exits (lin.Flow (flow.PushTrap k)) = refl
-same_results to exits (lin.Flow flow.PopTrap) = refl
-same_results to exits (lin.Flow flow.EnterTrap) = refl
+same_results = same_said lin_result_seats (record { jump = λ l. refl; exit = λ l. refl; branch = λ test k l. refl })
 
 -- ---- labels and jumps
 

@@ -14,22 +14,10 @@ use Rattle.lin_ir.specs.declared.lin.Line.{Line}
 use Rattle.lin_ir.specs.declared.lin.Lin.{Lin}
 use Rattle.tidy_rules.specs.Leaving.{bare}
 use Rattle.tidy_rules.specs.Redirecting.{goes_by, redirected, redirect, GoesOnTo, ExitsTo}
-use Rattle.tidy_rules.proofs.Redirecting.{Quiet, is_there, by_label, by_jump, quiet_to, T, turned, target_turned, source_line, exit_was, same_raise}
+use Rattle.tidy_rules.proofs.Redirecting.{Quiet, is_there, by_label, by_jump, quiet_to, T, turned, target_turned, source_line, exit_was, same_raise, same_said}
 
 same_mark : (to : ℕ → ℕ) (exits : ℕ → Option ℕ) (f : LinOp) → is_label (redirected to exits f) ≡ is_label f
-same_mark to exits (lin.Op f) = refl
-same_mark to exits (lin.Flow (flow.Label k)) = refl
-same_mark to exits (lin.Flow (flow.Jump k)) = by (exits k)
-  where
-    by : (o : Option ℕ) → is_label (lin.Flow (goes_by o (to k))) ≡ false
-    by None = refl
-    by (Some n) = refl
-same_mark to exits (lin.Flow (flow.Exit k)) = refl
-same_mark to exits (lin.Flow (flow.Branch t k)) = refl
-same_mark to exits (lin.Flow (flow.Switch ls)) = refl
-same_mark to exits (lin.Flow (flow.PushTrap k)) = refl
-same_mark to exits (lin.Flow flow.PopTrap) = refl
-same_mark to exits (lin.Flow flow.EnterTrap) = refl
+same_mark = same_said is_label (record { jump = λ l. refl; exit = λ l. refl; branch = λ test k l. refl })
 
 module _ (m : Lin) (to : ℕ → ℕ) (exits : ℕ → Option ℕ) (each : (l : ℕ) → GoesOnTo m l (to l)) (out : (l n : ℕ) → exits l ≡ Some n → ExitsTo m l n)
     (down : GoesDown m) where

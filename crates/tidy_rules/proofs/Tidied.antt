@@ -29,9 +29,10 @@ use Rattle.tidy_rules.specs.Redirecting.{goes_by, redirected, redirect, GoesOnTo
 use Rattle.tidy_rules.specs.Regular.{AtHomes, IsRegular}
 use Rattle.tidy_rules.proofs.Redirecting.{jump_same, same_labels, same_leaves, same_operands, same_results, T, turned, source, source_line, line_was, op_was}
 use Rattle.tidy_rules.proofs.RedirectingDown.{down_turned}
-use Rattle.tidy_rules.proofs.Ends.{tail_then, same_tail, between_tail}
+use Rattle.tidy_rules.proofs.Ends.{tail_then, same_tail}
 use Rattle.tidy_rules.proofs.Shape.{spare_free, balance_of, SameShape, leaving_regular}
 use Rattle.tidy_rules.proofs.TurningShape.{turning_regular}
+use Rattle.tidy_rules.proofs.LeavingDown.{between_tail}
 
 -- ---- forms
 

@@ -8,7 +8,6 @@ use Rattle.lin_ir.specs.Keeps.{Keeps}
 use Rattle.lin_ir.specs.Meaning.{NamedAt, passes_frame}
 use Rattle.lin_ir.specs.Walks as walks
 use Rattle.lin_ir.specs.Walks.{Stands, Reached, Live, by_walk, after_step}
-use Rattle.lin_ir.specs.declared.lin.LinOp.TheVariants as lin
 use Rattle.lin_ir.specs.declared.lin.Line.{Line}
 use Rattle.lin_ir.specs.declared.lin.Lin.{Lin}
 use Rattle.linear_rules.specs.Keeps.{KeepsReached}
