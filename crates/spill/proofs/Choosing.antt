@@ -28,7 +28,7 @@ use Rattle.spill.specs.Graphs.{reloaded_among}
 use Rattle.spill.specs.Tables.{Wanted, here, on, aside, AreTables}
 use Rattle.spill.specs.declared.tables.Tables.{Tables}
 use Rattle.spill.proofs.Making.{not_both}
-use Rattle.spill.proofs.Steps.{among_of, in_numbers, place_within, Steps, steps_of, steps_to, leads_ending}
+use Rattle.liveness.proofs.Steps.{among_of, in_numbers, place_within, Steps, steps_of, steps_to, leads_ending}
 use Rattle.spill.proofs.WantedFlow.{both, in_reloaded, reloaded_in, reloaded_here, here_reloaded}
 
 -- ---- tests on lists
