@@ -10,7 +10,7 @@ use Rattle.dataflow.specs.declared.flow.Flow as flow
 use Rattle.dataflow.specs.declared.flow.Place as place
 use Rattle.mach_ir.specs.Graph.{IsLiveMap}
 use Rattle.mach_ir.specs.Meaning.{Everything, destroyed_by, code_at, written as written_by}
-use Rattle.mach_ir.specs.Walks.{Among, OneOf, targets, goes, Leads, Raises, Live, Writes, Stands}
+use Rattle.mach_ir.specs.Walks.{goes, Leads, Live, Writes}
 use Rattle.mach_ir.specs.Walks as walks
 use Rattle.mach_ir.specs.declared.graph.LiveMap.{LiveMap}
 use Rattle.mach_ir.specs.declared.mach.Instr.{Instr}
@@ -27,7 +27,7 @@ use Rattle.sink.proofs.Held.{held_destroys, held_of, stands_of, ending_of}
 use Rattle.sink.proofs.Graph.{Where, inner, final, beyond, where_is, at, none_past, lead, rise, of, goes_to, rises_to}
 use Rattle.sink.proofs.Living.{decide_in}
 use Rattle.sink.proofs.Nodes.{At, AtEnd, at_last, count}
-use Rattle.sink.proofs.Steps.{each, among_of, in_numbers, destroys_on, ending_place, leads_ending, raise_ending, IsWithin, next_within, aside_within, writes_small, live_small}
+use Rattle.liveness.proofs.Steps.{each, among_of, in_numbers, destroys_on, ending_place, leads_ending, raise_ending, IsWithin, next_within, aside_within, writes_small, live_small}
 
 module _ (m : Mach) (live : LiveMap) (exact : IsLiveMap m live) where
   abbrev rows : List (List Bool)
