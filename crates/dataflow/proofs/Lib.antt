@@ -1,7 +1,7 @@
 mod Forms
-mod Loops
+pub mod Loops
 mod Moves
 mod Pushes
-mod Steps
-mod Sweeps
-mod Visits
+pub mod Steps
+pub mod Sweeps
+pub mod Visits

@@ -1,6 +1,6 @@
 -- Runs of numbers, and places of labels.
-use Rattle.std.proofs.Common.{◌≡◌, ℕ, zero, suc, ◌+◌, ◌<◌, Bool, true, false, cond, List, ◌∷◌, ◌++◌, [], length, map, take, get_or, refl, sym, ap, ◌∙◌, subst, arith, append_assoc}
-use Rattle.std.proofs.lemmas.List.{append-nil, map-append, take_more}
+use Rattle.std.proofs.Common.{◌≡◌, ℕ, zero, suc, ◌+◌, Bool, true, false, cond, List, ◌∷◌, ◌++◌, [], map, refl, sym, ap, ◌∙◌, subst, arith, append_assoc}
+use Rattle.std.proofs.lemmas.List.{append-nil}
 use Rattle.mach_ir.specs.Acts.{At}
 use Rattle.lin_ir.specs.Meaning.{after_label, has_label}
 use Rattle.lin_ir.specs.Walks.{targets}
@@ -11,7 +11,8 @@ use Rattle.lin_ir.specs.declared.lin.Line.{Line}
 use Rattle.lin_ir.specs.declared.lin.Lin.{Lin}
 use Rattle.lin_laws.specs.Graph.{place_of}
 use Rattle.lin_laws.specs.Numbers.{run}
-use Rattle.lin_flow.specs.Labels.{place_in, place_to}
+use Rattle.lin_flow.specs.Labels.{place_in}
+use Rattle.mach_ir.specs.Labels.{place_to}
 use Rattle.lin_flow.specs.declared.labels.Labels.{Labels}
 
 pub run_none : (a : ℕ) → run a 0 ≡ []
@@ -45,18 +46,9 @@ label_more m l p i next e = by (has_label l i.op)
     by true = e
     by false = refl
 
--- the places of labels, so far
-pub switch_more : (labels : Labels) (p : ℕ) (ls items new : List ℕ) (i l y : ℕ) → i < length ls → l ≡ get_or ls i l → y ≡ place_in labels l →
-    items ≡ map (place_to labels p) (map At (take i ls)) → new ≡ items ++ y ∷ [] →
-    new ≡ map (place_to labels p) (map At (take (i + 1) ls))
-switch_more labels p ls items new i l y lt is e inv n =
-    n ∙ ap (λ ys. ys ++ y ∷ []) inv ∙ ap (λ z. map (place_to labels p) (map At (take i ls)) ++ z ∷ []) (e ∙ ap (place_in labels) is)
-    ∙ sym (ap (λ xs. map (place_to labels p) (map At xs)) (take_more ls i l lt)
-    ∙ ap (map (place_to labels p)) (map-append At (take i ls) (get_or ls i l ∷ []))
-    ∙ map-append (place_to labels p) (map At (take i ls)) (At (get_or ls i l) ∷ []))
-
+-- the places of labels
 pub switch_done : (labels : Labels) (p : ℕ) (places ls slice : List ℕ) (f : Flow) → f ≡ flow.Switch ls → slice ≡ ls →
-    ((p : ℕ) → places ≡ map (place_to labels p) (map At slice)) → places ≡ map (place_to labels p) (targets (lin.Flow f))
+    ((p : ℕ) → places ≡ map (place_to (place_in labels) p) (map At slice)) → places ≡ map (place_to (place_in labels) p) (targets (lin.Flow f))
 switch_done labels p places ls slice f e s h =
-    subst (λ (g : Flow). places ≡ map (place_to labels p) (targets (lin.Flow g))) (sym e)
-    (subst (λ xs. places ≡ map (place_to labels p) (map At xs)) s (h p))
+    subst (λ (g : Flow). places ≡ map (place_to (place_in labels) p) (targets (lin.Flow g))) (sym e)
+    (subst (λ xs. places ≡ map (place_to (place_in labels) p) (map At xs)) s (h p))

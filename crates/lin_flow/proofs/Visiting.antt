@@ -18,7 +18,8 @@ use Rattle.lin_laws.specs.Graph.{place_at, position, steps, steps_at, raise_step
 use Rattle.lin_laws.specs.Numbers.{val_numbers, written_numbers}
 use Rattle.lin_laws.specs.declared.position.Position.{Position}
 use Rattle.lin_flow.proofs.Searching.{grown_then, grown_none, numbers_kept, pushed_cases}
-use Rattle.lin_flow.specs.Labels.{place_in, place_to, AreLabelsOf}
+use Rattle.lin_flow.specs.Labels.{place_in, AreLabelsOf}
+use Rattle.mach_ir.specs.Labels.{place_to}
 use Rattle.lin_flow.specs.Nodes.{landing_to, steps_to, Landed, IsText, IsNodeOfLine, Visited, IsReady, AreWalkedTo, Spreads}
 use Rattle.lin_flow.specs.Search.{all_of, groups_of, Grown}
 use Rattle.lin_flow.specs.declared.labels.Labels.{Labels}
@@ -27,27 +28,27 @@ use Rattle.lin_flow.specs.declared.search.Search.{Search}
 -- ---- places
 
 pub places_within : (labels : Labels) (p count : ℕ) → ((l : ℕ) → place_in labels l < count) → suc p < count → (ts : List Target) →
-    All (λ q. q < count) (map (place_to labels p) ts)
+    All (λ q. q < count) (map (place_to (place_in labels) p) ts)
 places_within labels p count in_labels next [] = All-nil (λ q. q < count)
 places_within labels p count in_labels next (On ∷ ts) =
-    All-cons (λ q. q < count) (suc p) (map (place_to labels p) ts) next (places_within labels p count in_labels next ts)
+    All-cons (λ q. q < count) (suc p) (map (place_to (place_in labels) p) ts) next (places_within labels p count in_labels next ts)
 places_within labels p count in_labels next (At l ∷ ts) =
-    All-cons (λ q. q < count) (place_in labels l) (map (place_to labels p) ts) (in_labels l) (places_within labels p count in_labels next ts)
+    All-cons (λ q. q < count) (place_in labels l) (map (place_to (place_in labels) p) ts) (in_labels l) (places_within labels p count in_labels next ts)
 
 pub labels_within : (m : Lin) (labels : Labels) (count : ℕ) → AreLabelsOf m labels → count ≡ suc (length m.code) → (l : ℕ) →
     place_in labels l < count
 labels_within m labels count is len l = let e = is.each l in omega (arith, e, len)
 
 module _ (m : Lin) (labels : Labels) (is : AreLabelsOf m labels) where
-  step_same : (p : ℕ) (t : Target) → place_to labels p t ≡ place_at m p t
+  step_same : (p : ℕ) (t : Target) → place_to (place_in labels) p t ≡ place_at m p t
   step_same p On = refl
   step_same p (At l) = is.each l
 
   steps_of : (p : ℕ) (tries : List ℕ) (ts : List Target) →
-      map (λ q. position q tries) (map (place_to labels p) ts) ≡ map (λ t. position (place_at m p t) tries) ts
+      map (λ q. position q tries) (map (place_to (place_in labels) p) ts) ≡ map (λ t. position (place_at m p t) tries) ts
   steps_of p tries [] = refl
   steps_of p tries (t ∷ ts) =
-      ap (λ q. position q tries ∷ map (λ q. position q tries) (map (place_to labels p) ts)) (step_same p t)
+      ap (λ q. position q tries ∷ map (λ q. position q tries) (map (place_to (place_in labels) p) ts)) (step_same p t)
       ∙ ap (λ ys. position (place_at m p t) tries ∷ ys) (steps_of p tries ts)
 
   landing_same : (b : Bool) (tries : List ℕ) → landing_to labels b tries ≡ landing m b tries
@@ -57,13 +58,13 @@ module _ (m : Lin) (labels : Labels) (is : AreLabelsOf m labels) where
 
 -- ---- the place of a line
 
-pub all_within : (labels : Labels) (p count : ℕ) (ts : List Target) (ps slice : List ℕ) → slice ≡ ps → ps ≡ map (place_to labels p) ts →
+pub all_within : (labels : Labels) (p count : ℕ) (ts : List Target) (ps slice : List ℕ) → slice ≡ ps → ps ≡ map (place_to (place_in labels) p) ts →
     ((l : ℕ) → place_in labels l < count) → suc p < count → All (λ q. q < count) slice
 all_within labels p count ts ps slice e f in_labels next =
     subst (All (λ q. q < count)) (sym (e ∙ f)) (places_within labels p count in_labels next ts)
 
 pub node_of : (labels : Labels) (old mid new : Search) (i : Line) (p : ℕ) (tries after places : List ℕ) (node : place.Place) →
-    after ≡ tries_after i.op tries → places ≡ map (place_to labels p) (targets i.op) →
+    after ≡ tries_after i.op tries → places ≡ map (place_to (place_in labels) p) (targets i.op) →
     Grown old mid (map (λ q. position q after) places) →
     AreNumbersOf (all_of mid) (contents node.next) (map (λ q. position q after) places) →
     Grown mid new (landing_to labels (may_raise i.op) tries) →
@@ -84,7 +85,7 @@ node_of labels old mid new i p tries after places node e f g next h aside reads 
     }
 
 pub node_made : (labels : Labels) (old mid new : Search) (i : Line) (p : ℕ) (tries after places next aside : List ℕ) (raises : Bool)
-    (node : place.Place) → after ≡ tries_after i.op tries → places ≡ map (place_to labels p) (targets i.op) →
+    (node : place.Place) → after ≡ tries_after i.op tries → places ≡ map (place_to (place_in labels) p) (targets i.op) →
     Grown old mid (map (λ q. position q after) places) → AreNumbersOf (all_of mid) next (map (λ q. position q after) places) →
     raises ≡ may_raise i.op → Landed mid new (landing_to labels raises tries) aside → contents node.next ≡ next →
     contents node.aside ≡ aside → contents node.reads ≡ val_numbers i.args → contents node.writes ≡ written_numbers i →

@@ -7,7 +7,8 @@ use Rattle.lin_ir.specs.declared.lin.Line.{Line}
 use Rattle.lin_ir.specs.declared.lin.Lin.{Lin}
 use Rattle.lin_laws.specs.Graph.{position, steps, raise_steps, AreNumbered, AreNumbersOf, IsNode, AreNodes}
 use Rattle.lin_laws.specs.declared.position.Position.{Position}
-use Rattle.lin_flow.specs.Labels.{AreLabelsOf, place_in, place_to}
+use Rattle.lin_flow.specs.Labels.{AreLabelsOf, place_in}
+use Rattle.mach_ir.specs.Labels.{place_to}
 use Rattle.lin_laws.specs.Numbers.{val_numbers, written_numbers}
 use Rattle.lin_flow.specs.Search.{all_of, groups_of, Grown, AreGrouped}
 use Rattle.lin_flow.specs.declared.labels.Labels.{Labels}
@@ -22,7 +23,7 @@ landing_to labels true (h ∷ tries) = position (place_in labels h) tries ∷ []
 -- where a line goes on, by the table of labels
 abbrev pub steps_to : Labels → Line → ℕ → List ℕ → List Position
 steps_to labels i p tries =
-    map (λ q. position q (tries_after i.op tries)) (map (place_to labels p) (targets i.op))
+    map (λ q. position q (tries_after i.op tries)) (map (place_to (place_in labels) p) (targets i.op))
 
 -- these positions have come in, and these are their numbers
 pub record Landed (old new : Search) (ys : List Position) (ns : List ℕ) : Type 0 where

@@ -1,84 +1,22 @@
 //! Where control goes from a line.
 ghost use Rattle.std.specs.Prelude.{◌≡◌, ◌<◌, ◌^◌, ℕ, suc, map, [], ◌∷◌, IfOk};
 ghost use Rattle.mach_ir.specs.Acts.{At, goes_on};
-ghost use Rattle.mach_ir.specs.Acts as acts;
+ghost use Rattle.mach_ir.specs.Labels.{place_to, next_place};
 ghost use Rattle.lin_ir.specs.Walks.{targets};
 ghost use Rattle.lin_ir.specs.Walks as walks;
-ghost use Rattle.lin_flow.specs.Labels.{place_to, next_place};
+ghost use Rattle.lin_flow.specs.Labels.{place_in};
 
 use crate::labels::Labels;
 use lin_ir::{Flow, LinOp};
-use mach_ir::{Calling, Label, Leaving, Op};
+use mach_ir::{Label, Op};
 use std::alloc::{AllocError, Global};
-
-fn call_goes_on(calling: &Calling) -> bool
-    ensures { result ≡ goes_on (Op.Calling calling.now) }
-{
-    match calling {
-        Calling::Call { .. } => true,
-        Calling::TailCall { .. } => false,
-        Calling::External { .. } => true,
-    }
-}
-
-fn leaving_goes_on(leaving: Leaving) -> bool
-    ensures { result ≡ goes_on (Op.Leaving leaving) }
-{
-    match leaving {
-        Leaving::Checkbound(_) => true,
-        Leaving::Raise => false,
-        Leaving::Return => false,
-    }
-}
-
-fn goes_on(op: &Op) -> bool
-    ensures { result ≡ goes_on op.now }
-{
-    match op {
-        Op::Pure(_) => true,
-        Op::Access(_) => true,
-        Op::Calling(calling) => call_goes_on(calling),
-        Op::Leaving(leaving) => leaving_goes_on(*leaving),
-    }
-}
-
-fn call_may_raise(calling: &Calling) -> bool
-    ensures { result ≡ acts.may_raise (Op.Calling calling.now) }
-{
-    match calling {
-        Calling::Call { .. } => true,
-        Calling::TailCall { .. } => false,
-        Calling::External { row: _, frame } => *frame,
-    }
-}
-
-fn leaving_may_raise(leaving: Leaving) -> bool
-    ensures { result ≡ acts.may_raise (Op.Leaving leaving) }
-{
-    match leaving {
-        Leaving::Checkbound(_) => true,
-        Leaving::Raise => true,
-        Leaving::Return => false,
-    }
-}
-
-fn op_may_raise(op: &Op) -> bool
-    ensures { result ≡ acts.may_raise op.now }
-{
-    match op {
-        Op::Pure(_) => false,
-        Op::Access(_) => false,
-        Op::Calling(calling) => call_may_raise(calling),
-        Op::Leaving(leaving) => leaving_may_raise(*leaving),
-    }
-}
 
 /// Whether it leads to the innermost handler too: a call, a frame call, a raise or a bound test.
 pub fn may_raise(op: &LinOp) -> bool
     ensures { result ≡ walks.may_raise op.now }
 {
     match op {
-        LinOp::Op(op) => op_may_raise(op),
+        LinOp::Op(op) => op.may_raise(),
         LinOp::Flow(_) => false,
     }
 }
@@ -101,7 +39,7 @@ fn two_places(alloc: Global, first: u32, second: u32) -> Result<Vec<u32>, AllocE
 
 fn places_of_labels(alloc: Global, labels: &Labels, among: &[Label]) -> Result<Vec<u32>, AllocError>
     ensures { IfOk result (λ places. (p : ℕ) →
-        places.items ≡ map (place_to labels.now p) (map At among.now)) }
+        places.items ≡ map (place_to (place_in labels.now) p) (map At among.now)) }
 {
     let mut places = Vec::with_capacity(alloc, among.len())?;
     for label in among {
@@ -114,7 +52,7 @@ fn places_after_op(alloc: Global, op: &Op, place: u32) -> Result<Vec<u32>, Alloc
     requires { suc place < 2 ^ 32 }
     ensures { IfOk result (λ places. places.items ≡ next_place (goes_on op.now) place) }
 {
-    if goes_on(op) {
+    if op.goes_on() {
         one_place(alloc, place + 1)
     } else {
         Ok(Vec::new(alloc))
@@ -129,7 +67,7 @@ fn places_after_flow(
 ) -> Result<Vec<u32>, AllocError>
     requires { suc place < 2 ^ 32 }
     ensures { IfOk result (λ places.
-        places.items ≡ map (place_to labels.now place) (targets (LinOp.Flow flow.now))) }
+        places.items ≡ map (place_to (place_in labels.now) place) (targets (LinOp.Flow flow.now))) }
 {
     match flow {
         Flow::Label(_) => one_place(alloc, place + 1),
@@ -155,7 +93,7 @@ pub fn places_after(
 ) -> Result<Vec<u32>, AllocError>
     requires { suc place < 2 ^ 32 }
     ensures { IfOk result (λ places.
-        places.items ≡ map (place_to labels.now place) (targets op.now)) }
+        places.items ≡ map (place_to (place_in labels.now) place) (targets op.now)) }
 {
     match op {
         LinOp::Op(op) => places_after_op(alloc, op, place),

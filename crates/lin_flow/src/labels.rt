@@ -1,7 +1,8 @@
 //! The places of labels.
 ghost use Rattle.std.specs.Prelude.{◌≡◌, ◌<◌, ℕ, ◌^◌, cond, length, IfOk};
 ghost use Rattle.lin_ir.specs.Meaning.{has_label};
-ghost use Rattle.lin_flow.specs.Labels.{is_that_label, place_in, AreLabelsOf};
+ghost use Rattle.mach_ir.specs.Labels.{is_that_label};
+ghost use Rattle.lin_flow.specs.Labels.{place_in, AreLabelsOf};
 
 use lin_ir::{Flow, Lin, LinOp};
 use mach_ir::Label;

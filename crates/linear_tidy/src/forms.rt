@@ -2,7 +2,7 @@
 ghost use Rattle.std.specs.Prelude.{◌≡◌, ◌↔◌, ℕ, All, Some, IfSome, IsTrue, []};
 ghost use Rattle.bs_words.specs.declared.types.Loc.{Loc};
 ghost use Rattle.std.specs.Option.{option_to_list};
-ghost use Rattle.lin_flow.specs.Labels.{is_that_label};
+ghost use Rattle.mach_ir.specs.Labels.{is_that_label};
 ghost use Rattle.lin_ir.specs.Formed.{IsSelfMove, label_of};
 ghost use Rattle.lin_ir.specs.Meaning.{has_label};
 ghost use Rattle.lin_ir.specs.declared.lin.Spot.{Spot};

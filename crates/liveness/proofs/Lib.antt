@@ -2,3 +2,4 @@ pub mod Lists
 pub mod Graph
 pub mod Bounds
 pub mod Loop
+pub mod Steps

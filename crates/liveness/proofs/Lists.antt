@@ -1,6 +1,6 @@
 -- Places of labels and of handlers, as far as a function is read.
-use Rattle.std.proofs.Common.{◌≡◌, ℕ, suc, ◌+◌, ◌-◌, ◌<◌, Bool, true, false, cond, List, ◌∷◌, ◌++◌, [], length, map, take, drop, get_or, refl, sym, ap, ◌∙◌, subst, arith}
-use Rattle.std.proofs.lemmas.List.{map-append, take_more, length-drop}
+use Rattle.std.proofs.Common.{◌≡◌, ℕ, suc, ◌-◌, Bool, true, false, cond, List, ◌∷◌, [], length, map, drop, refl, sym, ap, ◌∙◌, subst, arith}
+use Rattle.std.proofs.lemmas.List.{length-drop}
 use Rattle.mach_ir.specs.Acts.{Target, On, At}
 use Rattle.mach_ir.specs.Meaning.{after_label, from_handler, has_label, is_handler_of, code_at}
 use Rattle.bs_words.specs.Contents.{contents}
@@ -11,7 +11,8 @@ use Rattle.mach_ir.specs.declared.mach.MachOp.TheVariants as mach
 use Rattle.mach_ir.specs.declared.mach.Instr.{Instr}
 use Rattle.mach_ir.specs.declared.mach.Mach.{Mach}
 use Rattle.mach_laws.specs.Graph.{place_of, handler_places}
-use Rattle.liveness.specs.Labels.{place_in, place_to, handler_places_in, AreLabelsOf}
+use Rattle.mach_ir.specs.Labels.{place_to}
+use Rattle.liveness.specs.Labels.{place_in, handler_places_in, AreLabelsOf}
 use Rattle.liveness.specs.Nodes.{AreEdgesAt}
 use Rattle.liveness.specs.declared.edges.Edges.{Edges}
 use Rattle.liveness.specs.declared.labels.Labels.{Labels}
@@ -47,31 +48,22 @@ handler_more m l p i next e = by (is_handler_of l i.op)
     by true = place_here m p i next e
     by false = refl
 
--- the places of labels, so far
-pub switch_more : (labels : Labels) (p : ℕ) (ls items new : List ℕ) (i l y : ℕ) → i < length ls → l ≡ get_or ls i l → y ≡ place_in labels l →
-    items ≡ map (place_to labels p) (map At (take i ls)) → new ≡ items ++ y ∷ [] →
-    new ≡ map (place_to labels p) (map At (take (i + 1) ls))
-switch_more labels p ls items new i l y lt is e inv n =
-    n ∙ ap (λ ys. ys ++ y ∷ []) inv ∙ ap (λ z. map (place_to labels p) (map At (take i ls)) ++ z ∷ []) (e ∙ ap (place_in labels) is)
-    ∙ sym (ap (λ xs. map (place_to labels p) (map At xs)) (take_more ls i l lt)
-    ∙ ap (map (place_to labels p)) (map-append At (take i ls) (get_or ls i l ∷ []))
-    ∙ map-append (place_to labels p) (map At (take i ls)) (At (get_or ls i l) ∷ []))
-
+-- the places of labels
 pub switch_done : (labels : Labels) (p : ℕ) (places ls slice : List ℕ) (f : Mark) → f ≡ mark.Switch ls → slice ≡ ls →
-    ((p : ℕ) → places ≡ map (place_to labels p) (map At slice)) → places ≡ map (place_to labels p) (targets (mach.Mark f))
+    ((p : ℕ) → places ≡ map (place_to (place_in labels) p) (map At slice)) → places ≡ map (place_to (place_in labels) p) (targets (mach.Mark f))
 switch_done labels p places ls slice f e s h =
-    subst (λ (g : Mark). places ≡ map (place_to labels p) (targets (mach.Mark g))) (sym e)
-    (subst (λ xs. places ≡ map (place_to labels p) (map At xs)) s (h p))
+    subst (λ (g : Mark). places ≡ map (place_to (place_in labels) p) (targets (mach.Mark g))) (sym e)
+    (subst (λ xs. places ≡ map (place_to (place_in labels) p) (map At xs)) s (h p))
 
 -- where an instruction goes on, by the table and by the text
 pub places_to : (m : Mach) (labels : Labels) (p : ℕ) (i : Instr) (next : List Instr) → AreLabelsOf m labels → drop p m.code ≡ i ∷ next →
-    (ts : List Target) → map (place_to labels p) ts ≡ map (λ t. place_of m (code_at m.code next t)) ts
+    (ts : List Target) → map (place_to (place_in labels) p) ts ≡ map (λ t. place_of m (code_at m.code next t)) ts
 places_to m labels p i next are e [] = refl
 places_to m labels p i next are e (t ∷ ts) =
-    ap (λ q. q ∷ map (place_to labels p) ts) (one t)
+    ap (λ q. q ∷ map (place_to (place_in labels) p) ts) (one t)
     ∙ ap (λ qs. place_of m (code_at m.code next t) ∷ qs) (places_to m labels p i next are e ts)
   where
-    one : (t : Target) → place_to labels p t ≡ place_of m (code_at m.code next t)
+    one : (t : Target) → place_to (place_in labels) p t ≡ place_of m (code_at m.code next t)
     one On = sym (place_next m p i next e)
     one (At l) = are.places l
 
@@ -82,7 +74,7 @@ handlers_to m labels are true [] = refl
 handlers_to m labels are true (l ∷ tries) = ap (λ q. q ∷ []) (are.handlers l)
 
 pub edges_made : (m : Mach) (labels : Labels) (p : ℕ) (i : Instr) (tries : List ℕ) (edges : Edges) → AreLabelsOf m labels →
-    contents edges.next ≡ map (place_to labels p) (targets i.op) →
+    contents edges.next ≡ map (place_to (place_in labels) p) (targets i.op) →
     contents edges.aside ≡ handler_places_in labels (may_raise i.op) tries → AreEdgesAt m p i tries edges
 edges_made m labels p i tries edges are e h =
     record {

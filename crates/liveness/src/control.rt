@@ -1,85 +1,23 @@
 //! Where control goes from an instruction.
 ghost use Rattle.std.specs.Prelude.{◌≡◌, ◌<◌, ◌^◌, ℕ, suc, map, [], ◌∷◌, IfOk};
 ghost use Rattle.mach_ir.specs.Acts.{At, goes_on};
-ghost use Rattle.mach_ir.specs.Acts as acts;
+ghost use Rattle.mach_ir.specs.Labels.{place_to, next_place};
 ghost use Rattle.mach_ir.specs.Meaning.{tries_past};
 ghost use Rattle.mach_ir.specs.Walks.{targets};
 ghost use Rattle.mach_ir.specs.Walks as walks;
-ghost use Rattle.liveness.specs.Labels.{place_to, next_place, handler_places_in};
+ghost use Rattle.liveness.specs.Labels.{place_in, handler_places_in};
 
 use crate::backward::Backward;
 use crate::labels::Labels;
-use mach_ir::{Calling, Label, Leaving, MachOp, Mark, Op};
+use mach_ir::{Label, MachOp, Mark, Op};
 use std::alloc::{AllocError, Global};
-
-fn call_goes_on(calling: &Calling) -> bool
-    ensures { result ≡ goes_on (Op.Calling calling.now) }
-{
-    match calling {
-        Calling::Call { .. } => true,
-        Calling::TailCall { .. } => false,
-        Calling::External { .. } => true,
-    }
-}
-
-fn leaving_goes_on(leaving: Leaving) -> bool
-    ensures { result ≡ goes_on (Op.Leaving leaving) }
-{
-    match leaving {
-        Leaving::Checkbound(_) => true,
-        Leaving::Raise => false,
-        Leaving::Return => false,
-    }
-}
-
-fn goes_on(op: &Op) -> bool
-    ensures { result ≡ goes_on op.now }
-{
-    match op {
-        Op::Pure(_) => true,
-        Op::Access(_) => true,
-        Op::Calling(calling) => call_goes_on(calling),
-        Op::Leaving(leaving) => leaving_goes_on(*leaving),
-    }
-}
-
-fn call_may_raise(calling: &Calling) -> bool
-    ensures { result ≡ acts.may_raise (Op.Calling calling.now) }
-{
-    match calling {
-        Calling::Call { .. } => true,
-        Calling::TailCall { .. } => false,
-        Calling::External { row: _, frame } => *frame,
-    }
-}
-
-fn leaving_may_raise(leaving: Leaving) -> bool
-    ensures { result ≡ acts.may_raise (Op.Leaving leaving) }
-{
-    match leaving {
-        Leaving::Checkbound(_) => true,
-        Leaving::Raise => true,
-        Leaving::Return => false,
-    }
-}
-
-fn op_may_raise(op: &Op) -> bool
-    ensures { result ≡ acts.may_raise op.now }
-{
-    match op {
-        Op::Pure(_) => false,
-        Op::Access(_) => false,
-        Op::Calling(calling) => call_may_raise(calling),
-        Op::Leaving(leaving) => leaving_may_raise(*leaving),
-    }
-}
 
 /// Whether it leads to the innermost handler too: a call, a frame call, a raise or a bound test.
 fn may_raise(op: &MachOp) -> bool
     ensures { result ≡ walks.may_raise op.now }
 {
     match op {
-        MachOp::Op(op) => op_may_raise(op),
+        MachOp::Op(op) => op.may_raise(),
         MachOp::Mark(_) => false,
     }
 }
@@ -102,7 +40,7 @@ fn two_places(alloc: Global, first: u32, second: u32) -> Result<Vec<u32>, AllocE
 
 fn places_of_labels(alloc: Global, labels: &Labels, among: &[Label]) -> Result<Vec<u32>, AllocError>
     ensures { IfOk result (λ places. (p : ℕ) →
-        places.items ≡ map (place_to labels.now p) (map At among.now)) }
+        places.items ≡ map (place_to (place_in labels.now) p) (map At among.now)) }
 {
     let mut places = Vec::with_capacity(alloc, among.len())?;
     for label in among {
@@ -115,7 +53,7 @@ fn places_after_op(alloc: Global, op: &Op, place: u32) -> Result<Vec<u32>, Alloc
     requires { suc place < 2 ^ 32 }
     ensures { IfOk result (λ places. places.items ≡ next_place (goes_on op.now) place) }
 {
-    if goes_on(op) {
+    if op.goes_on() {
         one_place(alloc, place + 1)
     } else {
         Ok(Vec::new(alloc))
@@ -130,7 +68,7 @@ fn places_after_mark(
 ) -> Result<Vec<u32>, AllocError>
     requires { suc place < 2 ^ 32 }
     ensures { IfOk result (λ places.
-        places.items ≡ map (place_to labels.now place) (targets (MachOp.Mark mark.now))) }
+        places.items ≡ map (place_to (place_in labels.now) place) (targets (MachOp.Mark mark.now))) }
 {
     match mark {
         Mark::Exit { label, tries: _ } => one_place(alloc, labels.place_of(*label)),
@@ -167,7 +105,7 @@ pub fn places_after(
 ) -> Result<Vec<u32>, AllocError>
     requires { suc place < 2 ^ 32 }
     ensures { IfOk result (λ places.
-        places.items ≡ map (place_to labels.now place) (targets op.now)) }
+        places.items ≡ map (place_to (place_in labels.now) place) (targets op.now)) }
 {
     match op {
         MachOp::Op(op) => places_after_op(alloc, op, place),

@@ -1,7 +1,8 @@
 //! The places of labels and of handlers.
 ghost use Rattle.std.specs.Prelude.{◌≡◌, ◌<◌, ℕ, ◌^◌, suc, cond, length, IfOk};
 ghost use Rattle.mach_ir.specs.Meaning.{has_label, is_handler_of};
-ghost use Rattle.liveness.specs.Labels.{is_that_label, place_in, handler_in, AreLabelsOf};
+ghost use Rattle.mach_ir.specs.Labels.{is_that_label};
+ghost use Rattle.liveness.specs.Labels.{place_in, handler_in, AreLabelsOf};
 
 use mach_ir::{Label, Mach, MachOp, Mark};
 use std::alloc::{AllocError, Global};

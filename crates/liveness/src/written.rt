@@ -5,7 +5,7 @@ ghost use Rattle.mach_ir.specs.Meaning.{Nothing, is_temporary, same_colour, is_a
 ghost use Rattle.mach_laws.specs.Graph.{numbers};
 
 use bs_words::{List, Loc};
-use mach_ir::{Calling, Instr, Mach, MachOp, Mark, Op, Reg};
+use mach_ir::{Instr, Mach, MachOp, Reg};
 use std::alloc::{AllocError, Global};
 
 /// Whether a machine register is a0 to a7 or t3 to t6.
@@ -15,59 +15,15 @@ fn is_temporary(register: u8) -> bool
     (10 <= register && register <= 17) || 28 <= register
 }
 
-fn call_destroys(calling: &Calling, register: u8) -> bool
-    ensures { result
-        ≡ is_destroyed (destroyed_by (MachOp.Op (Op.Calling calling.now))) (Loc.Machine register) }
-{
-    match calling {
-        Calling::Call { .. } => true,
-        Calling::TailCall { .. } => true,
-        Calling::External { .. } => is_temporary(register),
-    }
-}
-
-fn op_destroys(op: &Op, register: u8) -> bool
-    ensures { result ≡ is_destroyed (destroyed_by (MachOp.Op op.now)) (Loc.Machine register) }
-{
-    match op {
-        Op::Pure(_) => false,
-        Op::Access(_) => false,
-        Op::Calling(calling) => call_destroys(calling, register),
-        Op::Leaving(_) => false,
-    }
-}
-
-fn mark_destroys(mark: &Mark, register: u8) -> bool
-    ensures { result ≡ is_destroyed (destroyed_by (MachOp.Mark mark.now)) (Loc.Machine register) }
-{
-    match mark {
-        Mark::Exit { label: _, tries: _ } => false,
-        Mark::If {
-            test: _,
-            otherwise: _,
-        } => false,
-        Mark::Else { label: _, end: _ } => false,
-        Mark::Switch(_) => false,
-        Mark::Case {
-            indexes: _,
-            label: _,
-            end: _,
-        } => false,
-        Mark::Catch => false,
-        Mark::With { label: _, end: _ } => false,
-        Mark::Try { handler: _ } => false,
-        Mark::Leave { handler: _, end: _ } => false,
-        Mark::Handler { label: _ } => true,
-        Mark::End { label: _ } => false,
-    }
-}
-
 fn register_is_destroyed(op: &MachOp, register: u8) -> bool
     ensures { result ≡ is_destroyed (destroyed_by op.now) (Loc.Machine register) }
 {
-    match op {
-        MachOp::Op(op) => op_destroys(op, register),
-        MachOp::Mark(mark) => mark_destroys(mark, register),
+    if op.destroys_everything() {
+        true
+    } else if op.destroys_temporaries() {
+        is_temporary(register)
+    } else {
+        false
     }
 }
 
@@ -113,51 +69,14 @@ pub fn numbers_of(alloc: Global, regs: &[Reg]) -> Result<Vec<u32>, AllocError>
     Ok(found)
 }
 
-fn op_destroys_nothing(op: &Op) -> bool
-    ensures { IsTrue result ↔ (destroyed_by (MachOp.Op op.now) ≡ Nothing) }
-{
-    match op {
-        Op::Pure(_) => true,
-        Op::Access(_) => true,
-        Op::Calling(Calling::Call { .. }) => false,
-        Op::Calling(Calling::TailCall { .. }) => false,
-        Op::Calling(Calling::External { .. }) => false,
-        Op::Leaving(_) => true,
-    }
-}
-
-fn mark_destroys_nothing(mark: &Mark) -> bool
-    ensures { IsTrue result ↔ (destroyed_by (MachOp.Mark mark.now) ≡ Nothing) }
-{
-    match mark {
-        Mark::Exit { label: _, tries: _ } => true,
-        Mark::If {
-            test: _,
-            otherwise: _,
-        } => true,
-        Mark::Else { label: _, end: _ } => true,
-        Mark::Switch(_) => true,
-        Mark::Case {
-            indexes: _,
-            label: _,
-            end: _,
-        } => true,
-        Mark::Catch => true,
-        Mark::With { label: _, end: _ } => true,
-        Mark::Try { handler: _ } => true,
-        Mark::Leave { handler: _, end: _ } => true,
-        Mark::Handler { label: _ } => false,
-        Mark::End { label: _ } => true,
-    }
-}
-
 /// Whether it destroys nothing, as all but calls and the entries of handlers do.
 fn destroys_nothing(op: &MachOp) -> bool
     ensures { IsTrue result ↔ (destroyed_by op.now ≡ Nothing) }
 {
-    match op {
-        MachOp::Op(op) => op_destroys_nothing(op),
-        MachOp::Mark(mark) => mark_destroys_nothing(mark),
+    if op.destroys_everything() {
+        false
+    } else {
+        !op.destroys_temporaries()
     }
 }
 

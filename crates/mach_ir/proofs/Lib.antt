@@ -1,3 +1,4 @@
 pub mod Runs
 pub mod Keeping
 pub mod Sums
+pub mod Labels

@@ -3,6 +3,7 @@ pub mod Acts
 pub mod Runs
 pub mod Meaning
 pub mod Walks
+pub mod Labels
 pub mod Forms
 pub mod Formed
 pub mod Placed

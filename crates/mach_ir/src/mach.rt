@@ -5,7 +5,7 @@
 //! has it first.
 
 use crate::label::Label;
-use crate::op::{Op, Right};
+use crate::op::{Calling, Op, Right};
 use crate::reg::Reg;
 use crate::seq::Seq;
 use bs_words::{CmpOp, Name, Ret};
@@ -80,6 +80,42 @@ pub enum Mark {
 pub enum MachOp {
     Op(Op),
     Mark(Mark),
+}
+
+impl MachOp {
+    ghost use Rattle.std.specs.Prelude.{◌↔◌, ◌≡◌, IsTrue};
+    ghost use Rattle.mach_ir.specs.Meaning.{Everything, Temporaries, destroyed_by};
+
+    /// Whether it destroys every colour: a call or the entry of a handler.
+    pub fn destroys_everything(&self) -> bool
+        ensures { IsTrue result ↔ (destroyed_by self.now ≡ Everything) }
+    {
+        match self {
+            MachOp::Op(Op::Calling(Calling::Call { .. })) => true,
+            MachOp::Op(Op::Calling(Calling::TailCall { .. })) => true,
+            MachOp::Op(Op::Calling(Calling::External { .. })) => false,
+            MachOp::Op(Op::Pure(_)) => false,
+            MachOp::Op(Op::Access(_)) => false,
+            MachOp::Op(Op::Leaving(_)) => false,
+            MachOp::Mark(Mark::Handler { label: _ }) => true,
+            MachOp::Mark(_) => false,
+        }
+    }
+
+    /// Whether it destroys a0 to a7 and t3 to t6 alone: an external call.
+    pub fn destroys_temporaries(&self) -> bool
+        ensures { IsTrue result ↔ (destroyed_by self.now ≡ Temporaries) }
+    {
+        match self {
+            MachOp::Op(Op::Calling(Calling::External { .. })) => true,
+            MachOp::Op(Op::Calling(Calling::Call { .. })) => false,
+            MachOp::Op(Op::Calling(Calling::TailCall { .. })) => false,
+            MachOp::Op(Op::Pure(_)) => false,
+            MachOp::Op(Op::Access(_)) => false,
+            MachOp::Op(Op::Leaving(_)) => false,
+            MachOp::Mark(_) => false,
+        }
+    }
 }
 
 /// An instruction: its operands and results are registers.

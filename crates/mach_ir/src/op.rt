@@ -93,3 +93,82 @@ pub enum Op {
     Calling(Calling),
     Leaving(Leaving),
 }
+
+impl Calling {
+    ghost use Rattle.std.specs.Prelude.{◌≡◌};
+    ghost use Rattle.mach_ir.specs.Acts.{goes_on, may_raise};
+
+    fn goes_on(&self) -> bool
+        ensures { result ≡ goes_on (Op.Calling self.now) }
+    {
+        match self {
+            Calling::Call { .. } => true,
+            Calling::TailCall { .. } => false,
+            Calling::External { .. } => true,
+        }
+    }
+
+    fn may_raise(&self) -> bool
+        ensures { result ≡ may_raise (Op.Calling self.now) }
+    {
+        match self {
+            Calling::Call { .. } => true,
+            Calling::TailCall { .. } => false,
+            Calling::External { row: _, frame } => *frame,
+        }
+    }
+}
+
+impl Leaving {
+    ghost use Rattle.std.specs.Prelude.{◌≡◌};
+    ghost use Rattle.mach_ir.specs.Acts.{goes_on, may_raise};
+
+    fn goes_on(self) -> bool
+        ensures { result ≡ goes_on (Op.Leaving self) }
+    {
+        match self {
+            Leaving::Checkbound(_) => true,
+            Leaving::Raise => false,
+            Leaving::Return => false,
+        }
+    }
+
+    fn may_raise(self) -> bool
+        ensures { result ≡ may_raise (Op.Leaving self) }
+    {
+        match self {
+            Leaving::Checkbound(_) => true,
+            Leaving::Raise => true,
+            Leaving::Return => false,
+        }
+    }
+}
+
+impl Op {
+    ghost use Rattle.std.specs.Prelude.{◌≡◌};
+    ghost use Rattle.mach_ir.specs.Acts.{goes_on, may_raise};
+
+    /// Whether control goes on after it.
+    pub fn goes_on(&self) -> bool
+        ensures { result ≡ goes_on self.now }
+    {
+        match self {
+            Op::Pure(_) => true,
+            Op::Access(_) => true,
+            Op::Calling(calling) => calling.goes_on(),
+            Op::Leaving(leaving) => leaving.goes_on(),
+        }
+    }
+
+    /// Whether it leads to the innermost handler too: a call, a frame call, a raise or a bound test.
+    pub fn may_raise(&self) -> bool
+        ensures { result ≡ may_raise self.now }
+    {
+        match self {
+            Op::Pure(_) => false,
+            Op::Access(_) => false,
+            Op::Calling(calling) => calling.may_raise(),
+            Op::Leaving(leaving) => leaving.may_raise(),
+        }
+    }
+}

@@ -16,7 +16,7 @@ use Rattle.mach_ir.specs.Acts.{On}
 use Rattle.mach_ir.specs.Formed.{WellFormed}
 use Rattle.mach_ir.specs.Graph.{IsLiveMap}
 use Rattle.mach_ir.specs.Meaning.{Everything, destroyed_by, written, code_at}
-use Rattle.mach_ir.specs.Walks.{Among, OneOf, targets, goes, Leads, Live, Writes, Stands, IsRegister, is_in_code}
+use Rattle.mach_ir.specs.Walks.{Among, OneOf, targets, goes, Leads, Live, Writes, Stands, is_in_code}
 use Rattle.mach_ir.specs.Walks as walks
 use Rattle.mach_ir.specs.declared.graph.LiveMap.{LiveMap}
 use Rattle.mach_ir.specs.declared.op.Op.{Op}
@@ -50,7 +50,7 @@ use Rattle.sink.proofs.Running.{get_there, run_to, begin_of, begins_there, run_s
 use Rattle.sink.proofs.Moving.{Moved, moved, moves_at, in_moves, moves_in, moves_rise, pairs_none}
 use Rattle.sink.proofs.Nodes.{at_last}
 use Rattle.sink.proofs.Seeing.{Sees, unseen, once, often, same_sees, InPlaces, all_seen, length_places}
-use Rattle.sink.proofs.Steps.{among_of, in_numbers, destroys_on, place_back, place_within, ending_place, live_small}
+use Rattle.liveness.proofs.Steps.{among_numbers, in_numbers, destroys_on, place_back, place_within, ending_place, live_small}
 
 -- ---- sights
 
@@ -189,7 +189,7 @@ module _ (m : Mach) (formed : WellFormed m) (live : LiveMap) (exact : IsLiveMap 
         l.is_held,
         record {
           live = (exact.exact (place_of m next) n).1 (subst (Live m n) (sym (place_is m (ending_next ending))) l.after);
-          other = λ c. l.unwritten (among_of n (written m i) c);
+          other = λ c. l.unwritten (among_numbers n (written m i) c);
         },
       ) in
       record {

@@ -1,5 +1,6 @@
 -- What the table of registers tells.
 use Rattle.std.proofs.Common.{◌≡◌, ℕ, zero, suc, ◌<◌, Bool, true, false, cond, ◌⊎◌, inl, inr, ⊎_elim, List, [], ◌∷◌, ◌++◌, Some, None, length, replicate, refl, sym, ap, ◌∙◌, subst}
+use Rattle.std.proofs.lemmas.List.Elements.{Contains-append_left, Contains-append_right}
 use Rattle.std.proofs.lemmas.Bool.{cases_Bool, lt-ltb, ltb-true}
 use Rattle.std.specs.List.{Contains}
 use Rattle.std.specs.Prelude.{Option, nat_lt, slice_index_or, slice_set}
@@ -11,9 +12,8 @@ use Rattle.mach_laws.specs.Expand.{Ending, all, more}
 use Rattle.liveness.proofs.Bounds.{split_in}
 use Rattle.bs_words.proofs.Lists.{none_in, first_in, later_in, in_cons}
 use Rattle.sink.specs.Registers.{entered, entered_code}
-use Rattle.sink.proofs.Living.{left_in, right_in}
 use Rattle.sink.proofs.Seeing.{length_set, at_set, off_set, same_or}
-use Rattle.sink.proofs.Steps.{leads_ending, raise_ending}
+use Rattle.liveness.proofs.Steps.{leads_ending, raise_ending}
 
 abbrev at : List (Option Reg) → ℕ → Option Reg
 at t n = slice_index_or t n None
@@ -108,8 +108,8 @@ reads_in [] r c = absurd (none_in r c)
 reads_in (i ∷ is) r c = ⊎_elim (λ a. in_args a) (λ d. further (reads_in is r d)) (split_in i.args (reads is) r c)
 
 in_reads : {i : Instr} {next code : List Instr} (r : Reg) → Ending (i ∷ next) code → Contains i.args r → Contains (reads code) r
-in_reads {i} {next} r all c = left_in i.args (reads next) r c
-in_reads r (more {i = j} {code = code} e) c = right_in j.args (reads code) r (in_reads r e c)
+in_reads {i} {next} r all c = Contains-append_left i.args (reads next) r c
+in_reads r (more {i = j} {code = code} e) c = Contains-append_right j.args (reads code) r (in_reads r e c)
 
 one_of : (n : ℕ) (rs : List Reg) → Among n rs → (r : Reg) × Contains rs r × (r.number ≡ n)
 one_of n (r ∷ rs) (first e) = (r, first_in r rs, e)

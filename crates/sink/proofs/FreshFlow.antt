@@ -11,7 +11,7 @@ use Rattle.dataflow.specs.declared.flow.Flow as flow
 use Rattle.dataflow.specs.declared.flow.Place as place
 use Rattle.mach_ir.specs.Graph.{IsLiveMap}
 use Rattle.mach_ir.specs.Meaning.{Everything, destroyed_by, code_at, written as written_by}
-use Rattle.mach_ir.specs.Walks.{Among, OneOf, targets, goes, Leads, Raises, Live, Writes, Stands}
+use Rattle.mach_ir.specs.Walks.{goes, Leads, Live, Writes}
 use Rattle.mach_ir.specs.Walks as walks
 use Rattle.mach_ir.specs.declared.graph.LiveMap.{LiveMap}
 use Rattle.mach_ir.specs.declared.mach.Instr.{Instr}
@@ -28,7 +28,7 @@ use Rattle.sink.proofs.Held.{held_destroys, held_of, stands_of, ending_of}
 use Rattle.sink.proofs.Graph.{Where, inner, final, beyond, where_is, at, none_past, lead, rise, of, goes_to, rises_to}
 use Rattle.sink.proofs.Living.{decide_in}
 use Rattle.sink.proofs.Nodes.{At, AtEnd, at_last, count}
-use Rattle.sink.proofs.Steps.{each, among_of, in_numbers, destroys_on, ending_place, leads_ending, raise_ending, IsWithin, next_within, aside_within, writes_small, live_small}
+use Rattle.liveness.proofs.Steps.{each, among_numbers, in_numbers, destroys_on, ending_place, leads_ending, raise_ending, IsWithin, next_within, aside_within, writes_small, live_small}
 
 module _ (m : Mach) (live : LiveMap) (exact : IsLiveMap m live) where
   abbrev rows : List (List Bool)
@@ -82,7 +82,7 @@ module _ (m : Mach) (live : LiveMap) (exact : IsLiveMap m live) where
       kept o lt a leads out h =
           let i = a.instr in
           let next = a.next in
-          ⊎_elim (λ w. written (stands_of (ending_place m o a.is)) (among_of n (written_by m i) w) leads)
+          ⊎_elim (λ w. written (stands_of (ending_place m o a.is)) (among_numbers n (written_by m i) w) leads)
           (λ w.
           let unwritten : Writes m i n → ⊥ = λ z. w (in_numbers z) in
           on (subst (Fresh m n) a.is (known o (within o lt) (subst (Live m n) (sym a.is) (walks.on unwritten leads v)) h))
@@ -108,7 +108,7 @@ module _ (m : Mach) (live : LiveMap) (exact : IsLiveMap m live) where
           ⊎_elim
           (λ r.
           written (stands_of (ending_place m o a.is))
-          (among_of n (written_by m a.instr)
+          (among_numbers n (written_by m a.instr)
           (subst (λ xs. Contains xs n) (a.part (λ x. contents x.reads) ∙ (a.is_node).reads) r)) leads)
           (λ r. kept o lt a leads r.0 r.1) h
       by_next o c h (final e) = absurd (end_part (λ x. contents x.next) o p e (last.is_end).next c)

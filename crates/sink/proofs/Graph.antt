@@ -17,7 +17,7 @@ use Rattle.mach_laws.specs.Graph.{place_of, next_places, raise_places}
 use Rattle.mach_laws.proofs.Walking.{ending_at, place_is}
 use Rattle.sink.specs.Graphs.{AreNodes}
 use Rattle.sink.proofs.Nodes.{At, at_place, past}
-use Rattle.sink.proofs.Steps.{target_of, place_back, ending_place, steps_to, Raised, raised_of, raises_to}
+use Rattle.liveness.proofs.Steps.{target_of, place_back, ending_place, steps_to, Raised, raised_of, raises_to}
 
 -- a place is that of an instruction, or the last, or there is none
 pub data Where (end o : ℕ) : Type 0 where

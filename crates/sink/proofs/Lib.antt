@@ -1,5 +1,4 @@
 mod Held
-mod Steps
 mod Living
 mod Nodes
 mod Popping

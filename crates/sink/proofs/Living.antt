@@ -1,5 +1,6 @@
 -- The numbers that are live at a place, one after the other.
 use Rattle.std.proofs.Common.{◌≡◌, ◌↔◌, ℕ, zero, suc, ◌+◌, ◌<◌, ◌≤◌, Bool, true, false, ◌⊎◌, inl, inr, ⊎_elim, List, [], ◌∷◌, ◌++◌, length, sym, ◌∙◌, ap, subst, arith}
+use Rattle.std.proofs.lemmas.List.Elements.{Contains-append_left, Contains-append_right}
 use Rattle.std.proofs.lemmas.Bool.{cases_lt, eq-eqb, eqb-true, cases_Bool}
 use Rattle.std.specs.List.{Contains}
 use Rattle.std.specs.Prelude.{nat_eq}
@@ -9,16 +10,6 @@ use Rattle.liveness.proofs.Bounds.{split_in}
 use Rattle.bs_words.proofs.Lists.{none_in, first_in, later_in, in_cons}
 use Rattle.sink.specs.Graphs.{held, LivesAt, AreLiving, AreOver}
 use Rattle.mach_ir.specs.declared.mach.MachOp.{MachOp}
-
-pub left_in : {A : Type 0} (xs ys : List A) (y : A) → Contains xs y → Contains (xs ++ ys) y
-left_in [] ys y c = absurd (none_in y c)
-left_in (x ∷ xs) ys y c =
-    ⊎_elim (λ e. subst (Contains (x ∷ (xs ++ ys))) e (first_in x (xs ++ ys))) (λ d. later_in x y (xs ++ ys) (left_in xs ys y d))
-    (in_cons x y xs c)
-
-pub right_in : {A : Type 0} (xs ys : List A) (y : A) → Contains ys y → Contains (xs ++ ys) y
-right_in [] ys y c = c
-right_in (x ∷ xs) ys y c = later_in x y (xs ++ ys) (right_in xs ys y c)
 
 pub not_both : (b : Bool) → b ≡ true → b ≡ false → ⊥
 not_both b e h = cc
@@ -89,8 +80,8 @@ module _ (rows : List (List Bool)) (p : ℕ) (except : List ℕ) where
         (split_in found (k ∷ []) n (subst (λ xs. Contains xs n) same c)),
     λ h.
         subst (λ xs. Contains xs n) (sym same)
-        (⊎_elim (λ lt. left_in found (k ∷ []) n ((old n).1 (lt, h.1)))
-        (λ s. right_in found (k ∷ []) n (subst (λ n. Contains (k ∷ []) n) s (first_in k []))) (up_to set from k n e next h.0 h.1)),
+        (⊎_elim (λ lt. Contains-append_left found (k ∷ []) n ((old n).1 (lt, h.1)))
+        (λ s. Contains-append_right found (k ∷ []) n (subst (λ n. Contains (k ∷ []) n) s (first_in k []))) (up_to set from k n e next h.0 h.1)),
   )
 
   pub found_passed : (set : List Bool) (from k : ℕ) (found : List ℕ) → set ≡ row rows p → IsNext set from k → Contains except k →

@@ -12,7 +12,7 @@ use Rattle.sink.specs.Runs.{run_start}
 use Rattle.sink.specs.declared.chosen.Move.{Move}
 use Rattle.sink.specs.declared.sights.Sight.{Sight}
 use Rattle.sink.specs.declared.sights.Sight.TheVariants.{Unseen, Once, Often}
-use Rattle.sink.proofs.Steps.{each}
+use Rattle.liveness.proofs.Steps.{each}
 
 -- ---- lists in order
 

@@ -1,5 +1,6 @@
 -- Straight runs of a function by its places.
 use Rattle.std.proofs.Common.{◌≡◌, ℕ, zero, suc, ◌+◌, ◌-◌, ◌<◌, ◌≤◌, Bool, true, false, cond, not, ◌||◌, ◌⊎◌, inl, inr, ⊎_elim, List, [], ◌∷◌, ◌++◌, Some, None, length, drop, refl, sym, ap, ◌∙◌, subst, arith}
+use Rattle.std.proofs.lemmas.List.Elements.{All-contains}
 use Rattle.std.proofs.lemmas.Bool.{cases_Bool, eq-eqb, eqb-true}
 use Rattle.std.proofs.lemmas.List.{length-append}
 use Rattle.std.specs.List.{All}
@@ -21,7 +22,7 @@ use Rattle.bs_words.proofs.Lists.{in_cons}
 use Rattle.sink.specs.Runs.{some_straight, begins_at, is_among, some_result, run_start}
 use Rattle.sink.proofs.Held.{ending_of, stands_of}
 use Rattle.sink.proofs.Living.{not_both}
-use Rattle.sink.proofs.Steps.{each, member, place_back, ending_place}
+use Rattle.liveness.proofs.Steps.{each, place_back, ending_place}
 
 -- ---- what stands at a place
 
@@ -78,7 +79,7 @@ begins_inside code (suc p) e = omega arith
 
 all_cons : {A : Type 0} (P : A → Type 0) (x : A) (xs : List A) → P x → All P xs → All P (x ∷ xs)
 all_cons P x xs h others =
-    each P (x ∷ xs) (λ y c. ⊎_elim (λ e. subst P e h) (λ d. member P xs y others d) (in_cons x y xs c))
+    each P (x ∷ xs) (λ y c. ⊎_elim (λ e. subst P e h) (λ d. All-contains P xs y others d) (in_cons x y xs c))
 
 all_first : {A : Type 0} (P : A → Type 0) (x : A) (xs : List A) → All P (x ∷ xs) → P x
 all_first P x xs h = h 0 x (omega arith)

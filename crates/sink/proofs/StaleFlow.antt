@@ -11,7 +11,7 @@ use Rattle.dataflow.specs.declared.flow.Flow as flow
 use Rattle.dataflow.specs.declared.flow.Place as place
 use Rattle.mach_ir.specs.Graph.{IsLiveMap}
 use Rattle.mach_ir.specs.Meaning.{Everything, destroyed_by, code_at, written}
-use Rattle.mach_ir.specs.Walks.{Among, OneOf, targets, goes, Leads, Raises, Live, Writes, Stands}
+use Rattle.mach_ir.specs.Walks.{Among, goes, Leads, Live, Writes}
 use Rattle.mach_ir.specs.Walks as walks
 use Rattle.mach_ir.specs.declared.graph.LiveMap.{LiveMap}
 use Rattle.mach_ir.specs.declared.mach.Instr.{Instr}
@@ -27,7 +27,7 @@ use Rattle.sink.specs.Tables.{AreStale}
 use Rattle.sink.proofs.Held.{held_destroys, held_of, stands_of, ending_of}
 use Rattle.sink.proofs.Graph.{Where, inner, final, beyond, where_is, at, none_past, lead, rise, of, goes_to, rises_to}
 use Rattle.sink.proofs.Nodes.{At, AtEnd, at_last, count}
-use Rattle.sink.proofs.Steps.{each, among_of, in_numbers, destroys_on, place_back, ending_place, leads_ending, raise_ending, IsWithin, next_within, aside_within, writes_small, live_small}
+use Rattle.liveness.proofs.Steps.{each, among_numbers, in_numbers, destroys_on, place_back, ending_place, leads_ending, raise_ending, IsWithin, next_within, aside_within, writes_small, live_small}
 
 module _ (m : Mach) (live : LiveMap) (exact : IsLiveMap m live) where
   abbrev rows : List (List Bool)
@@ -157,7 +157,7 @@ module _ (m : Mach) (live : LiveMap) (exact : IsLiveMap m live) where
                 (((last.is_end).reads n).1
                 (record {
                   live = (exact.exact 0 n).1 (subst (Live m n) (sym (drop_none m.code)) v);
-                  other = λ c. a (among_of n m.params c);
+                  other = λ c. a (among_numbers n m.params c);
                 }))),
           ),
         )
@@ -176,7 +176,7 @@ module _ (m : Mach) (live : LiveMap) (exact : IsLiveMap m live) where
           is_held d l,
           record {
             live = (exact.exact (place_of m next) n).1 (subst (Live m n) (sym (place_is m (ending_next ending))) after);
-            other = λ c. w (among_of n (written m i) c);
+            other = λ c. w (among_numbers n (written m i) c);
           },
         ) in (
           1,
@@ -195,7 +195,7 @@ module _ (m : Mach) (live : LiveMap) (exact : IsLiveMap m live) where
             o,
             goes_to m E N next_of aside_of f nodes p x l le e,
             inr (
-              λ c. w (among_of n (written m i) (subst (λ xs. Contains xs n) (x.part (λ x. contents x.writes) ∙ (x.is_node).writes) c)),
+              λ c. w (among_numbers n (written m i) (subst (λ xs. Contains xs n) (x.part (λ x. contents x.writes) ∙ (x.is_node).writes) c)),
               b.1,
             ),
           ),

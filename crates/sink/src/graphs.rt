@@ -11,60 +11,20 @@ use liveness::Backward;
 use mach_ir::{Calling, LiveMap, Mach, MachOp, Mark, Op, Reg};
 use std::alloc::{AllocError, Global};
 
-fn call_is_held(calling: &Calling) -> bool
-    ensures { result ≡ held (MachOp.Op (Op.Calling calling.now)) }
-{
-    match calling {
-        Calling::Call { .. } => true,
-        Calling::TailCall { .. } => false,
-        Calling::External { .. } => false,
-    }
-}
-
-fn op_is_held(op: &Op) -> bool
-    ensures { result ≡ held (MachOp.Op op.now) }
-{
-    match op {
-        Op::Pure(_) => false,
-        Op::Access(_) => false,
-        Op::Calling(calling) => call_is_held(calling),
-        Op::Leaving(_) => false,
-    }
-}
-
-fn mark_is_held(mark: &Mark) -> bool
-    ensures { result ≡ held (MachOp.Mark mark.now) }
-{
-    match mark {
-        Mark::Exit { label: _, tries: _ } => false,
-        Mark::If {
-            test: _,
-            otherwise: _,
-        } => false,
-        Mark::Else { label: _, end: _ } => false,
-        Mark::Switch(_) => false,
-        Mark::Case {
-            indexes: _,
-            label: _,
-            end: _,
-        } => false,
-        Mark::Catch => false,
-        Mark::With { label: _, end: _ } => false,
-        Mark::Try { handler: _ } => false,
-        Mark::Leave { handler: _, end: _ } => false,
-        Mark::Handler { label: _ } => true,
-        Mark::End { label: _ } => false,
-    }
-}
-
 /// Whether a register may live over it and is to stand in a slot then: a call that returns, or the entry
 /// of a handler.
 pub fn is_held(op: &MachOp) -> bool
     ensures { result ≡ held op.now }
 {
     match op {
-        MachOp::Op(op) => op_is_held(op),
-        MachOp::Mark(mark) => mark_is_held(mark),
+        MachOp::Op(Op::Calling(Calling::Call { .. })) => true,
+        MachOp::Op(Op::Calling(Calling::TailCall { .. })) => false,
+        MachOp::Op(Op::Calling(Calling::External { .. })) => false,
+        MachOp::Op(Op::Pure(_)) => false,
+        MachOp::Op(Op::Access(_)) => false,
+        MachOp::Op(Op::Leaving(_)) => false,
+        MachOp::Mark(Mark::Handler { label: _ }) => true,
+        MachOp::Mark(_) => false,
     }
 }
 

@@ -30,7 +30,7 @@ use Rattle.spill.specs.Graphs.{reloaded_among}
 use Rattle.spill.specs.Tables.{Wanted, here, on, aside, AreTables}
 use Rattle.spill.specs.declared.tables.Tables.{Tables}
 use Rattle.spill.proofs.Making.{not_both}
-use Rattle.spill.proofs.Steps.{among_of, in_numbers, place_within, Steps, steps_of, steps_to, leads_ending}
+use Rattle.liveness.proofs.Steps.{among_numbers, in_numbers, place_within, Steps, steps_of, steps_to, leads_ending}
 use Rattle.spill.proofs.WantedFlow.{both, in_reloaded, reloaded_in, reloaded_here, here_reloaded}
 
 -- ---- tests on lists
@@ -191,7 +191,7 @@ module _ (m : Mach) (t : Tables) (are : AreTables m t) (formed : WellFormed m) w
       let next = x.next in
       let ending = ending_of x.stands in
       let t = both (is_in n (numbers (written m i))) (some_has wanted n (next_places m (i ∷ next))) x.tested in
-      let w : Writes m i n = among_of n (written m i) (in_contains n (numbers (written m i)) t.0) in
+      let w : Writes m i n = among_numbers n (written m i) (in_contains n (numbers (written m i)) t.0) in
       let q = has_some wanted n (next_places m (i ∷ next)) t.1 in
       let at : drop (place_of m (i ∷ next)) m.code ≡ i ∷ next = place_is m ending in
       let s = steps_of m (place_of m (i ∷ next)) q.0 (i ∷ next) at q.1 in

@@ -1,6 +1,5 @@
 mod Making
 mod Copying
-mod Steps
 mod LostFlow
 mod WantedFlow
 mod Loops

@@ -1,5 +1,6 @@
 -- What reaches a place in the graph of lost registers is what is lost there.
 use Rattle.std.proofs.Common.{◌≡◌, ℕ, zero, suc, ◌<◌, ◌≤◌, Bool, ◌⊎◌, inl, inr, ⊎_elim, List, [], ◌∷◌, ◌++◌, map, length, drop, refl, sym, ap, ◌∙◌, subst, arith}
+use Rattle.std.proofs.lemmas.List.Elements.{Contains-append_left, Contains-append_right, All-contains}
 use Rattle.std.specs.List.{All, Contains}
 use Rattle.std.specs.Prelude.{slice_index_or}
 use Rattle.bs_words.specs.Contents.{contents}
@@ -24,8 +25,7 @@ use Rattle.liveness.proofs.Bounds.{no_items, split_in}
 use Rattle.spill_rules.specs.Chosen.{lives, Lost, over, still}
 use Rattle.spill.specs.Graphs.{IsMadeBefore, IsLostNode, AreLostNodes, at_end, before}
 use Rattle.spill.specs.Tables.{AreLost}
-use Rattle.spill.proofs.Making.{left_in, right_in}
-use Rattle.spill.proofs.Steps.{member, each, among_of, in_numbers, destroys_on, place_back, place_within, ending_place, Steps, steps_of, steps_to, leads_ending, IsWithin, next_within, reads_small, writes_small, live_small}
+use Rattle.liveness.proofs.Steps.{each, among_numbers, in_numbers, destroys_on, place_back, place_within, ending_place, Steps, steps_of, steps_to, leads_ending, IsWithin, next_within, reads_small, writes_small, live_small}
 
 module _ (m : Mach) (live : LiveMap) (exact : IsLiveMap m live) (old : flow.Flow) (is : IsFlowOf m old) (formed : flows.WellFormed old) where
   abbrev rows : List (List Bool)
@@ -117,8 +117,8 @@ module _ (m : Mach) (live : LiveMap) (exact : IsLiveMap m live) (old : flow.Flow
         a.part (λ x. contents x.writes) ∙ (a.is_node).writes ∙ ap (λ rest. numbers_read rest ++ numbers_written m rest) s.is in
         let out : Contains (numbers i.args ++ numbers (written m i)) n → ⊥ = λ c. w (subst (λ xs. Contains xs n) (sym ends) c) in
         subst (Lost m n) (sym s.to)
-        (still (subst (Lost m n) s.is h) (λ z. out (left_in (numbers i.args) (numbers (written m i)) n (in_numbers z)))
-        (λ z. out (right_in (numbers i.args) (numbers (written m i)) n (in_numbers z))) (goes s.target s.one))
+        (still (subst (Lost m n) s.is h) (λ z. out (Contains-append_left (numbers i.args) (numbers (written m i)) n (in_numbers z)))
+        (λ z. out (Contains-append_right (numbers i.args) (numbers (written m i)) n (in_numbers z))) (goes s.target s.one))
 
     stepped : (k n o p : ℕ) → ((q : ℕ) → q ≤ length m.code → ComesIn g n k q → Lost m n (drop q m.code)) → Contains (g.next o) p →
         Contains (g.reads o) n ⊎ ((Contains (g.writes o) n → ⊥) × ComesIn g n k o) → Lost m n (drop p m.code)
@@ -163,7 +163,7 @@ module _ (m : Mach) (live : LiveMap) (exact : IsLiveMap m live) (old : flow.Flow
             live_small m old is formed after (ending_next ending),
             record {
               live = (exact.exact (place_of m next) n).1 (subst (Live m n) (sym (place_is m (ending_next ending))) after);
-              unwritten = λ c. w (among_of n (written m i) c);
+              unwritten = λ c. w (among_numbers n (written m i) c);
             },
           ),
         ) in (
@@ -188,7 +188,7 @@ module _ (m : Mach) (live : LiveMap) (exact : IsLiveMap m live) (old : flow.Flow
             goes_to p ending l le e,
             inr (
               λ c.
-                  ⊎_elim (λ z. r (among_of n i.args z)) (λ z. w (among_of n (written m i) z))
+                  ⊎_elim (λ z. r (among_numbers n i.args z)) (λ z. w (among_numbers n (written m i) z))
                   (split_in (numbers i.args) (numbers (written m i)) n (subst (λ xs. Contains xs n) ends c)),
               b.1,
             ),
@@ -229,8 +229,8 @@ module _ (m : Mach) (live : LiveMap) (exact : IsLiveMap m live) (old : flow.Flow
                   (subst (All (λ r. r < old.bound)) (sym n.writes)
                   (each (λ r. r < old.bound) (numbers_read (drop k m.code) ++ numbers_written m (drop k m.code))
                   (λ r c.
-                  ⊎_elim (member (λ r. r < old.bound) (numbers_read (drop k m.code)) r (reads_small m old is formed k))
-                  (member (λ r. r < old.bound) (numbers_written m (drop k m.code)) r (writes_small m old is formed k))
+                  ⊎_elim (All-contains (λ r. r < old.bound) (numbers_read (drop k m.code)) r (reads_small m old is formed k))
+                  (All-contains (λ r. r < old.bound) (numbers_written m (drop k m.code)) r (writes_small m old is formed k))
                   (split_in (numbers_read (drop k m.code)) (numbers_written m (drop k m.code)) r c))));
             }
           where

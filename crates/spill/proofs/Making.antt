@@ -1,5 +1,6 @@
 -- The numbers that live over an instruction, one after the other.
 use Rattle.std.proofs.Common.{◌≡◌, ℕ, ◌+◌, ◌<◌, Bool, true, false, ◌⊎◌, inl, inr, ⊎_elim, List, [], ◌∷◌, ◌++◌, sym, subst, arith}
+use Rattle.std.proofs.lemmas.List.Elements.{Contains-append_left, Contains-append_right}
 use Rattle.std.proofs.lemmas.Bool.{cases_lt}
 use Rattle.std.specs.List.{Contains}
 use Rattle.liveness.proofs.Bounds.{split_in}
@@ -7,16 +8,6 @@ use Rattle.mach_ir.specs.Meaning.{Everything, destroyed_by}
 use Rattle.mach_ir.specs.declared.mach.MachOp.{MachOp}
 use Rattle.bs_words.proofs.Lists.{none_in, first_in, later_in, in_cons}
 use Rattle.spill.specs.Graphs.{LivesAt, AreLivingOver, AreMade}
-
-pub left_in : {A : Type 0} (xs ys : List A) (y : A) → Contains xs y → Contains (xs ++ ys) y
-left_in [] ys y c = absurd (none_in y c)
-left_in (x ∷ xs) ys y c =
-    ⊎_elim (λ e. subst (Contains (x ∷ (xs ++ ys))) e (first_in x (xs ++ ys))) (λ d. later_in x y (xs ++ ys) (left_in xs ys y d))
-    (in_cons x y xs c)
-
-pub right_in : {A : Type 0} (xs ys : List A) (y : A) → Contains ys y → Contains (xs ++ ys) y
-right_in [] ys y c = c
-right_in (x ∷ xs) ys y c = later_in x y (xs ++ ys) (right_in xs ys y c)
 
 pub not_both : (b : Bool) → b ≡ true → b ≡ false → ⊥
 not_both b e h = cc
@@ -46,8 +37,8 @@ module _ (rows : List (List Bool)) (after : ℕ) (written : List ℕ) where
         (split_in found (k ∷ []) n (subst (λ xs. Contains xs n) e c)),
     λ h.
         subst (λ xs. Contains xs n) (sym e)
-        (⊎_elim (λ lt. left_in found (k ∷ []) n ((old n).1 (lt, h.1)))
-        (λ s. right_in found (k ∷ []) n (subst (λ n. Contains (k ∷ []) n) (sym s) (first_in k []))) (below_or n k h.0)),
+        (⊎_elim (λ lt. Contains-append_left found (k ∷ []) n ((old n).1 (lt, h.1)))
+        (λ s. Contains-append_right found (k ∷ []) n (subst (λ n. Contains (k ∷ []) n) (sym s) (first_in k []))) (below_or n k h.0)),
   )
 
   pub over_passed : (k : ℕ) (found : List ℕ) → AreLivingOver rows after k written found → (LivesAt rows after written k → ⊥) →

@@ -1,5 +1,6 @@
 -- What is live in the graph of wanted registers is what is wanted.
 use Rattle.std.proofs.Common.{◌≡◌, ℕ, zero, suc, ◌<◌, Bool, true, false, cond, ◌&&◌, inl, inr, ⊎_elim, List, [], ◌∷◌, length, drop, refl, sym, ap, ◌∙◌, subst, arith}
+use Rattle.std.proofs.lemmas.List.Elements.{All-contains}
 use Rattle.std.specs.List.{All, Contains}
 use Rattle.bs_bits.specs.Set.{has}
 use Rattle.bs_words.specs.Contents.{contents}
@@ -27,7 +28,7 @@ use Rattle.liveness.proofs.Graph.{count_is, part_is, nodes_within}
 use Rattle.spill_rules.specs.Chosen.{Lost, IsReloaded}
 use Rattle.spill.specs.Graphs.{reloaded_among, reloaded_before, wanted_uses}
 use Rattle.spill.specs.Tables.{is_open, Wanted, here, on, aside, AreLost, AreWanted}
-use Rattle.spill.proofs.Steps.{member, each, among_of, in_numbers, place_within, ending_place, Steps, steps_of, steps_to, Raised, raised_of, raises_to, leads_ending, raise_ending, reads_small, writes_small}
+use Rattle.liveness.proofs.Steps.{each, among_numbers, in_numbers, place_within, ending_place, Steps, steps_of, steps_to, Raised, raised_of, raises_to, leads_ending, raise_ending, reads_small, writes_small}
 
 -- ---- operands that are reloaded
 
@@ -180,7 +181,7 @@ module _ (m : Mach) (lost : List (List Bool)) (are : AreLost m lost) (old : flow
       let h = wanted_to v (place_of m to) (place_is m (leads_ending m (ending_place m p e) l)) in (
         suc h.0,
         inl (
-          λ c. w (among_of n (written m i) (subst (λ xs. Contains xs n) (writes_at p ∙ ap (numbers_written m) e) c)),
+          λ c. w (among_numbers n (written m i) (subst (λ xs. Contains xs n) (writes_at p ∙ ap (numbers_written m) e) c)),
           (
             place_of m to,
             subst (λ xs. Contains xs (place_of m to)) (sym (next_at p ∙ ap (next_places m) e)) (steps_to m l),
@@ -215,7 +216,7 @@ module _ (m : Mach) (lost : List (List Bool)) (are : AreLost m lost) (old : flow
       each (λ n. n < old.bound) (reloaded_among lost (place_of m (i ∷ next)) i.args)
       (λ n c.
       let x = in_reloaded lost (place_of m (i ∷ next)) n i.args c in
-      member (λ n. n < old.bound) (numbers i.args) n h
+      All-contains (λ n. n < old.bound) (numbers i.args) n h
       (subst (Contains (numbers i.args)) x.number (in_numbers (among_of x.register i.args x.operand))))
 
   pub wanted_formed : flows.WellFormed f

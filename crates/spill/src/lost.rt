@@ -1,8 +1,7 @@
 //! Which registers are lost before each place.
-ghost use Rattle.std.specs.Prelude.{◌↔◌, ◌≡◌, IsTrue, IfOk};
+ghost use Rattle.std.specs.Prelude.{◌↔◌, IsTrue, IfOk};
 ghost use Rattle.dataflow.specs.Flow.{WellFormed};
 ghost use Rattle.mach_ir.specs.Graph.{IsLiveMap};
-ghost use Rattle.mach_ir.specs.Meaning.{Everything, destroyed_by};
 ghost use Rattle.mach_laws.specs.Graph.{IsFlowOf};
 ghost use Rattle.spill.specs.Graphs.{LivesAt, AreLivingOver, AreMade, IsLostPlace, AreLostNodes};
 ghost use Rattle.spill.specs.Tables.{AreLost};
@@ -12,64 +11,8 @@ use crate::places::bare_place;
 use bs_words::List;
 use dataflow::{Flow, Place, Rows, reaching};
 use liveness::Backward;
-use mach_ir::{Calling, LiveMap, Mach, MachOp, Mark, Op};
+use mach_ir::{LiveMap, Mach, MachOp};
 use std::alloc::{AllocError, Global};
-
-fn call_destroys_all(calling: &Calling) -> bool
-    ensures { IsTrue result ↔ (destroyed_by (MachOp.Op (Op.Calling calling.now)) ≡ Everything) }
-{
-    match calling {
-        Calling::Call { .. } => true,
-        Calling::TailCall { .. } => true,
-        Calling::External { .. } => false,
-    }
-}
-
-fn op_destroys_all(op: &Op) -> bool
-    ensures { IsTrue result ↔ (destroyed_by (MachOp.Op op.now) ≡ Everything) }
-{
-    match op {
-        Op::Pure(_) => false,
-        Op::Access(_) => false,
-        Op::Calling(calling) => call_destroys_all(calling),
-        Op::Leaving(_) => false,
-    }
-}
-
-fn mark_destroys_all(mark: &Mark) -> bool
-    ensures { IsTrue result ↔ (destroyed_by (MachOp.Mark mark.now) ≡ Everything) }
-{
-    match mark {
-        Mark::Exit { label: _, tries: _ } => false,
-        Mark::If {
-            test: _,
-            otherwise: _,
-        } => false,
-        Mark::Else { label: _, end: _ } => false,
-        Mark::Switch(_) => false,
-        Mark::Case {
-            indexes: _,
-            label: _,
-            end: _,
-        } => false,
-        Mark::Catch => false,
-        Mark::With { label: _, end: _ } => false,
-        Mark::Try { handler: _ } => false,
-        Mark::Leave { handler: _, end: _ } => false,
-        Mark::Handler { label: _ } => true,
-        Mark::End { label: _ } => false,
-    }
-}
-
-/// Whether it destroys every colour: a call or the entry of a handler.
-fn destroys_all(op: &MachOp) -> bool
-    ensures { IsTrue result ↔ (destroyed_by op.now ≡ Everything) }
-{
-    match op {
-        MachOp::Op(op) => op_destroys_all(op),
-        MachOp::Mark(mark) => mark_destroys_all(mark),
-    }
-}
 
 /// Whether the number is live at the place after an instruction which writes others.
 fn lives_over(live: &LiveMap, after: usize, written: &[u32], number: u32) -> bool
@@ -110,7 +53,7 @@ fn made_at(
     ensures { IfOk result (λ found.
         AreMade live.now.before.rows.items after bound written.now op.now found.items) }
 {
-    if destroys_all(op) {
+    if op.destroys_everything() {
         let found = living_over(alloc, live, after, bound, written)?;
         Ok(found)
     } else {

@@ -1,12 +1,12 @@
 -- Places of a function and where they lead, as lists of numbers.
 use Rattle.std.proofs.Common.{◌≡◌, ℕ, zero, suc, ◌-◌, ◌<◌, ◌≤◌, Bool, true, false, ⊎_elim, List, [], ◌∷◌, map, length, drop, refl, sym, ap, ◌∙◌, subst, arith}
 use Rattle.std.proofs.lemmas.List.{length-drop}
-use Rattle.std.proofs.lemmas.List.Elements.{Contains-get_or}
+use Rattle.std.proofs.lemmas.List.Elements.{All-contains, Contains-get_or}
 use Rattle.std.specs.List.{All, Contains}
 use Rattle.std.specs.Prelude.{slice_index_or}
 use Rattle.bs_words.specs.Contents.{contents}
 use Rattle.bs_words.proofs.Lists.{none_in, first_in, later_in, in_cons}
-use Rattle.dataflow.specs.Flow.{Graph, graph, IsPlace}
+use Rattle.dataflow.specs.Flow.{IsPlace}
 use Rattle.dataflow.specs.Flow as flows
 use Rattle.dataflow.specs.declared.flow.Flow as flow
 use Rattle.dataflow.specs.declared.flow.Place as place
@@ -25,17 +25,14 @@ use Rattle.mach_laws.proofs.Places.{ending_from_handler}
 use Rattle.mach_laws.proofs.Walking.{ending_at, place_is, ending_drop}
 use Rattle.liveness.proofs.Bounds.{no_items}
 
-pub member : {A : Type 0} (P : A → Type 0) (xs : List A) (y : A) → All P xs → Contains xs y → P y
-member P xs y h c = subst P c.2 (h c.0 y c.1)
-
 pub each : {A : Type 0} (P : A → Type 0) (xs : List A) → ((y : A) → Contains xs y → P y) → All P xs
 each P xs h = λ k d lt. h (slice_index_or xs k d) (Contains-get_or xs k d lt)
 
 -- ---- numbers of registers
 
-pub among_of : (n : ℕ) (rs : List Reg) → Contains (numbers rs) n → Among n rs
-among_of n [] c = absurd (none_in n c)
-among_of n (r ∷ rs) c = ⊎_elim (λ e. first e) (λ d. later (among_of n rs d)) (in_cons r.number n (numbers rs) c)
+pub among_numbers : (n : ℕ) (rs : List Reg) → Contains (numbers rs) n → Among n rs
+among_numbers n [] c = absurd (none_in n c)
+among_numbers n (r ∷ rs) c = ⊎_elim (λ e. first e) (λ d. later (among_numbers n rs d)) (in_cons r.number n (numbers rs) c)
 
 pub in_numbers : {n : ℕ} {rs : List Reg} → Among n rs → Contains (numbers rs) n
 in_numbers {n} (first {r = r} {rs = rs} e) = subst (Contains (r.number ∷ numbers rs)) e (first_in r.number (numbers rs))
@@ -81,7 +78,7 @@ module _ (m : Mach) where
   pub ending_place : (p : ℕ) {rest : List Instr} → drop p m.code ≡ rest → Ending rest m.code
   ending_place p e = subst (λ rest. Ending rest m.code) e (ending_drop p m.code)
 
-  target_of : (next : List Instr) (ts : List Target) (q : ℕ) → Contains (map (λ t. place_of m (code_at m.code next t)) ts) q →
+  pub target_of : (next : List Instr) (ts : List Target) (q : ℕ) → Contains (map (λ t. place_of m (code_at m.code next t)) ts) q →
       (t : Target) × OneOf t ts × (place_of m (code_at m.code next t) ≡ q)
   target_of next [] q c = absurd (none_in q c)
   target_of next (t ∷ ts) q c =
@@ -210,6 +207,6 @@ module _ (m : Mach) where
     pub live_small : {n : ℕ} {rest : List Instr} → Live m n rest → Ending rest m.code → n < f.bound
     live_small {n} (read {i = i} {next = next} a) e =
         let p = place_of m (i ∷ next) in
-        member (λ n. n < f.bound) (numbers i.args) n (subst (λ rest. IsSmall (numbers_read rest)) (place_is m e) (reads_small p)) (in_numbers a)
+        All-contains (λ n. n < f.bound) (numbers i.args) n (subst (λ rest. IsSmall (numbers_read rest)) (place_is m e) (reads_small p)) (in_numbers a)
     live_small (on w l v) e = live_small v (leads_ending e l)
     live_small (aside r v) e = live_small v (raise_ending r)
