@@ -22,7 +22,6 @@ use Rattle.accepted_files.specs.Given.{IsGiven, AreGiven, HasGivenData}
 use Rattle.accepted_files.proofs.Differ.{names, names_append, data_names, item_names}
 use Rattle.accepted_files.proofs.Files.{read_of, lists_fine}
 use Rattle.accepted_files.proofs.Spelled.{IsFine, AreFine, items_named}
-use Rattle.cmm_grammar.specs.Spelling.{nesting}
 use Rattle.selection_accepted.proofs.Beginning.{read_bytes}
 
 -- ---- definitions have the names of the symbols

@@ -17,7 +17,7 @@ use Rattle.cmm_tree.specs.Tree.{Expression, Float, ItemTree}
 use Rattle.cmm_tree.specs.Tree as tree
 use Rattle.cmm_grammar.specs.declared.word.DataWord.{DataWord}
 use Rattle.cmm_grammar.specs.declared.word.DataWord.TheVariants as item
-use Rattle.cmm_grammar.specs.Parts.{BindingPart, CasePart, HandlerPart, expressions, bindings, cases, handlers, sequence}
+use Rattle.cmm_grammar.specs.Parts.{BindingPart, CasePart, HandlerPart, expressions, bindings, cases, handlers}
 use Rattle.cmm_grammar.specs.Words.{is_integer, is_string, is_symbol_token, passing, marked, val_of, data_word_of, data_keyword}
 use Rattle.cmm_grammar.specs.Rule.{AnExpression, ABinding, ACase, AHandler}
 use Rattle.cmm_grammar.specs.Grammar.{a_token, a_data_integer, datum_of}

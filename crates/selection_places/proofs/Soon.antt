@@ -7,7 +7,7 @@ use Rattle.bs_words.specs.declared.types.Loc.TheVariants as loc
 use Rattle.cmm_types.proofs.Containing.{contains_head, contains_tail}
 use Rattle.mach_ir.specs.Acts.{On, At}
 use Rattle.mach_ir.specs.Meaning.{Destroyed, Nothing, Temporaries, Everything, is_destroyed, same_colour, is_at_one_of, killed_among, killed_by, killed, destroyed_by, has_label, is_handler_of, after_label, from_handler}
-use Rattle.mach_ir.specs.Walks.{Among, first, later, Leads, goes, raises, Live, read, on, aside, LiveAfter, after_step, Writes, InCode, in_args, in_results, further, IsRegister, is_colour, is_in_code, Stands, here, below}
+use Rattle.mach_ir.specs.Walks.{Among, first, later, Leads, goes, raises, Live, read, on, aside, LiveAfter, after_step, Writes, IsRegister, is_colour, is_in_code, Stands}
 use Rattle.mach_ir.specs.declared.mach.Instr.{Instr}
 use Rattle.mach_ir.specs.declared.mach.Mach.{Mach}
 use Rattle.mach_ir.specs.declared.mach.MachOp.{MachOp}

@@ -1,5 +1,5 @@
 -- After a label of selected code comes what its one mark has after it.
-use Rattle.std.proofs.Common.{◌≡◌, ℕ, true, cond, ◌⊎◌, ⊎_elim, List, ◌∷◌, ap, ◌∙◌}
+use Rattle.std.proofs.Common.{◌≡◌, ℕ, true, cond, ⊎_elim, List, ◌∷◌, ap, ◌∙◌}
 use Rattle.std.proofs.lemmas.Bool.{cases_Bool, or_left, or_right, or_parts}
 use Rattle.cmm_tree.specs.Tree.{FunctionTree}
 use Rattle.mach_ir.specs.declared.mach.Instr.{Instr}

@@ -2,7 +2,7 @@
 use Rattle.std.proofs.Common.{ℕ, ◌≤◌, List, [], ◌∷◌, Ok, arith}
 use Rattle.cmm_lex.specs.Token.{TokenTree}
 use Rattle.cmm_tree.specs.Tree.{Expression, FunctionTree, ItemTree, functions_among}
-use Rattle.cmm_grammar.specs.Parts.{BindingPart, CasePart, HandlerPart, expressions, bindings, cases, handlers, sequence}
+use Rattle.cmm_grammar.specs.Parts.{BindingPart, CasePart, HandlerPart, expressions, bindings, cases, handlers}
 use Rattle.cmm_grammar.specs.Rule.{AnExpression, ABinding, ACase, AHandler}
 use Rattle.cmm_grammar.specs.Spelling.{AreItems}
 use Rattle.std.specs.Prelude.{Contains}
