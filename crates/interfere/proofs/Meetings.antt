@@ -10,9 +10,9 @@ use Rattle.dataflow.specs.Rows.{row}
 use Rattle.mach_ir.specs.Acts.{Target}
 use Rattle.mach_ir.specs.Graph.{IsLiveMap}
 use Rattle.mach_ir.specs.Meaning.{code_at, killed, written}
-use Rattle.mach_ir.specs.Walks.{Among, first, later, OneOf, this, other, targets, Leads, goes, raises, Writes, Live}
+use Rattle.mach_ir.specs.Walks.{Among, first, later, OneOf, this, other, targets, goes, raises, Writes, Live}
 use Rattle.mach_ir.specs.Walks.{read, on, aside, LiveAfter, after_step, InCode, in_args, in_results, further}
-use Rattle.mach_ir.specs.Walks.{IsRegister, is_param, is_colour, is_in_code, Stands, here, below, IsMove, is_move}
+use Rattle.mach_ir.specs.Walks.{IsRegister, is_colour, is_in_code, Stands, here, below, IsMove, is_move}
 use Rattle.mach_ir.specs.Walks.{Meets, at_write, at_params, Joined}
 use Rattle.mach_ir.specs.Walks as walks
 use Rattle.mach_ir.specs.declared.graph.LiveMap.{LiveMap}
@@ -30,7 +30,8 @@ use Rattle.mach_laws.proofs.Places.{ending_from_handler}
 use Rattle.mach_laws.proofs.Walking.{place_is, ending_at, ending_drop}
 use Rattle.liveness.proofs.Bounds.{split_in, killed_is_colour}
 use Rattle.bs_words.proofs.Lists.{none_in, first_in, later_in, in_cons}
-use Rattle.interfere.specs.Moves.{is_move_op, is_move_pure, is_move_kind, move_between, move_of, is_from_to}
+use Rattle.interfere.specs.Moves.{move_between, move_of, is_from_to}
+use Rattle.liveness.proofs.Steps.{among_of, in_numbers}
 use Rattle.interfere.specs.Moves as moves
 use Rattle.interfere.specs.Pairs.{Table, Has, EitherWay, one_way, other_way, Adds, ForOne, MeetsSet, MeetsPlaces}
 use Rattle.interfere.specs.declared.moves.Move.{Move}
@@ -100,14 +101,6 @@ told_no_move : (i : Instr) (k n : ℕ) → is_from_to (move_of i) k n ≡ false 
 told_no_move i k n e move = let h = move_told move in absurd (cc)
 
 -- ---- members of lists
-
-pub among_of : (n : ℕ) (rs : List Reg) → Contains (numbers rs) n → Among n rs
-among_of n [] c = absurd (none_in n c)
-among_of n (r ∷ rs) c = ⊎_elim (λ e. first e) (λ d. later (among_of n rs d)) (in_cons r.number n (numbers rs) c)
-
-pub in_numbers : {n : ℕ} {rs : List Reg} → Among n rs → Contains (numbers rs) n
-in_numbers {n} (first {r = r} {rs = rs} e) = subst (Contains (r.number ∷ numbers rs)) e (first_in r.number (numbers rs))
-in_numbers {n} (later {r = r} {rs = rs} a) = later_in r.number n (numbers rs) (in_numbers a)
 
 -- a register of this number that is among these
 pub register_among : {n : ℕ} {rs : List Reg} → Among n rs → (r : Reg) × Contains rs r × (r.number ≡ n)

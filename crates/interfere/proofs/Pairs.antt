@@ -4,7 +4,7 @@ use Rattle.std.proofs.Common.{length, take, get_or, refl, sym, ap, ◌∙◌, su
 use Rattle.std.specs.List.{All, Contains}
 use Rattle.std.specs.Prelude.{Option}
 use Rattle.std.proofs.lemmas.List.{take_more, take_all}
-use Rattle.std.proofs.lemmas.List.Elements.{Contains-get_or}
+use Rattle.std.proofs.lemmas.List.Elements.{Contains-get_or, Contains-append_left, Contains-append_right}
 use Rattle.bs_bits.specs.Set.{has}
 use Rattle.dataflow.specs.Rows.{row}
 use Rattle.liveness.proofs.Bounds.{split_in}
@@ -14,21 +14,6 @@ use Rattle.interfere.specs.Moves.{is_from_to}
 use Rattle.interfere.specs.Pairs.{Table, EitherWay, one_way, other_way, Adds, IsPair, ForOne, Meeting, MeetsSet}
 use Rattle.interfere.specs.Pairs.{MeetsPlaces}
 use Rattle.interfere.specs.declared.moves.Move.{Move}
-
--- ---- members of lists
-
-pub left_in : {A : Type 0} (xs ys : List A) (y : A) → Contains xs y → Contains (xs ++ ys) y
-left_in [] ys y c = absurd (none_in y c)
-left_in (x ∷ xs) ys y c =
-    ⊎_elim (λ e. subst (Contains (x ∷ (xs ++ ys))) e (first_in x (xs ++ ys)))
-    (λ d. later_in x y (xs ++ ys) (left_in xs ys y d)) (in_cons x y xs c)
-
-pub right_in : {A : Type 0} (xs ys : List A) (y : A) → Contains ys y → Contains (xs ++ ys) y
-right_in [] ys y c = c
-right_in (x ∷ xs) ys y c = later_in x y (xs ++ ys) (right_in xs ys y c)
-
-pub of_each : {A : Type 0} (P : A → Type 0) (xs : List A) (x : A) → All P xs → Contains xs x → P x
-of_each P xs x h c = subst P c.2 (h c.0 x c.1)
 
 -- ---- relations
 
@@ -95,8 +80,8 @@ module _ {A : Type 0} (R : A → ℕ → ℕ → Type 0) where
   one_more xs i d x y z lt before here =
       adds_then x y z (ForOne R (take i xs)) (R new) (ForOne R (take (i + 1) xs)) before here
       (λ n k h. by n k h (split_in (take i xs) (new ∷ []) h.item (subst (λ ys. Contains ys h.item) taken h.among)))
-      (λ n k h. record { item = h.item; among = subst (λ ys. Contains ys h.item) (sym taken) (left_in (take i xs) (new ∷ []) h.item h.among); there = h.there })
-      (λ n k h. record { item = new; among = subst (λ ys. Contains ys new) (sym taken) (right_in (take i xs) (new ∷ []) new (first_in new [])); there = h })
+      (λ n k h. record { item = h.item; among = subst (λ ys. Contains ys h.item) (sym taken) (Contains-append_left (take i xs) (new ∷ []) h.item h.among); there = h.there })
+      (λ n k h. record { item = new; among = subst (λ ys. Contains ys new) (sym taken) (Contains-append_right (take i xs) (new ∷ []) new (first_in new [])); there = h })
     where
       new : A
       new = get_or xs i d
