@@ -5,7 +5,6 @@ use Rattle.cmm_tree.specs.Tree.{Expression, Nothing, DataListTree, FunctionTree,
 use Rattle.cmm_grammar.specs.Parts.{ItemPart, FunctionItem, DataItem, item_of}
 use Rattle.cmm_grammar.specs.Rule.{Sort, Value, AnItem, Listed, Rule, Give, One, Then, Expr, Inside, InsideOr, LabelledOr, Until, Maybe, Repeat}
 use Rattle.cmm_grammar.specs.Grammar.{a_token, a_data_item, data_items, data_list, parameters, sequence_to_close, a_function, item_rest, an_item}
-use Rattle.cmm_grammar.proofs.Paid.{moved}
 use Rattle.cmm_grammar.specs.Spelling.{Spells, AreItems, none, more, nothing, token, both, leaf, brackets, parenthesis, inside, inside_first, not_inside, labelled, not_labelled, ended, one_more, present, absent, last, another}
 use Rattle.cmm_grammar.proofs.Paid.{moved, Two}
 

@@ -31,7 +31,7 @@ use Rattle.mach_laws.proofs.Walking.{place_is, ending_at, ending_drop}
 use Rattle.liveness.proofs.Bounds.{split_in, killed_is_colour}
 use Rattle.bs_words.proofs.Lists.{none_in, first_in, later_in, in_cons}
 use Rattle.interfere.specs.Moves.{move_between, move_of, is_from_to}
-use Rattle.liveness.proofs.Steps.{among_of, in_numbers}
+use Rattle.liveness.proofs.Steps.{among_numbers, in_numbers}
 use Rattle.interfere.specs.Moves as moves
 use Rattle.interfere.specs.Pairs.{Table, Has, EitherWay, one_way, other_way, Adds, ForOne, MeetsSet, MeetsPlaces}
 use Rattle.interfere.specs.declared.moves.Move.{Move}
@@ -164,7 +164,7 @@ module _ (m : Mach) where
     writes_below p i next writes e same = λ j d lt.
         let n = get_or writes j d in
         among_below (λ r c. by r (split_in i.results (killed m i) r c))
-        (among_of n (written m i) (subst (λ ns. Contains ns n) same (Contains-get_or writes j d lt)))
+        (among_numbers n (written m i) (subst (λ ns. Contains ns n) same (Contains-get_or writes j d lt)))
       where
         by : (r : Reg) → Contains i.results r ⊎ Contains (killed m i) r → IsRegister m r
         by r (inl c) = is_in_code (in_ending (ending_of p e) (in_results c))
@@ -197,7 +197,7 @@ module _ (m : Mach) where
           let by = h.there in
           let meets = by.there in
           record {
-            write = among_of n (written m i) (subst (Contains (numbers (written m i))) meets.written by.among);
+            write = among_numbers n (written m i) (subst (Contains (numbers (written m i))) meets.written by.among);
             after = after_step (goes t.0 t.1)
                 (live_at k h.item (code_at m.code next t.0) (ending_at t.0 (ending_of p at)) t.2 meets.live);
             no_move = told_no_move i k n meets.no_move;

@@ -5,7 +5,8 @@ use Rattle.std.proofs.Math.Seq.{drop-cons}
 use Rattle.bs_words.specs.declared.values.Value.{Value}
 use Rattle.rv_machine.specs.declared.setup.Arg.{Arg}
 use Rattle.rv_machine.specs.declared.setup.Arg.TheVariants.{Word, Symbol}
-use Rattle.text_commands.specs.Arguments.{address_in, word_of, before, words_of}
+use Rattle.rv_machine.specs.Loading.{before}
+use Rattle.text_commands.specs.Arguments.{address_in, word_of, words_of}
 
 -- these words, and then the others, where there are any
 abbrev pub joined : List ℕ → Option (List ℕ) → Option (List ℕ)

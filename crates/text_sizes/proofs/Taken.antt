@@ -7,7 +7,6 @@ use Rattle.cmm_grammar.specs.Parts.{ItemPart, FunctionItem, DataItem}
 use Rattle.cmm_grammar.specs.Words.{leaf_of}
 use Rattle.cmm_grammar.specs.Rule.{Sort, Value, AnExpression, ABinding, ACase, AHandler, ADataItem, AnItem, Listed, Rule, Give, One, Then, Expr, Inside, InsideOr, LabelledOr, Until, Maybe, Repeat}
 use Rattle.cmm_grammar.specs.Grammar.{form}
-use Rattle.cmm_grammar.proofs.Paid.{moved}
 use Rattle.cmm_grammar.specs.Spelling as spelling
 use Rattle.cmm_grammar.specs.Spelling.{Spells, nothing, both, leaf, brackets, parenthesis, inside, inside_first, not_inside, labelled, not_labelled, one_more, present, absent, last, another}
 use Rattle.text_sizes.specs.Measures.{call_bytes, datum_bytes, list_bytes}
