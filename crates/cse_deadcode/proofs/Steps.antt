@@ -1,69 +1,18 @@
 -- One place: what enters it is used, and what is used enters it.
-use Rattle.std.proofs.Common.{◌≡◌, ℕ, zero, suc, Bool, true, false, not, ◌||◌, ◌&&◌, List, [], ◌∷◌, ◌∙◌, ap, inl, inr, arith, refl, subst}
+use Rattle.std.proofs.Common.{◌≡◌, ℕ, Bool, true, false, not, ◌||◌, ◌&&◌, List, ap, inl, inr, refl}
 use Rattle.std.specs.Prelude.{◌==◌}
 use Rattle.std.specs.List.{Contains, list_any}
-use Rattle.std.proofs.lemmas.Bool.{or_cases, and_parts, and_from, eqb-true, eq-eqb}
+use Rattle.std.proofs.lemmas.Bool.{or_cases, and_parts, and_from, not-true}
 use Rattle.bs_bits.specs.Set.{has}
 use Rattle.dataflow.specs.Flow.{Graph}
 use Rattle.dataflow.specs.Rows.{row}
+use Rattle.dataflow.proofs.Steps.{passing, or_left, or_right, passed, contains_from, from_contains, not_from}
 use Rattle.cse_deadcode.specs.Flows.{UsedBefore, read, read_for, on, aside, is_wanted, enters, IsSound, IsClosedAt}
-
--- an element that passes a test
-pub record Passing (p : ℕ → Bool) (xs : List ℕ) : Type 0 where
-  pub element : ℕ
-  pub within : Contains xs element
-  pub passes : p element ≡ true
-
-contains_more : (x y : ℕ) (xs : List ℕ) → Contains xs y → Contains (x ∷ xs) y
-contains_more x y xs c = (suc c.0, omega (arith, c.1), c.2)
-
-pub passing : (p : ℕ → Bool) (xs : List ℕ) → list_any p xs ≡ true → Passing p xs
-passing p [] e = cc
-passing p (x ∷ xs) e =
-    elim (or_cases (p x) (list_any p xs) e) [
-      | inl here ↦ record { element = x; within = (0, omega arith, refl); passes = here }
-      | inr there ↦
-          let q = passing p xs there in
-          record { element = q.element; within = contains_more x q.element xs q.within; passes = q.passes }
-    ]
-
-pub or_left : (x y : Bool) → x ≡ true → (x || y) ≡ true
-or_left true y e = refl
-or_left false y e = cc
-
-pub or_right : (x y : Bool) → y ≡ true → (x || y) ≡ true
-or_right true y e = refl
-or_right false y e = e
-
-pub passed : (p : ℕ → Bool) (xs : List ℕ) (x : ℕ) → Contains xs x → p x ≡ true → list_any p xs ≡ true
-passed p [] x c e = absurd (omega (arith, c.1))
-passed p (y ∷ ys) x (zero, below, at) e = or_left (p y) (list_any p ys) (ap p at ∙ e)
-passed p (y ∷ ys) x (suc k, below, at) e = or_right (p y) (list_any p ys) (passed p ys x (k, omega (arith, below), at) e)
-
--- ---- numbers in lists
-
-pub contains_from : (xs : List ℕ) (r : ℕ) → list_any (λ k. k == r) xs ≡ true → Contains xs r
-contains_from xs r e =
-    let q = passing (λ k. k == r) xs e in
-    let same : q.element ≡ r = eqb-true q.element r q.passes in
-    let P : ℕ → Type 0 = λ n. Contains xs n in
-    subst P same q.within
-
-pub from_contains : (xs : List ℕ) (r : ℕ) → Contains xs r → list_any (λ k. k == r) xs ≡ true
-from_contains xs r c = passed (λ k. k == r) xs r c (eq-eqb r r refl)
 
 -- ---- what enters a place
 
-not_false : (b : Bool) → not b ≡ true → b ≡ false
-not_false true e = cc
-not_false false e = refl
-
 pub differ : (b : Bool) → b ≡ true → b ≡ false → ⊥
 differ b e h = cc
-
-pub not_from : (x : Bool) → (x ≡ true → ⊥) → not x ≡ true
-not_from true h = absurd (h refl)
-not_from false h = refl
 
 module _ (g : Graph) (computes : ℕ → Bool) (rows : List (List Bool)) where
   -- in the set of a next place, and of one aside
@@ -92,7 +41,7 @@ module _ (g : Graph) (computes : ℕ → Bool) (rows : List (List Bool)) where
     by_later p r both =
         let parts = and_parts (later p r) (not (writes p r)) both in
         let to = passing (λ q. has (row rows q) r) (g.next p) parts.0 in
-        on (λ c. differ (writes p r) (from_contains (g.writes p) r c) (not_false (writes p r) parts.1)) to.within
+        on (λ c. differ (writes p r) (from_contains (g.writes p) r c) (not-true (writes p r) parts.1)) to.within
         (sound.used to.element r to.passes)
 
     by_past : (p r : ℕ) → past p r ≡ true → UsedBefore g computes p r

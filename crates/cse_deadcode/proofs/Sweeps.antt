@@ -1,11 +1,11 @@
 -- What sweeps keep, and that their end is exactly what is used.
-use Rattle.std.proofs.Common.{◌≡◌, ℕ, zero, suc, ◌<◌, ◌≤◌, Bool, true, false, not, ◌||◌, ◌&&◌, List, [], ◌∷◌, length, set, get_or, sym, ◌∙◌, ap, inl, inr, arith, refl, subst, map, ◌-◌}
+use Rattle.std.proofs.Common.{◌≡◌, ℕ, ◌<◌, ◌≤◌, Bool, true, false, not, ◌||◌, ◌&&◌, List, [], length, set, sym, ◌∙◌, ap, inl, inr, arith, refl, subst, ◌-◌}
 use Rattle.bs_words.specs.Contents.{contents}
 use Rattle.dataflow.specs.declared.flow.Flow as flow
 use Rattle.dataflow.specs.Flow.{graph}
 use Rattle.dataflow.specs.Rows.{HasSizes}
 use Rattle.std.proofs.lemmas.Bool.{cases_eq, cases_lt, both_ways}
-use Rattle.dataflow.specs.declared.flow.Place as place
+use Rattle.dataflow.proofs.Sweeps.{table_past}
 use Rattle.cse_deadcode.proofs.Steps.{used_member}
 use Rattle.dataflow.specs.Sweep.{missing}
 use Rattle.cse_deadcode.specs.Flows.{enters, is_wanted, AreUsed, IsSound, IsClosedAt, Visited}
@@ -49,11 +49,6 @@ sweeping_more f c old now now' set set' p grew here some unchanged s size v = re
       );
   fewer = λ e. let same : missing now ≡ missing old = ap missing (s.same unchanged).0 in omega (arith, same, v.fewer e);
 }
-
-pub table_past : (field : place.Place → List ℕ) (xs : List place.Place) (p : ℕ) → length xs ≤ p → get_or (map field xs) p [] ≡ []
-table_past field [] p past = refl
-table_past field (x ∷ xs) zero past = absurd (omega (arith, past))
-table_past field (x ∷ xs) (suc p) past = table_past field xs p (omega (arith, past))
 
 and_false : (b : Bool) → b && false ≡ false
 and_false true = refl

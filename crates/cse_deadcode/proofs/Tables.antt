@@ -14,7 +14,8 @@ use Rattle.mach_laws.proofs.Places.{ending_next, ending_of}
 use Rattle.mach_laws.proofs.Walking.{drop_ending, place_is}
 use Rattle.dead_rules.specs.Dropped.{may_go, IsUsed, without, dropped, AreDead, IsDropped}
 use Rattle.cse_deadcode.specs.Uses.{AreUses, is_one_used, is_dead, is_first_dead, drops_by}
-use Rattle.cse_deadcode.proofs.Steps.{differ, or_left, or_right}
+use Rattle.dataflow.proofs.Steps.{or_left, or_right}
+use Rattle.cse_deadcode.proofs.Steps.{differ}
 
 -- ---- registers that are used
 

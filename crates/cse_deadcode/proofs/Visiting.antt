@@ -1,7 +1,7 @@
 -- A visit of one place.
-use Rattle.std.proofs.Common.{◌≡◌, ◌⊎◌, ℕ, ◌<◌, Bool, true, false, ◌||◌, List, [], ◌∷◌, length, map, get_or, sym, ◌∙◌, ap, inl, inr, arith, refl, subst}
+use Rattle.std.proofs.Common.{◌≡◌, ℕ, ◌<◌, Bool, true, false, ◌||◌, List, [], length, get_or, sym, ◌∙◌, ap, inl, inr, arith, subst}
 use Rattle.std.proofs.Math.ListN as Seq
-use Rattle.std.proofs.lemmas.List.{get_or-map, get_or_default, get_or-set_same, get_or-set_other, set-get_or, length-set}
+use Rattle.std.proofs.lemmas.List.{get_or_default, get_or-set_same, get_or-set_other, set-get_or, length-set}
 use Rattle.std.proofs.lemmas.List.Elements.{All-set, All-get_or}
 use Rattle.std.proofs.lemmas.List.Sums.{sum_by-set}
 use Rattle.std.proofs.lemmas.Bool.{or_cases, cases_eq, both_ways}
@@ -10,15 +10,13 @@ use Rattle.bs_bits.specs.Set.{has, union, Grew}
 use Rattle.bs_bits.proofs.Sets.{length-union, has-union, union_cases, grew_not}
 use Rattle.dataflow.specs.declared.flow.Place as place
 use Rattle.dataflow.specs.declared.flow.Flow as flow
-use Rattle.dataflow.specs.Flow.{graph, IsPlace, WellFormed}
+use Rattle.dataflow.specs.Flow.{graph}
 use Rattle.dataflow.specs.Rows.{row, HasSizes}
 use Rattle.dataflow.specs.Sweep.{absent, missing}
 use Rattle.cse_deadcode.specs.Flows.{UsedBefore, enters, enters_place, IsSound, IsClosedAt, Visited}
-use Rattle.cse_deadcode.proofs.Steps.{enters_used, or_right}
-
--- a table of the graph at a place that was read
-pub table_at : (field : place.Place → List ℕ) (xs : List place.Place) (p : ℕ) (x : place.Place) → p < length xs → x ≡ get_or xs p x → get_or (map field xs) p [] ≡ field x
-table_at field xs p x within read = get_or-map field xs p x [] within ∙ ap field (sym read)
+use Rattle.dataflow.proofs.Steps.{or_right}
+use Rattle.dataflow.proofs.Visits.{table_at, absent_less}
+use Rattle.cse_deadcode.proofs.Steps.{enters_used}
 
 pub enters_at : (f : flow.Flow) (c : ℕ → Bool) (rows : List (List Bool)) (p : ℕ) (x : place.Place) (r : ℕ) → p < length (contents f.places) → x ≡ get_or (contents f.places) p x → enters (c p) ((graph f).next p) ((graph f).aside p) ((graph f).reads p) ((graph f).writes p) rows r ≡ enters_place (c p) x rows r
 enters_at f c rows p x r within read =
@@ -27,25 +25,6 @@ enters_at f c rows p x r within read =
     let d : (graph f).reads p ≡ contents x.reads = table_at (λ y. contents y.reads) (contents f.places) p x within read in
     let w : (graph f).writes p ≡ contents x.writes = table_at (λ y. contents y.writes) (contents f.places) p x within read in
     ap (λ (l : List ℕ). enters (c p) l ((graph f).aside p) ((graph f).reads p) ((graph f).writes p) rows r) n ∙ (ap (λ (l : List ℕ). enters (c p) (contents x.next) l ((graph f).reads p) ((graph f).writes p) rows r) a ∙ (ap (λ (l : List ℕ). enters (c p) (contents x.next) (contents x.aside) l ((graph f).writes p) rows r) d ∙ ap (λ (l : List ℕ). enters (c p) (contents x.next) (contents x.aside) (contents x.reads) l rows r) w))
-
-pub is_place : (f : flow.Flow) (count bound p : ℕ) (x : place.Place) → WellFormed f → count ≡ length (contents f.places) → bound ≡ f.bound → p < count → x ≡ get_or (contents f.places) p x → IsPlace count bound x
-is_place f count bound p x formed e b within read =
-    let P : ℕ → Type 0 = λ n. IsPlace n bound x in
-    let Q : ℕ → Type 0 = λ n. IsPlace (length (contents f.places)) n x in
-    let R : place.Place → Type 0 = λ y. IsPlace (length (contents f.places)) f.bound y in
-    subst P (sym e) (subst Q (sym b) (subst R (sym read) (All-get_or (IsPlace (length (contents f.places)) f.bound) (contents f.places) p x (omega arith) formed)))
-
--- ---- fewer numbers are missing
-
-pub absent_less : (xs ys : List Bool) → (union xs ys ≡ xs) ⊎ (absent (union xs ys) < absent xs)
-absent_less [] ys = inl refl
-absent_less (x ∷ xs) [] = inl refl
-absent_less (true ∷ xs) (y ∷ ys) =
-    elim (absent_less xs ys) [ inl e ↦ inl (ap (λ (zs : List Bool). true ∷ zs) e) | inr less ↦ inr less ]
-absent_less (false ∷ xs) (false ∷ ys) =
-    elim (absent_less xs ys) [ inl e ↦ inl (ap (λ (zs : List Bool). false ∷ zs) e) | inr less ↦ inr (omega (arith, less)) ]
-absent_less (false ∷ xs) (true ∷ ys) =
-    elim (absent_less xs ys) [ inl e ↦ inr (let same : absent (union xs ys) ≡ absent xs = ap absent e in omega (arith, same)) | inr less ↦ inr (omega (arith, less)) ]
 
 -- ---- a visit
 

@@ -2,7 +2,7 @@
 use Rattle.std.proofs.Common.{◌≡◌, ◌≢◌, ℕ, zero, suc, ◌+◌, ◌<◌, ◌≤◌, ◌⊎◌, inl, inr, ⊎_elim, List, [], ◌∷◌, ◌++◌, Some, None, length, map, take, set, get_or, refl, sym, ap, ◌∙◌, subst, arith}
 use Rattle.std.specs.List.{All, Contains}
 use Rattle.std.specs.Prelude.{slice_get, slice_index_or}
-use Rattle.std.proofs.lemmas.List.Elements.{Contains-get_or}
+use Rattle.std.proofs.lemmas.List.Elements.{Contains-get_or, Contains-append_left, Contains-append_right}
 use Rattle.mach_ir.specs.Walks.{IsRegister}
 use Rattle.mach_ir.specs.declared.reg.Reg.{Reg}
 use Rattle.mach_ir.specs.declared.mach.Mach.{Mach}
@@ -15,7 +15,7 @@ use Rattle.bs_words.proofs.Lists.{none_in, first_in, later_in, in_cons}
 use Rattle.split.specs.Writes.{members_in, HasMember, AreRising, ends, rises, IsGrouped}
 use Rattle.split.specs.declared.writes.Group as group
 use Rattle.split_rules.specs.declared.writes.Write.{Write}
-use Rattle.split.proofs.Members.{left_in, right_in, open_write}
+use Rattle.split.proofs.Members.{open_write}
 
 members_same : (gs : List group.Group) (k : ℕ) (g : group.Group) → k < length gs → members_in (set gs k g) k ≡ g.members.items
 members_same gs k g within =
@@ -89,7 +89,7 @@ module _ (writes : List Write) (free : ℕ) (old new : List group.Group) (x : Wr
       (λ (e : n ≡ x.number).
       subst (λ n. Contains (members_in new n) v) (sym e)
       (subst (λ xs. Contains xs v) (sym has.here)
-      (left_in (members_in old x.number) (w ∷ []) v (subst (λ n. Contains (members_in old n) v) e c))))
+      (Contains-append_left (members_in old x.number) (w ∷ []) v (subst (λ n. Contains (members_in old n) v) e c))))
       (λ (ne : n ≢ x.number). subst (λ xs. Contains xs v) (sym (has.others n ne)) c) (cases_eq n x.number)
 
   -- the members of a number rise, and the last index is above all
@@ -122,7 +122,7 @@ module _ (writes : List Write) (free : ℕ) (old new : List group.Group) (x : Wr
             subst (λ n. Contains (members_in new n) v) (ap (λ (x : Write). x.number) h.1)
             (subst (λ v. Contains (members_in new x.number) v) (end ∙ sym h.0)
             (subst (λ xs. Contains xs w) (sym has.here)
-            (right_in (members_in old x.number) (w ∷ []) w (first_in w []))))) (pushed_cases writes x y v e);
+            (Contains-append_right (members_in old x.number) (w ∷ []) w (first_in w []))))) (pushed_cases writes x y v e);
         rising = rising_in g;
       }
 

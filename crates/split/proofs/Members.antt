@@ -1,5 +1,7 @@
 -- What the table of writes has.
 use Rattle.std.proofs.Common.{◌≡◌, ◌≢◌, ℕ, zero, suc, ◌<◌, ◌≤◌, Bool, true, false, cond, ◌⊎◌, inl, inr, ⊎_elim, List, [], ◌∷◌, ◌++◌, Option, Some, None, length, refl, sym, ap, ◌∙◌, subst, arith}
+use Rattle.std.proofs.lemmas.Option.{none-some}
+use Rattle.std.proofs.lemmas.List.Elements.{Contains-append_left, Contains-append_right}
 use Rattle.std.proofs.lemmas.Bool.{eq-eqb, eqb-true}
 use Rattle.std.specs.List.{Contains}
 use Rattle.std.specs.Prelude.{slice_get}
@@ -22,24 +24,11 @@ use Rattle.split_rules.specs.declared.writes.Write.{Write}
 
 -- ---- lists
 
-pub left_in : {A : Type 0} (xs ys : List A) (y : A) → Contains xs y → Contains (xs ++ ys) y
-left_in [] ys y c = absurd (none_in y c)
-left_in (x ∷ xs) ys y c =
-    ⊎_elim (λ e. subst (Contains (x ∷ (xs ++ ys))) e (first_in x (xs ++ ys))) (λ d. later_in x y (xs ++ ys) (left_in xs ys y d))
-    (in_cons x y xs c)
-
-pub right_in : {A : Type 0} (xs ys : List A) (y : A) → Contains ys y → Contains (xs ++ ys) y
-right_in [] ys y c = c
-right_in (x ∷ xs) ys y c = later_in x y (xs ++ ys) (right_in xs ys y c)
-
 pub some_is : {A : Type 0} (x y : A) → Some x ≡ Some y → x ≡ y
 some_is x y e = cc
 
-none_some : {A : Type 0} (x : A) → None ≡ Some x → ⊥
-none_some x e = cc
-
 pub got_in : {A : Type 0} (xs : List A) (w : ℕ) (x : A) → slice_get xs w ≡ Some x → Contains xs x
-got_in [] w x e = absurd (none_some x e)
+got_in [] w x e = absurd (none-some x e)
 got_in (y ∷ ys) zero x e = subst (Contains (y ∷ ys)) (some_is y x e) (first_in y ys)
 got_in (y ∷ ys) (suc w) x e = later_in y x ys (got_in ys w x e)
 
@@ -104,10 +93,10 @@ in_writes (j ∷ is) i next r s c e = by s (λ z. in_writes is i next r z c e)
     by : {xs : List Instr} {k : Instr} → Stands i next (k ∷ xs) → (Stands i next xs → Contains (code_writes xs) (write_of (length next) r)) →
         Contains (code_writes (k ∷ xs)) (write_of (length next) r)
     by here ih =
-        left_in (open_writes (length next) i.results) (code_writes next) (write_of (length next) r)
+        Contains-append_left (open_writes (length next) i.results) (code_writes next) (write_of (length next) r)
         (in_open (length next) i.results r c e)
     by {xs} {k} (below s) ih =
-        right_in (open_writes (length xs) k.results) (code_writes xs) (write_of (length next) r) (ih s)
+        Contains-append_right (open_writes (length xs) k.results) (code_writes xs) (write_of (length next) r) (ih s)
 
 pub record WasInCode (code : List Instr) (x : Write) : Type 0 where
   pub register : Reg
@@ -226,7 +215,7 @@ left_is writes w k e = by (slice_get writes w) refl e
     by (Some x) e h = (x, e, eqb-true x.left k h)
 
 pub found_at : (writes : List Write) (k : ℕ) (ws : List ℕ) (w : ℕ) → find_at writes k ws ≡ Some w → FoundAt writes k ws w
-found_at writes k [] w e = absurd (none_some w e)
+found_at writes k [] w e = absurd (none-some w e)
 found_at writes k (v ∷ ws) w e = by (is_at writes v k) refl e (λ h. found_at writes k ws w h)
   where
     by : (b : Bool) → is_at writes v k ≡ b → cond b (Some v) (find_at writes k ws) ≡ Some w →
@@ -277,7 +266,7 @@ pub record FoundComing (set : List Bool) (ws : List ℕ) (w : ℕ) : Type 0 wher
   pub comes : has set w ≡ true
 
 pub found_coming : (set : List Bool) (ws : List ℕ) (w : ℕ) → find_coming set ws ≡ Some w → FoundComing set ws w
-found_coming set [] w e = absurd (none_some w e)
+found_coming set [] w e = absurd (none-some w e)
 found_coming set (v ∷ ws) w e = by (has set v) refl e (λ h. found_coming set ws w h)
   where
     by : (b : Bool) → has set v ≡ b → cond b (Some v) (find_coming set ws) ≡ Some w →

@@ -1,5 +1,6 @@
 -- The numbers of the tables are those of a split function.
 use Rattle.std.proofs.Common.{◌≡◌, ◌≢◌, ℕ, suc, ◌+◌, ◌-◌, ◌<◌, ◌≤◌, Bool, true, false, cond, ◌⊎◌, inl, inr, ⊎_elim, List, [], ◌∷◌, Option, Some, None, length, drop, refl, sym, ap, ◌∙◌, subst, arith}
+use Rattle.std.proofs.lemmas.List.Elements.{Contains-append_left, Contains-append_right}
 use Rattle.std.proofs.lemmas.Bool.{cases_Bool, eq-eqb, lt-ltb, le-ltb}
 use Rattle.std.proofs.lemmas.List.{length-append, length-drop}
 use Rattle.std.proofs.lemmas.Option.{slice_get_within}
@@ -32,7 +33,7 @@ use Rattle.split.specs.Writes.{all_of, members, AreRising, has_left, find_at, is
 use Rattle.split.specs.declared.tables.Tables.{Tables}
 use Rattle.split_rules.specs.declared.writes.Write.{Write}
 use Rattle.split.proofs.Joining.{chain_turned, chain_on}
-use Rattle.split.proofs.Members.{some_is, got_in, in_got, left_in, right_in, in_open, in_writes, is_unset, IsOpenWrite, open_write, fixed_no_write, found_at, finds_at, finds_first, first_low, first_least, one_first, at_entry, entry_at, left_within, found_coming, finds_coming}
+use Rattle.split.proofs.Members.{some_is, got_in, in_got, in_open, in_writes, is_unset, IsOpenWrite, open_write, fixed_no_write, found_at, finds_at, finds_first, first_low, first_least, one_first, at_entry, entry_at, left_within, found_coming, finds_coming}
 
 differ : (b : Bool) → b ≡ true → b ≡ false → ⊥
 differ b e h = cc
@@ -181,7 +182,7 @@ module _ (m : Mach) (free : ℕ) (t : Tables) (formed : WellFormed m) (placed : 
       let p = number_among m.params a in
       let e = formed.numbers p.0 r (is_param p.1) i p.2 in
       write_found r.number (length m.code)
-      (left_in (open_writes (length m.code) m.params) (code_writes m.code) (write_of (length m.code) r)
+      (Contains-append_left (open_writes (length m.code) m.params) (code_writes m.code) (write_of (length m.code) r)
       (in_open (length m.code) m.params r (subst (Contains m.params) e p.1) u))
 
   result_found : (r : Reg) → IsRegister m r → r.loc ≡ loc.Unset → (i : Instr) (next : List Instr) → Stands i next m.code →
@@ -192,7 +193,7 @@ module _ (m : Mach) (free : ℕ) (t : Tables) (formed : WellFormed m) (placed : 
       let p = number_among i.results h in
       let e = formed.numbers p.0 r (is_in_code (results_in s p.1)) k p.2 in
       write_found r.number (length next)
-      (right_in (open_writes (length m.code) m.params) (code_writes m.code) (write_of (length next) r)
+      (Contains-append_right (open_writes (length m.code) m.params) (code_writes m.code) (write_of (length next) r)
       (in_writes m.code i next r s (subst (Contains i.results) e p.1) u)))
       (λ h.
       let p = number_among (killed m i) h in

@@ -1,5 +1,6 @@
 -- What the flow analysis says of writes: which of them come to each place.
 use Rattle.std.proofs.Common.{◌≡◌, ◌≢◌, ℕ, zero, suc, ◌+◌, ◌-◌, ◌<◌, ◌≤◌, Bool, true, false, ◌⊎◌, inl, inr, ⊎_elim, List, [], ◌∷◌, ◌++◌, Option, Some, None, map, length, drop, refl, sym, ap, ◌∙◌, subst, arith}
+use Rattle.std.proofs.lemmas.List.Elements.{Contains-append_left, Contains-append_right}
 use Rattle.std.proofs.lemmas.List.{length-drop, length-append}
 use Rattle.std.proofs.lemmas.Option.{slice_get_within}
 use Rattle.std.specs.List.{All, Contains}
@@ -32,7 +33,7 @@ use Rattle.split.specs.Reach.{listed, made_at, ended_by, made_before, ended_befo
 use Rattle.split.specs.Writes.{all_of, members, find_at, AreWrites, after}
 use Rattle.split_rules.specs.declared.writes.Write.{Write}
 use Rattle.split.specs.declared.writes.Writes as table
-use Rattle.split.proofs.Members.{some_is, got_in, left_in, right_in, IsOpenWrite, open_write, open_not_killed, found_at}
+use Rattle.split.proofs.Members.{some_is, got_in, IsOpenWrite, open_write, open_not_killed, found_at}
 
 -- ---- lists of lists
 
@@ -80,10 +81,10 @@ made_in : (t : table.Writes) (k : ℕ) (rs : List Reg) (n w : ℕ) → Among n r
     Contains (made_at t k rs) w
 made_in t k [] n w a e = elim a [ ]
 made_in t k (r ∷ rs) n w (first s) e =
-    left_in (listed (find_at (all_of t) k (members t r.number))) (made_at t k rs) w
+    Contains-append_left (listed (find_at (all_of t) k (members t r.number))) (made_at t k rs) w
     (subst (λ o. Contains (listed o) w) (sym (ap (λ n. find_at (all_of t) k (members t n)) s ∙ e)) (first_in w []))
 made_in t k (r ∷ rs) n w (later a) e =
-    right_in (listed (find_at (all_of t) k (members t r.number))) (made_at t k rs) w (made_in t k rs n w a e)
+    Contains-append_right (listed (find_at (all_of t) k (members t r.number))) (made_at t k rs) w (made_in t k rs n w a e)
 
 in_made : (t : table.Writes) (k : ℕ) (rs : List Reg) (w : ℕ) → Contains (made_at t k rs) w →
     (n : ℕ) × Among n rs × (find_at (all_of t) k (members t n) ≡ Some w)
@@ -100,8 +101,8 @@ in_made t k (r ∷ rs) w c =
 ended_in : (t : table.Writes) (rs : List Reg) (n w : ℕ) → Among n rs → Contains (members t n) w → Contains (ended_by t rs) w
 ended_in t [] n w a c = elim a [ ]
 ended_in t (r ∷ rs) n w (first s) c =
-    left_in (members t r.number) (ended_by t rs) w (subst (λ n. Contains (members t n) w) (sym s) c)
-ended_in t (r ∷ rs) n w (later a) c = right_in (members t r.number) (ended_by t rs) w (ended_in t rs n w a c)
+    Contains-append_left (members t r.number) (ended_by t rs) w (subst (λ n. Contains (members t n) w) (sym s) c)
+ended_in t (r ∷ rs) n w (later a) c = Contains-append_right (members t r.number) (ended_by t rs) w (ended_in t rs n w a c)
 
 in_ended : (t : table.Writes) (rs : List Reg) (w : ℕ) → Contains (ended_by t rs) w → (n : ℕ) × Among n rs × Contains (members t n) w
 in_ended t [] w c = absurd (none_in w c)

@@ -1,4 +1,4 @@
-use Rattle.cse_deadcode.proofs.Loops.{adds_more}
+use Rattle.dataflow.proofs.Loops.{adds_more}
 use Rattle.cse_deadcode.proofs.visits.add_rows.Goals as goal
 
 pub loop-q-preserved : goal.loop-q-preserved

@@ -1,5 +1,5 @@
 use Rattle.std.proofs.Common.{take}
-use Rattle.cse_deadcode.proofs.Loops.{AddsRows}
+use Rattle.dataflow.proofs.Loops.{AddsRows}
 use Rattle.cse_deadcode.proofs.visits.add_rows.Given as goal
 
 abbrev pub invariant-loop-q : goal.invariant-loop-q

@@ -1,5 +1,5 @@
 use Rattle.std.proofs.Common.{take}
-use Rattle.cse_deadcode.proofs.Loops.{PutsIn}
+use Rattle.dataflow.proofs.Loops.{PutsIn}
 use Rattle.cse_deadcode.proofs.visits.put_in.Given as goal
 
 abbrev pub invariant-loop-k : goal.invariant-loop-k

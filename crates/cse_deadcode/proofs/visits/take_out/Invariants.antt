@@ -1,5 +1,5 @@
 use Rattle.std.proofs.Common.{take}
-use Rattle.cse_deadcode.proofs.Loops.{TakesOut}
+use Rattle.dataflow.proofs.Loops.{TakesOut}
 use Rattle.cse_deadcode.proofs.visits.take_out.Given as goal
 
 abbrev pub invariant-loop-k : goal.invariant-loop-k

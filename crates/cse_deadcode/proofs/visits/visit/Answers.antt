@@ -1,5 +1,6 @@
 use Rattle.std.proofs.Common.{arith, ap, length, ◌∙◌}
-use Rattle.cse_deadcode.proofs.Visiting.{is_place, back_members, visited}
+use Rattle.dataflow.proofs.Visits.{is_place}
+use Rattle.cse_deadcode.proofs.Visiting.{back_members, visited}
 use Rattle.cse_deadcode.specs.Uses.{goes_at}
 use Rattle.cse_deadcode.proofs.visits.visit.Goals as goal
 
