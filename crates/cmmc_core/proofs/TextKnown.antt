@@ -12,8 +12,7 @@ use Rattle.correctness.specs.Bounds.{IsRoomy}
 use Rattle.image_form.specs.Tables.{Tables}
 use Rattle.layout_rules.specs.TooLarge.{first_too_large}
 use Rattle.text_commands.specs.Made.{IsMadeFor}
-use Rattle.file_promise.proofs.Bytes.{bytes_of}
-use Rattle.file_promise.proofs.Once.{made_for_once}
+use Rattle.text_commands.proofs.Known.{bytes_of, made_for_once}
 use Rattle.cmmc_core.specs.Compile.{Reads}
 use Rattle.cmmc_core.specs.Effects.{Side, IsRead}
 use Rattle.cmmc_core.proofs.Reading.{all, too_long, IsRead-known}

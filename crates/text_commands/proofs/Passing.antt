@@ -9,7 +9,7 @@ use Rattle.file_compile.proofs.Promised.{roomy_fits}
 use Rattle.image_form.specs.Tables.{Tables}
 use Rattle.layout_rules.specs.TooLarge.{first_too_large}
 use Rattle.file_compile.specs.Made.{IsMadeFor}
-use Rattle.file_promise.proofs.Once.{made_for_once}
+use Rattle.file_compile.proofs.Known.{made_for_once}
 use Rattle.text_commands.specs.Compile.{IsOnlyMadeFor, IsTooLarge}
 
 pub only_made : (file : FileTree) (image : Tables) → IsMadeFor file image → IsOnlyMadeFor file image

@@ -2,7 +2,7 @@ use Rattle.std.proofs.Common.{◌≡◌, Err, refl, ap, subst, arith}
 use Rattle.cmm_tree.specs.Tree.{FileTree}
 use Rattle.cmm_tree.specs.View.{file_view}
 use Rattle.command_line.specs.View.{check_view}
-use Rattle.file_promise.proofs.Bytes.{all_bytes}
+use Rattle.file_compile.proofs.Known.{all_bytes}
 use Rattle.text_commands.proofs.Compiled.{too_large_to_check}
 use Rattle.text_commands.specs.Arguments.{IsCall}
 use Rattle.text_commands.proofs.ready.made_ready.Goals as goal
