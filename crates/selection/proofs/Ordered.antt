@@ -32,4 +32,4 @@ operands_are b s l r next = ordered_same b _ _ _ _ next (left_needed s l) (right
 
 pub bound_operands_are : (b : Bool) (k : Right) (l r : Code) (next : List Instr)
     → ordered b l (only_when (is_register k) r) next ≡ ordered b l (unless_constant k r) next
-bound_operands_are b k l r next = ordered_same b _ _ _ _ next (λ n. refl) (constant_needed k r)
+bound_operands_are b k l r next = ordered_same b l l _ _ next (λ n. refl) (constant_needed k r)
