@@ -13,7 +13,6 @@ use Rattle.cmm_meaning.specs.Setting.{Setting}
 use Rattle.cmm_front.specs.FileOf.{IsFileOf}
 use Rattle.cmm_front.proofs.Readings.{is_placed}
 use Rattle.selection_rules.specs.Bounded.{Bounded, BoundedSymbols}
-use Rattle.bs_fault.proofs.Reported.{no_fault}
 
 abbrev AllDefined : List Definition → Type 0
 AllDefined ds = AllByRecursion (λ (d : Definition). Bounded d.value) ds
@@ -57,9 +56,6 @@ symbols_bounded file none c same =
     record { each = λ name v e. value_among-from Bounded (definitions file) name v (all_defined file none) (subst (λ (f : List ℕ → Option Value). f name ≡ Some v) same e) }
 
 -- ---- a file that the front accepts
-
-pub read_places : (text : List ℕ) (file : FileTree) → ReadsAs text (Ok file) → data_fault_of file ≡ None
-read_places text _ (said.file tokens items short cut are faultless) = no_fault _ (λ f among. faultless f (second _ _ (second _ _ among)))
 
 pub front_symbols : (text : List ℕ) (file : FileTree) → IsFileOf text file → (c : Setting) → c.symbol ≡ value_of_symbol file → BoundedSymbols c
 front_symbols text file is c same = symbols_bounded file (is_placed text file is.read) c same
