@@ -1,5 +1,5 @@
 -- How large a Mach function is, in the measures by which passes say how it grows.
-use Rattle.std.specs.Prelude.{◌≡◌, ℕ, ◌+◌, ◌<◌, ◌≤◌, List, [], ◌∷◌, length, Contains}
+use Rattle.std.specs.Prelude.{◌≡◌, ℕ, suc, ◌+◌, ◌<◌, ◌≤◌, List, [], ◌∷◌, length, Contains}
 use Rattle.bs_words.specs.declared.types.Loc.TheVariants as loc
 use Rattle.mach_ir.specs.Walks.{IsRegister}
 use Rattle.mach_ir.specs.declared.reg.Reg.{Reg}
@@ -30,10 +30,24 @@ pub record HasSize (m : Mach) (s : Size) : Type 0 where
 abbrev pub number_limit : ℕ
 number_limit = 4294967296
 
+-- So do the places of a code, of which one comes after its last instruction, and the numbers of all
+-- that is counted.
 pub record IsSmall (s : Size) : Type 0 where
-  pub instrs : s.instrs < number_limit
+  pub places : suc s.instrs < number_limit
+  pub operands : s.operands < number_limit
   pub registers : s.registers < number_limit
   pub labels : s.labels < number_limit
+
+-- The function keeps bounds that are small even once they have grown so: there are numbers for it, and
+-- for what a pass adds.
+pub record HasRoom (grown : Size → Size) (m : Mach) : Type 0 where
+  pub size : Size
+  pub within : HasSize m size
+  pub small : IsSmall (grown size)
+
+-- there are numbers for all that it has
+abbrev pub IsCountable : Mach → Type 0
+IsCountable m = HasRoom (λ s. s) m
 
 -- At most k registers have an open place.
 pub record OpenAtMost (m : Mach) (k : ℕ) : Type 0 where

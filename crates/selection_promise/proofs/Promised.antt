@@ -81,7 +81,7 @@ sized f covered =
     }
 
 size_small : (tokens : ℕ) → tokens ≤ 32000 → IsSmall (size_by tokens)
-size_small tokens few = record { instrs = omega (arith, few); registers = omega (arith, few); labels = omega (arith, few) }
+size_small tokens few = record { places = omega (arith, few); operands = omega (arith, few); registers = omega (arith, few); labels = omega (arith, few) }
 
 -- ---- the promise
 
