@@ -1,7 +1,8 @@
 //! Where static data lies, and what its cells hold.
-ghost use Rattle.std.specs.Prelude.{◌≡◌, ◌%◌, ◌+◌, ◌<◌, ◌≤◌, ◌^◌, ◌++◌, [], ◌∷◌, None, map, IfOk};
+ghost use Rattle.std.specs.Prelude.{◌≡◌, ◌%◌, ◌+◌, ◌<◌, ◌≤◌, ◌^◌, ◌++◌, [], ◌∷◌, None, length, map, IfOk};
 ghost use Rattle.std.specs.Option.{option_to_list};
 ghost use Rattle.bs_words.specs.Fits.{data_limit, data_start};
+ghost use Rattle.cmm_tree.specs.Tree.{functions};
 ghost use Rattle.cmm_tree.specs.View.{file_view, data_item_view, datum_view};
 ghost use Rattle.cmm_data.specs.Placement.{items_from, end_of_items, symbol_at, symbols_among};
 ghost use Rattle.bs_words.specs.Symbol.{caml_bound_error};
@@ -20,7 +21,8 @@ use std::alloc::{AllocError, Global};
 
 /// The static data of a file at its place, where the data has no fault.
 pub fn place_data(alloc: Global, file: &File) -> Result<DataMap, AllocError>
-    requires { data_fault_of (file_view file.now) ≡ None }
+    requires data { data_fault_of (file_view file.now) ≡ None }
+    requires few { length (functions (file_view file.now)) < 2 ^ 32 }
     ensures { IfOk result (IsMapOf (file_view file.now)) }
 {
     let table = SymbolTable::of_file(alloc, file)?;

@@ -1,7 +1,8 @@
 //! The values of the symbols of a file.
-ghost use Rattle.std.specs.Prelude.{◌≡◌, ◌+◌, ◌≤◌, [], ◌∷◌, None, map, IfOk};
+ghost use Rattle.std.specs.Prelude.{◌≡◌, ◌+◌, ◌<◌, ◌≤◌, ◌^◌, [], ◌∷◌, None, length, map, IfOk};
 ghost use Rattle.std.specs.Option.{option_to_list};
 ghost use Rattle.bs_words.specs.Fits.{data_limit, data_start};
+ghost use Rattle.cmm_tree.specs.Tree.{functions};
 ghost use Rattle.cmm_tree.specs.View.{file_view, data_item_view, datum_view};
 ghost use Rattle.cmm_data.specs.Placement.{items_from, end_of_items, symbol_at, definition_of_data, defined_at};
 ghost use Rattle.cmm_data.specs.Faults.{first_fault, data_fault_of};
@@ -24,7 +25,8 @@ impl<'a> SymbolTable<'a> {
 
     /// The table of the file.
     pub fn of_file(alloc: Global, file: &'a File) -> Result<SymbolTable<'a>, AllocError>
-        requires { data_fault_of (file_view file.now) ≡ None }
+        requires data { data_fault_of (file_view file.now) ≡ None }
+        requires few { length (functions (file_view file.now)) < 2 ^ 32 }
         ensures { IfOk result (IsTableOf (file_view file.now)) }
     {
         let mut table = SymbolTable {
@@ -37,7 +39,7 @@ impl<'a> SymbolTable<'a> {
             match item {
                 Item::Function(function) => {
                     table.define(function.name.as_bytes(), Value::Function(functions))?;
-                    functions = next_number(functions)?;
+                    functions += 1;
                 }
                 Item::Data(list) => {
                     end = table.define_items(start_behind(end), list.items.as_slice())?;
@@ -96,11 +98,4 @@ impl<'a> SymbolTable<'a> {
         }
         Ok(address)
     }
-}
-
-/// The number after this one. A file of more functions than a `u32` can number does not fit in memory.
-fn next_number(number: u32) -> Result<u32, AllocError>
-    ensures { IfOk result (λ next. next ≡ number + 1) }
-{
-    number.checked_add(1).ok_or(AllocError)
 }

@@ -1,8 +1,8 @@
-use Rattle.std.proofs.Common.{◌≡◌, ◌∙◌, ◌+◌, suc, refl, ap, sym, arith, List, [], ◌∷◌, drop, map, None, Option}
+use Rattle.std.proofs.Common.{◌≡◌, ◌∙◌, ◌+◌, suc, refl, ap, sym, arith, List, [], ◌∷◌, drop, length, map, None, Option}
 use Rattle.std.specs.Option.{option_or}
 use Rattle.bs_words.specs.declared.values.Value.{Value}
 use Rattle.bs_words.specs.declared.values.Value.TheVariants as value
-use Rattle.cmm_tree.specs.Tree.{ItemTree, AFunction, AData, data_among}
+use Rattle.cmm_tree.specs.Tree.{ItemTree, AFunction, AData, data_among, functions_among}
 use Rattle.cmm_tree.specs.View.{item_view, function_view, data_list_view}
 use Rattle.cmm_data.specs.Placement.{Definition, start_behind, items_from, end_behind, lists_behind, items_of_lists, defined_from, defined_by_list, value_among}
 use Rattle.bs_words.specs.Symbol.{caml_bound_error}
@@ -12,14 +12,17 @@ use Rattle.cmm_data.proofs.Items.{map_drop-cons}
 use Rattle.cmm_data.proofs.Walk.{sound-list}
 use Rattle.cmm_data.proofs.Table.{adds-later, value_in-empty}
 use Rattle.cmm_data.proofs.symbols.SymbolTable.of_file.Goals as goal
-use Rattle.cmm_data.proofs.symbols.SymbolTable.of_file.Goals.{in-Function+in_ok-define-in-Function+in_ok-functions-in-Function, in-Data+in_ok-end-in-Data}
+use Rattle.cmm_data.proofs.symbols.SymbolTable.of_file.Goals.{in-Function+in_ok-define-in-Function, in-Data+in_ok-end-in-Data}
 
 pub loop-item-init : goal.loop-item-init
 loop-item-init c =
     let first : Adds (record { values = c.new.result }) c.define.new.self (record { name = caml_bound_error; value = value.Word 268435456 } ∷ []) = c.in_ok-define.ensures in
     record {
       within = omega arith;
-      faultless = rw c.as_slice-item-items.ensures c.requires;
+      faultless = rw c.as_slice-item-items.ensures c.requires.data;
+      counted =
+          let all = ap (λ l. length (functions_among (map item_view l))) c.as_slice-item-items.ensures in
+          omega (arith, all);
       has = λ name.
           let rest = defined_from 0 268435464 (map item_view c.args.file.now.items.items.items) in
           let whole : option_or (value_in (record { values = c.new.result }) name) (value_among (record { name = caml_bound_error; value = value.Word 268435456 } ∷ rest) name)
@@ -47,7 +50,7 @@ define_items-requires-clause-faultless c =
 
 pub loop-item-preserved : goal.loop-item-preserved
 loop-item-preserved c = elim c.match-item.branch [
-  | in-Function+in_ok-define-in-Function+in_ok-functions-in-Function w ↦
+  | in-Function+in_ok-define-in-Function w ↦
       let k = c.loop-item.item-index in
       let items = c.as_slice-item-items.result.now in
       let rest = map item_view (drop (k + 1) items) in
@@ -57,7 +60,7 @@ loop-item-preserved c = elim c.match-item.branch [
       ∙ ap (λ i. item_view i ∷ rest) w.in-Function.is in
       let d : Definition = record { name = f.name; value = value.Function c.loop-item.functions } in
       let adds : Adds c.loop-item.table w.define-in-Function.new.self (d ∷ []) = rw w.as_bytes.ensures at w.in_ok-define-in-Function.ensures in
-      let next : suc c.loop-item.functions ≡ c.match-item.functions = omega (arith, w.functions-is, w.in_ok-functions-in-Function.ensures) in
+      let next : suc c.loop-item.functions ≡ c.match-item.functions = omega (arith, w.functions-is) in
       let stays : c.loop-item.end ≡ c.match-item.end = sym w.end-is in
       record {
         within = omega (arith, c.loop-item.invariant.within, w.end-is);
@@ -65,6 +68,10 @@ loop-item-preserved c = elim c.match-item.branch [
             sym (ap (λ (l : List ItemTree). first_fault (items_of_lists (lists_behind c.loop-item.end (data_among l)))) here
             ∙ ap (λ e. first_fault (items_of_lists (lists_behind e (data_among rest)))) stays)
             ∙ c.loop-item.invariant.faultless;
+        counted =
+            let all = ap (λ l. length (functions_among l)) here in
+            let before = c.loop-item.invariant.counted in
+            omega (arith, all, before, next);
         has = λ name.
             c.loop-item.invariant.has name
             ∙ ap (λ (l : List ItemTree). option_or (value_in c.loop-item.table name) (value_among (defined_from c.loop-item.functions c.loop-item.end l) name)) here
@@ -90,6 +97,10 @@ loop-item-preserved c = elim c.match-item.branch [
       record {
         within = omega (arith, w.in_ok-end-in-Data.ensures.within, w.end-is);
         faultless = sym (ap (λ e. first_fault (items_of_lists (lists_behind e (data_among rest)))) behind) ∙ sound.1;
+        counted =
+            let all = ap (λ l. length (functions_among l)) here in
+            let before = c.loop-item.invariant.counted in
+            omega (arith, all, before, w.functions-is);
         has = λ name.
             c.loop-item.invariant.has name
             ∙ ap (λ (l : List ItemTree). option_or (value_in c.loop-item.table name) (value_among (defined_from c.loop-item.functions c.loop-item.end l) name)) here
