@@ -1,7 +1,8 @@
 //! The run of a function of a file.
-ghost use Rattle.std.specs.Prelude.{◌≡◌, ◌↔◌, None, IfOk, IsTrue, map};
+ghost use Rattle.std.specs.Prelude.{◌≡◌, ◌↔◌, None, IfOk, IsTrue, map, ◌<◌, ◌^◌, length};
 ghost use Rattle.bs_words.specs.Contents.{contents};
 ghost use Rattle.bs_words.specs.declared.values.Value.TheVariants.{Word};
+ghost use Rattle.cmm_tree.specs.Tree.{functions};
 ghost use Rattle.cmm_tree.specs.View.{file_view};
 ghost use Rattle.cmm_data.specs.Faults.{data_fault_of};
 ghost use Rattle.cmm_meaning.specs.State as state;
@@ -40,6 +41,7 @@ pub fn eval(
     fuel: u64,
 ) -> Result<Eval, AllocError>
     requires data { data_fault_of (file_view file.now) ≡ None }
+    requires few { length (functions (file_view file.now)) < 2 ^ 32 }
     requires typed { IsTyped file.now }
     requires entry { FitsEntry (file_view file.now) entry args.now }
     ensures { IfOk result (λ run. eval_view run ≡ cmm_run (file_view file.now)
@@ -56,7 +58,7 @@ pub fn eval(
         layout,
     };
     let Some(function) = around.functions.get(entry as usize) else {
-        return Err(AllocError);
+        unreachable!()
     };
     let arguments = words(alloc, args)?;
     let frame = layout.frame_of(entry);
@@ -110,7 +112,8 @@ pub fn eval(
 /// Whether a run can begin so: the entry is a function of the file, with as many parameters as arguments,
 /// which fit them.
 pub fn fits_entry(alloc: Global, file: &File, entry: u32, args: &[u64]) -> Result<bool, AllocError>
-    requires { data_fault_of (file_view file.now) ≡ None }
+    requires data { data_fault_of (file_view file.now) ≡ None }
+    requires few { length (functions (file_view file.now)) < 2 ^ 32 }
     ensures { IfOk result (λ fits. IsTrue fits ↔ FitsEntry (file_view file.now) entry args.now) }
 {
     let memory = Memory::of_file(alloc, file)?;

@@ -1,5 +1,5 @@
 //! The machine: an activation, the world, and what is still to be done.
-ghost use Rattle.std.specs.Prelude.{◌≡◌, ◌++◌, ◌∷◌, [], IfOk, Some};
+ghost use Rattle.std.specs.Prelude.{◌≡◌, ◌^◌, ◌<◌, ◌+◌, ◌++◌, ◌∷◌, [], IfOk, Some};
 ghost use Rattle.cmm_meaning.specs.State as state;
 ghost use Rattle.cmm_meaning.specs.Evaluation as evaluation;
 ghost use Rattle.cmm_meaning.specs.Evaluation.{of_type, tested, Gives};
@@ -109,7 +109,8 @@ impl<'a> Machine<'a> {
         form: &'a Form,
         tail: bool,
     ) -> Result<Now<'a>, AllocError>
-        requires { IsAround around.now }
+        requires around { IsAround around.now }
+        requires taken { self.old.world.left + 1 < 2 ^ 64 }
         ensures { IfOk result (λ now. stands around.now self.new now ≡ goes_on around.now self.old
             (λ h w. inside (around_view around.now) form.entry.now tail h w)) }
     {

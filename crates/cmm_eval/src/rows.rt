@@ -1,5 +1,5 @@
 //! Rows of operands, elements of sequences, and scopes that are entered.
-ghost use Rattle.std.specs.Prelude.{◌≡◌, Bool, false, List, Option, IfOk, reverse, option_copied};
+ghost use Rattle.std.specs.Prelude.{◌≡◌, ◌^◌, ◌<◌, ◌+◌, Bool, false, List, Option, IfOk, reverse, option_copied};
 ghost use Rattle.bs_words.specs.declared.values.Value.{Value};
 ghost use Rattle.cmm_meaning.specs.State as state;
 ghost use Rattle.cmm_meaning.specs.State.{taken, within_try, deepened};
@@ -77,9 +77,10 @@ impl<'a> Machine<'a> {
         }
     }
 
-    /// A let, a catch or a try.
+    /// A let, a catch or a try, which has taken a unit.
     pub(crate) fn enter_scope(&mut self, form: &'a Form, tail: bool) -> Result<Now<'a>, AllocError>
-        requires { group_of form.now ≡ Group.Scope }
+        requires group { group_of form.now ≡ Group.Scope }
+        requires taken { self.old.world.left + 1 < 2 ^ 64 }
         ensures { IfOk result (λ now. (s : evaluation.Surroundings) →
             stands_in s self.new now ≡ goes_on_in s self.old (λ h w.
             inside s form.entry.now tail h w)) }
@@ -92,7 +93,7 @@ impl<'a> Machine<'a> {
                 self.bind_next(form, tail, bindings.as_slice())
             }
             Form::Catch(body, _) => {
-                let turns = self.world.left.checked_add(1).ok_or(AllocError)?;
+                let turns = self.world.left + 1;
                 let within = false;
                 self.push(
                     form,

@@ -1,10 +1,11 @@
 //! The memory of a run.
-ghost use Rattle.std.specs.Prelude.{◌≡◌, ◌+◌, ◌*◌, ◌%◌, ◌<◌, slice_index_or, Some, None, length, map, option_map, option_copied, slice_get, slice_index, IfOk};
+ghost use Rattle.std.specs.Prelude.{◌≡◌, ◌+◌, ◌*◌, ◌%◌, ◌<◌, slice_index_or, Some, None, length, map, option_map, option_copied, slice_get, slice_index, IfOk, ◌^◌};
 ghost use Rattle.bs_words.specs.Fits.{data_start};
 ghost use Rattle.bs_words.specs.Memory.{InBlock, InStatic, end_of_statics, sizes, heap_need, end_of_data, width};
 ghost use Rattle.bs_words.specs.Memory.{stored_in, stored_as, put_whole, put_part, cell_at, value_in, type_in};
 ghost use Rattle.bs_words.specs.Memory.{type_of_cells, type_of_static, is_root, with_value, loaded, stored, put_in};
 ghost use Rattle.bs_words.specs.Memory.{all_fit, allocated};
+ghost use Rattle.cmm_tree.specs.Tree.{functions};
 ghost use Rattle.cmm_tree.specs.View.{file_view};
 ghost use Rattle.cmm_data.specs.Contents.{first_memory};
 ghost use Rattle.cmm_data.specs.Faults.{data_fault_of};
@@ -63,7 +64,8 @@ impl Model for Memory {
 impl Memory {
     /// The memory in which a run of the file begins, whose static data has no fault.
     pub fn of_file(alloc: Global, file: &File) -> Result<Memory, AllocError>
-        requires { data_fault_of (file_view file.now) ≡ None }
+        requires data { data_fault_of (file_view file.now) ≡ None }
+        requires few { length (functions (file_view file.now)) < 2 ^ 32 }
         ensures { IfOk result (λ memory. memory ≡ first_memory (file_view file.now)) }
     {
         let DataMap {

@@ -1,6 +1,7 @@
 -- The functions of a file, made one after the other.
-use Rattle.std.proofs.Common.{◌≡◌, List, [], ◌∷◌, All, Bor, map, sym, ap, subst, ◌∙◌}
+use Rattle.std.proofs.Common.{◌≡◌, ◌<◌, ℕ, List, [], ◌∷◌, All, Bor, length, map, sym, ap, subst, arith, ◌∙◌}
 use Rattle.std.proofs.lemmas.List.Elements.{All-nil, All-cons}
+use Rattle.std.proofs.lemmas.List.{length-map}
 use Rattle.std.specs.Prelude.{Contains}
 use Rattle.std.specs.List.{AllZip}
 use Rattle.cmm_tree.specs.Tree.{FunctionTree, FileTree, functions, functions_among}
@@ -29,6 +30,12 @@ all_listed file items fs gs whole same trees =
     ap (λ (l : List (Bor Function)). map (λ (f : Bor Function). function_view f.now) l) same
     ∙ trees
     ∙ ap (λ (l : List Item). functions_among (map item_view l)) whole
+
+-- so there are as many
+pub few_listed : (most : ℕ) (file : File) (items : List Item) (fs gs : List (Bor Function)) → items ≡ contents file.items → gs ≡ fs →
+    map (λ (f : Bor Function). function_view f.now) fs ≡ functions_among (map item_view items) → length (functions (file_view file)) < most → length gs < most
+few_listed most file items fs gs whole same trees few =
+    omega (arith, few, length-map gs (λ (f : Bor Function). function_view f.now), ap (λ (l : List FunctionTree). length l) (all_listed file items fs gs whole same trees))
 
 -- what is made of what is listed is made of the functions
 pub all_made : (file : File) (items : List Item) (fs gs : List (Bor Function)) (ps qs : List Pieces) → items ≡ contents file.items → gs ≡ fs →

@@ -1,5 +1,5 @@
 //! All functions, and their image.
-ghost use Rattle.std.specs.Prelude.{◌≡◌, ◌<◌, ◌≤◌, All, length, map, None, Some, Err, IfOk};
+ghost use Rattle.std.specs.Prelude.{◌≡◌, ◌<◌, ◌≤◌, All, length, map, None, Some, Err, IfOk, ◌^◌};
 ghost use Rattle.std.specs.List.{AllZip};
 ghost use Rattle.bs_fault.specs.declared.large.Large.{Large};
 ghost use Rattle.bs_words.specs.Contents.{contents};
@@ -80,7 +80,7 @@ fn tokens_of(alloc: Global, functions: &[&Function]) -> Result<Vec<u32>, AllocEr
     Ok(tokens)
 }
 
-/// The pieces of each of these functions, in their order. No memory holds more functions than there are numbers.
+/// The pieces of each of these functions, in their order.
 fn all_pieces<R: Threads + Sync, G: Gate + Sync>(
     rt: &R,
     alloc: Global,
@@ -89,14 +89,12 @@ fn all_pieces<R: Threads + Sync, G: Gate + Sync>(
     gate: &G,
 ) -> Result<Vec<Pieces>, AllocError>
     requires jobs { 1 ≤ jobs }
+    requires few { length functions.now < 2 ^ 32 }
     requires typed { All (λ f. IsFunctionAnnotated f.now) functions.now }
     requires accepted { All (λ f. IsAcceptedFunction (function_view f.now)) functions.now }
     ensures { IfOk result (λ pieces. AllZip IsFunctionMade (map (λ f. function_view f.now)
         functions.now) pieces.items) }
 {
-    if functions.len() > u32::MAX as usize {
-        return Err(AllocError);
-    }
     let tokens = tokens_of(alloc, functions)?;
     let pieces_at = |piece: u32| -> Result<Pieces, AllocError>
         requires { (piece < length functions.now)

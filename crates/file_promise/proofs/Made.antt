@@ -1,6 +1,6 @@
 -- What is made of each function of an accepted file is known whole, and it can be laid out.
 use Rattle.std.proofs.Common.{◌≡◌, ℕ, zero, suc, List, [], ◌∷◌, Some, length, ap, refl, subst}
-use Rattle.std.specs.Prelude.{Contains, slice_get}
+use Rattle.std.specs.Prelude.{Contains, slice_get, ◌<◌, ◌^◌}
 use Rattle.std.specs.List.{AllByRecursion, AllZip}
 use Rattle.std.proofs.lemmas.Option.{none-some, same_Some}
 use Rattle.accepted_files.proofs.Files.{file_can}
@@ -111,3 +111,7 @@ module _ (text : List ℕ) (file : FileTree) (is : IsFileOf text file) where
 
     pub are_exact : AllZip IsFunctionExact (functions file) ps
     are_exact = exact_ones (functions file) ps (λ tree c. c) made
+
+-- A file's functions have numbers of 32 bits.
+pub few_functions : (text : List ℕ) (file : FileTree) → IsFileOf text file → length (functions file) < 2 ^ 32
+few_functions text file is = (file_can text file is).few_functions

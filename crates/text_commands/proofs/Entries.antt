@@ -1,5 +1,5 @@
 -- The functions of a file, passed one by one until one has the name.
-use Rattle.std.proofs.Common.{◌≡◌, ℕ, suc, cond, List, [], ◌∷◌, ◌++◌, length, Some, None, refl, sym, ap, ◌∙◌, arith, append_assoc, length-append}
+use Rattle.std.proofs.Common.{◌≡◌, ◌<◌, ℕ, suc, cond, List, [], ◌∷◌, ◌++◌, length, Some, None, refl, sym, ap, ◌∙◌, arith, append_assoc, length-append}
 use Rattle.std.specs.List.{slice_get}
 use Rattle.cmm_tree.specs.Tree.{FunctionTree, ItemTree, AFunction, AData, functions_among}
 use Rattle.rv_machine.proofs.Found.{same_name, other_name}
@@ -36,6 +36,13 @@ passed-function name all number left rest f is other p =
           p.same ∙ ap (λ l. function_named name (functions_among l)) is
           ∙ ap (λ b. cond b (Some f) (function_named name (functions_among rest))) (other_name f.name name other);
     }
+
+-- the next is one of them, so its number is less than how many there are
+pub passed-below : (name : List ℕ) (all : List FunctionTree) (number : ℕ) (left rest : List ItemTree) (f : FunctionTree) → left ≡ AFunction f ∷ rest
+    → Passed name all number left → number < length all
+passed-below name all number left rest f is p =
+    let whole : length all ≡ length (p.before ++ f ∷ functions_among rest) = ap length (p.is ∙ ap (λ l. p.before ++ functions_among l) is) in
+    omega (arith, whole, length-append p.before (f ∷ functions_among rest), p.count)
 
 at_length : (before rest : List FunctionTree) (f : FunctionTree) → slice_get (before ++ f ∷ rest) (length before) ≡ Some f
 at_length [] rest f = refl

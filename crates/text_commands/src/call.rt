@@ -1,5 +1,5 @@
 //! The call of a function of a file that the words ask for.
-ghost use Rattle.std.specs.Prelude.{◌≡◌, Some, None, IfOk, IfErr, MatchOption, slice_get};
+ghost use Rattle.std.specs.Prelude.{◌≡◌, Some, None, IfOk, IfErr, MatchOption, slice_get, ◌<◌, ◌^◌, length};
 ghost use Rattle.cmm_data.specs.Faults.{data_fault_of};
 ghost use Rattle.cmm_tree.specs.Tree.{functions};
 ghost use Rattle.cmm_tree.specs.View.{file_view, function_view};
@@ -47,7 +47,8 @@ pub enum CallRefusal {
 /// symbol among arguments and answers is of no static data, or the arguments do not fit the parameters in number and
 /// type. `OutOfMemory` where memory ran out before the answer is known.
 pub fn call_of(alloc: Global, file: &File, check: &CheckWords) -> Result<FileCall, CallRefusal>
-    requires { data_fault_of (file_view file.now) ≡ None }
+    requires data { data_fault_of (file_view file.now) ≡ None }
+    requires few { length (functions (file_view file.now)) < 2 ^ 32 }
     ensures call { IfOk result (λ c.
         IsCall (check_view check.now) (file_view file.now) c.entry c.args.items
         c.answers.items) }
@@ -55,9 +56,8 @@ pub fn call_of(alloc: Global, file: &File, check: &CheckWords) -> Result<FileCal
         IsCallRefusal (check_view check.now) (file_view file.now) r) }
 {
     let entry = match entry_named(file, &check.entry) {
-        Ok(Some(entry)) => entry,
-        Ok(None) => return Err(CallRefusal::UnknownEntry),
-        Err(_) => return Err(CallRefusal::OutOfMemory),
+        Some(entry) => entry,
+        None => return Err(CallRefusal::UnknownEntry),
     };
     match words_for(alloc, file, entry.number, entry.function, check) {
         Ok(Some(Suited { args, answers })) => Ok(FileCall {
@@ -86,6 +86,7 @@ fn words_for(
     check: &CheckWords,
 ) -> Result<Option<Suited>, AllocError>
     requires data { data_fault_of (file_view file.now) ≡ None }
+    requires few { length (functions (file_view file.now)) < 2 ^ 32 }
     requires numbered { slice_get (functions (file_view file.now)) number
         ≡ Some (function_view function.now) }
     ensures { IfOk result (λ found.

@@ -1,10 +1,11 @@
 //! What is reported of the run of a call.
-ghost use Rattle.std.specs.Prelude.{◌≡◌, ℕ, None, IfOk};
+ghost use Rattle.std.specs.Prelude.{◌≡◌, ℕ, None, IfOk, ◌<◌, ◌^◌, length};
 ghost use Rattle.bs_words.specs.Contents.{contents};
 ghost use Rattle.cmm_data.specs.Faults.{data_fault_of};
 ghost use Rattle.cmm_eval.specs.Annotated.{IsTyped, FitsEntry};
 ghost use Rattle.cmm_eval.specs.Views.{layout_view};
 ghost use Rattle.cmm_meaning.specs.Run.{cmm_run};
+ghost use Rattle.cmm_tree.specs.Tree.{functions};
 ghost use Rattle.cmm_tree.specs.View.{file_view};
 ghost use Rattle.text_commands.specs.Check as check;
 ghost use Rattle.text_commands.specs.Lines.{cmm_outcome_text};
@@ -26,6 +27,7 @@ pub fn told_of_run(
     fuel: u64,
 ) -> Result<List<u8>, AllocError>
     requires data { data_fault_of (file_view file.now) ≡ None }
+    requires few { length (functions (file_view file.now)) < 2 ^ 32 }
     requires typed { IsTyped file.now }
     requires fit { FitsEntry (file_view file.now) call.now.entry call.now.args.items }
     ensures { IfOk result (λ told.
@@ -54,6 +56,7 @@ pub fn outcome_of_run(
     fuel: u64,
 ) -> Result<List<u8>, AllocError>
     requires data { data_fault_of (file_view file.now) ≡ None }
+    requires few { length (functions (file_view file.now)) < 2 ^ 32 }
     requires typed { IsTyped file.now }
     requires fit { FitsEntry (file_view file.now) call.now.entry call.now.args.items }
     ensures { IfOk result (λ told.

@@ -16,6 +16,9 @@ use Rattle.assemble.proofs.image.assemble.Goals as goal
 same_large : {T : Type 0} (a b : Large) → ◌≡◌ {A = Result T BuildError} (Err (error.TooLarge a)) (Err (error.TooLarge b)) → a ≡ b
 same_large a b e = cc
 
+pub of_file-requires-clause-few : goal.of_file-requires-clause-few
+of_file-requires-clause-few g c = λ lifetimes outlive. c.requires.can.of_file.few_functions
+
 pub of-requires-clause-numbers : goal.of-requires-clause-numbers
 of-requires-clause-numbers g c = omega (arith, c.requires.can.each_one, c.requires.can.of_file.few_functions)
 

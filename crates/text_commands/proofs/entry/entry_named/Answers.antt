@@ -5,7 +5,7 @@ use Rattle.file_compile.proofs.LayoutRows.{map_past}
 use Rattle.text_commands.proofs.Rows.{map_rest}
 use Rattle.text_commands.proofs.Entries.{Passed, passed-none, passed-found, passed-named, passed-function, passed-data, passed-all}
 use Rattle.text_commands.proofs.entry.entry_named.Goals as goal
-use Rattle.text_commands.proofs.entry.entry_named.Goals.{in-Function+else-same+in_ok-number-in-Function, in-Data}
+use Rattle.text_commands.proofs.entry.entry_named.Goals.{in-Function+else-same, in-Data}
 
 no_true : (b : Bool) → b ≡ false → IsTrue b → ⊥
 no_true true e t = cc
@@ -33,11 +33,11 @@ loop-item-preserved c =
     let rest = map item_view (drop (k + 1) items) in
     let all = functions (file_view c.args.file.now) in
     elim c.match-item.branch [
-      | in-Function+else-same+in_ok-number-in-Function w ↦
+      | in-Function+else-same w ↦
           let f = function_view w.in-Function.function in
           let here : map item_view (drop k items) ≡ AFunction f ∷ rest =
           map_rest item_view items k c.item-item.result c.loop-item-test.true c.item-item.is ∙ ap (λ i. item_view i ∷ rest) w.in-Function.is in
-          let next : suc c.loop-item.number ≡ c.match-item.number = omega (arith, w.number-is, w.in_ok-number-in-Function.ensures) in
+          let next : suc c.loop-item.number ≡ c.match-item.number = omega (arith, w.number-is) in
           subst (λ n. Passed c.args.name.now all n rest) next
           (passed-function c.args.name.now all c.loop-item.number (map item_view (drop k items)) rest f here (λ e. no_true w.same.result w.if-same.false (w.same.ensures.1 e)) c.loop-item.invariant)
       | in-Data w ↦

@@ -9,7 +9,6 @@ use Rattle.cmm_eval.specs.Views.{here_view, world_view}
 use Rattle.cmm_eval.specs.declared.frame.Step.TheVariants as step
 use Rattle.cmm_eval.proofs.Resumed.{stands_pushed_at}
 use Rattle.cmm_eval.proofs.Listed.{let_is}
-use Rattle.cmm_eval.proofs.Ordered.{sum_is}
 use Rattle.cmm_eval.proofs.Ended.{if_ok_then, bounds_count}
 use Rattle.cmm_eval.proofs.machine.Machine.enter_scope.Goals as goal
 
@@ -43,12 +42,11 @@ returns-in_ok-push-in-Catch c s =
     let w = world_view m.world in
     let level = c.len-level.result in
     let tries = m.here.tries in
-    let turns = c.in_ok-turns-in-Catch.turns in
+    let turns = m.world.left + 1 in
     let body = c.in-Catch.body.value in
     let count : vec_len m.here.names ≡ length m.here.names.items = omega (arith, m.here.names.ok.0) in
     let level_is : level ≡ length h.names = c.len-level.ensures ∙ count ∙ bounds_count m.here.names.items in
-    let more : turns ≡ suc w.left =
-    sum_is c.checked_add.result turns (m.world.left + 1) _ c.checked_add.ensures c.in_ok-turns-in-Catch.ensures.ok_part ∙ add-one m.world.left in
+    let more : turns ≡ suc w.left = add-one m.world.left in
     stands_pushed_at s m c.push-in-Catch.new.self (record { form = c.args.form; tail = tail; step = step.Catch false turns level tries })
     (expression s c.deref.result.now tail) (inside s f tail) p.here p.world p.frames
     (ap (λ (e : Expr). caught s.end turns false (handlers_of s f tail) level tries (expression s e tail h w)) c.deref.ensures
