@@ -10,14 +10,15 @@ use Rattle.lin_ir.specs.declared.lin.Lin.{Lin}
 use Rattle.linear_pass.specs.Linear.{IsLinearOf}
 use Rattle.mach_ir.specs.Formed.{WellFormed}
 use Rattle.mach_ir.specs.Placed.{WellPlaced}
+use Rattle.mach_ir.specs.Sizes.{HasRoom}
 use Rattle.mach_ir.specs.Text.{mach_text}
 use Rattle.mach_ir.specs.declared.mach.Mach.{Mach}
-use Rattle.mach_passes.specs.Prepared.{IsPreparable, IsPrepared}
+use Rattle.mach_passes.specs.Prepared.{IsPreparable, IsPrepared, prepared_size}
 use Rattle.file_promise.specs.Made.{IsFunctionMade}
 use Rattle.file_promise.proofs.Bounds.{IsPlacedFor}
-use Rattle.file_promise.proofs.Bounds.{selected_preparable, ready, carried, placed_for}
+use Rattle.file_promise.proofs.Bounds.{selected_preparable, selected_room, ready, prepared_room, carried, placed_for}
 use Rattle.places_rules.specs.Places.{ColoursLow}
-use Rattle.rounds_rules.specs.Rounds.{IsAllocatedIn, IsAllocated}
+use Rattle.rounds_rules.specs.Rounds.{IsAllocatedIn, IsAllocated, allocated_size}
 use Rattle.rv_pieces.specs.declared.piece.Pieces.{Pieces}
 use Rattle.selection_rules.specs.Select.{selected}
 use Rattle.selection_places.proofs.Placed.{selected_low}
@@ -34,6 +35,9 @@ module _ (tree : FunctionTree) (accepted : IsAcceptedFunction tree) (mach : Mach
   pub preparable : IsPreparable mach
   preparable = subst IsPreparable (sym is) (selected_preparable known)
 
+  pub room : HasRoom (prepared_size (length mach.params)) mach
+  room = subst (λ (m : Mach). HasRoom (prepared_size (length m.params)) m) (sym is) (selected_room known)
+
   module _ (prepared : Mach) (made : IsPrepared mach prepared) where
     of_selected : IsPrepared (selected tree) prepared
     of_selected = subst (λ (m : Mach). IsPrepared m prepared) is made
@@ -46,6 +50,9 @@ module _ (tree : FunctionTree) (accepted : IsAcceptedFunction tree) (mach : Mach
 
     pub prepared_low : ColoursLow prepared
     prepared_low = (carried known (ready known of_selected)).colours_low (selected_low tree)
+
+    pub prepared_has_room : HasRoom allocated_size prepared
+    prepared_has_room = prepared_room known of_selected
 
     module _ (placed : Mach) (rounds : ℕ) (rest : Bool) (in_rounds : IsAllocatedIn prepared placed rounds rest) where
       allocated : IsAllocated prepared placed

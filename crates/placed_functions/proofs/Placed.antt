@@ -1,12 +1,14 @@
 -- What the passes and register allocation make of a function of an accepted text is known.
 use Rattle.std.proofs.Common.{◌≡◌, ℕ, ◌+◌, ◌-◌, ◌*◌, ◌≤◌, true, List, [], ◌∷◌, length, Option, ap, ◌∙◌, arith}
+use Rattle.std.proofs.lemmas.List.{length-map}
+use Rattle.bs_words.specs.declared.types.Comp.{Comp}
 use Rattle.bs_words.specs.declared.types.Comp.TheVariants as comp
 use Rattle.cmm_tree.specs.Measures.{all_tries}
 use Rattle.cmm_tree.specs.Symbols.{DefinedSymbol}
-use Rattle.cmm_tree.specs.Tree.{FunctionTree}
+use Rattle.cmm_tree.specs.Tree.{Parameter, FunctionTree}
 use Rattle.combine_rules.specs.Kept.{IsCombinable, holds_block}
 use Rattle.correctness.specs.Measures.{tries}
-use Rattle.mach_ir.specs.Sizes.{operand_count}
+use Rattle.mach_ir.specs.Sizes.{operand_count, HasRoom}
 use Rattle.mach_ir.specs.declared.mach.Instr.{Instr}
 use Rattle.mach_ir.specs.declared.mach.Mach.{Mach}
 use Rattle.mach_ir.specs.declared.mach.MachOp.{MachOp}
@@ -15,17 +17,17 @@ use Rattle.mach_ir.specs.declared.op.Op.TheVariants as op
 use Rattle.mach_ir.specs.declared.op.Pure.TheVariants as pure
 use Rattle.mach_ir.specs.declared.reg.Reg.{Reg}
 use Rattle.mach_ir.proofs.Keeping.{keeps_then}
-use Rattle.mach_passes.specs.Prepared.{IsPreparable, IsPrepared}
+use Rattle.mach_passes.specs.Prepared.{IsPreparable, IsPrepared, prepared_size}
 use Rattle.mach_passes.specs.Prepared as prepared
 use Rattle.mach_passes.proofs.Whole.{prepared_kept}
 use Rattle.pass_rules.specs.Carried.{IsCarried}
 use Rattle.pass_rules.specs.Measures.{copy_words, operands_with, other_operands}
-use Rattle.rounds_rules.specs.Rounds.{IsAllocated}
+use Rattle.rounds_rules.specs.Rounds.{IsAllocated, allocated_size}
 use Rattle.rounds_rules.specs.Rounds as rounds
 use Rattle.rounds_rules.proofs.Kept.{allocated_kept}
 use Rattle.selection_places.proofs.Placed.{selected_low}
 use Rattle.selection_promise.specs.Selects.{IsAccepted, Selects, size_by}
-use Rattle.selection_promise.proofs.Promised.{promised}
+use Rattle.selection_promise.proofs.Promised.{promised, few_tokens, narrow_body}
 use Rattle.selection_rules.specs.Select.{selected}
 use Rattle.placed_functions.specs.Placed.{IsPlacedFor}
 use Rattle.placed_functions.proofs.Ends.{selected_end}
@@ -65,6 +67,29 @@ module _ {defined : List ℕ → Option DefinedSymbol} {tree : FunctionTree} (ac
     no_addr = promise.no_addr;
   }
 
+  few : tree.tokens ≤ 32000
+  few = few_tokens tree (accepted.checked).limits_kept
+
+  few_params : length (selected tree).params ≤ 23 * tree.tokens
+  few_params =
+      let narrow = narrow_body tree accepted.covered in
+      let same = ap (λ (cs : List Comp). length cs) promise.params in
+      omega (arith, narrow, same, length-map (selected tree).params (λ (r : Reg). r.comp), length-map tree.params (λ (x : Parameter). x.comp))
+
+  -- with numbers for all that they add
+  pub selected_room : HasRoom (prepared_size (length (selected tree).params)) (selected tree)
+  selected_room =
+      record {
+        size = size_by tree.tokens;
+        within = promise.size;
+        small = record {
+          places = omega (arith, few);
+          operands = omega (arith, few);
+          registers = omega (arith, few, few_params);
+          labels = omega (arith, few);
+        };
+      }
+
   -- and what they make is ready for allocation
   pub ready : {p : Mach} → IsPrepared (selected tree) p → prepared.IsKept (selected tree) p
   ready {p} is = prepared_kept (selected tree) p selected_preparable is
@@ -73,6 +98,20 @@ module _ {defined : List ℕ → Option DefinedSymbol} {tree : FunctionTree} (ac
   pub carried : {p : Mach} → prepared.IsKept (selected tree) p →
       IsCarried (copy_words * (operand_count (selected tree).code + 3 * (2 * (tree.tokens - all_tries tree.body)))) (selected tree) p
   carried made = made.carried (2 * (tree.tokens - all_tries tree.body)) promise.open_registers
+
+  -- which has numbers too
+  pub prepared_room : {p : Mach} → IsPrepared (selected tree) p → HasRoom allocated_size p
+  prepared_room {p} is =
+      record {
+        size = prepared_size (length (selected tree).params) (size_by tree.tokens);
+        within = (ready is).size (size_by tree.tokens) promise.size;
+        small = record {
+          places = omega (arith, few);
+          operands = omega (arith, few);
+          registers = omega (arith, few, few_params);
+          labels = omega (arith, few);
+        };
+      }
 
   module _ {p q : Mach} (is : IsPrepared (selected tree) p) (allocated : IsAllocated p q) where
     kept : rounds.IsKept p q
