@@ -1,6 +1,6 @@
-use Rattle.std.proofs.Common.{◌≡◌, ◌∙◌, ℕ, List, [], Option, Some, map, ap, sym}
+use Rattle.std.proofs.Common.{◌≡◌, ◌∙◌, ℕ, false, List, [], Option, Some, IsTrue, map, ap, sym}
 use Rattle.std.specs.Prelude.{slice_get, slice_index, option_copied}
-use Rattle.std.proofs.lemmas.Option.{slice_get-get_or}
+use Rattle.std.proofs.lemmas.Option.{slice_get_past, slice_get-get_or}
 use Rattle.bs_words.specs.Contents.{contents}
 use Rattle.bs_words.specs.Memory.{Memory, end_of_data}
 use Rattle.bs_words.specs.Observed.{Made}
@@ -17,10 +17,23 @@ use Rattle.cmm_eval.specs.Stands.{functions_in, activated_held, whole}
 use Rattle.cmm_eval.specs.Views.{layout_view, here_view, world_view, outcome_view, call_view}
 use Rattle.cmm_eval.specs.declared.here.Here as here
 use Rattle.cmm_eval.specs.declared.world.World as world
-use Rattle.cmm_eval.proofs.Called.{copied_get, first_stands}
+use Rattle.cmm_eval.proofs.Called.{copied_get, entry_missing, first_stands}
 use Rattle.cmm_eval.proofs.Passing.{finished_back}
 use Rattle.cmm_eval.proofs.HeldCalls.{run_held}
 use Rattle.cmm_eval.proofs.evaluation.eval.Goals as goal
+
+not_true : IsTrue false → ⊥
+not_true t = cc
+
+-- an entry that fits is a function of the file
+pub unreachable-requires : goal.unreachable-requires
+unreachable-requires c =
+    let k = c.args.entry in
+    let functions = c.in_ok-functions.functions.items in
+    not_true ((entry_missing c.args.file.now k c.args.args.now
+    (sym (copied_get functions k ∙ ap (λ l. slice_get l k) c.in_ok-functions.ensures)
+    ∙ ap (λ l. option_copied (slice_get l k)) (sym c.deref.ensures.value)
+    ∙ ap option_copied (slice_get_past c.deref.result.now k c.in_default.ensures.lookup.3))).1 c.requires.entry)
 
 pub run-requires : goal.run-requires
 run-requires c = record {
