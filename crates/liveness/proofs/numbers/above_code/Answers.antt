@@ -21,12 +21,12 @@ returns c =
     subst (λ xs. IsAboveCode c.args.bound xs c.loop-instr.above_all) (take_all c.loop-instr.instr-index c.args.code.now c.loop-instr-test.false)
     c.loop-instr.invariant
 
-pub above-requires : goal.above-requires
-above-requires c =
+pub above-above_args-requires : goal.above-above_args-requires
+above-above_args-requires c =
     args_all (λ (r : Reg). suc r.number < number_limit) c.args.code.now c.loop-instr.instr-index c.instr-item.result c.as_slice.result.now c.requires
     c.loop-instr-test.true c.instr-item.is c.as_slice.ensures
 
-pub above-requires-2 : goal.above-requires-2
-above-requires-2 c =
+pub above-above_all-requires : goal.above-above_all-requires
+above-above_all-requires c =
     results_all (λ (r : Reg). suc r.number < number_limit) c.args.code.now c.loop-instr.instr-index c.instr-item.result
     c.as_slice-in-loop-instr.result.now c.requires c.loop-instr-test.true c.instr-item.is c.as_slice-in-loop-instr.ensures

@@ -16,14 +16,14 @@ returns-clause-least c =
     c.above-above_colours.ensures)
     (subst (λ xs. IsAboveCode c.above-above_colours.result xs c.above_code.result) c.as_slice-3.ensures c.above_code.ensures)
 
-pub above-requires : goal.above-requires
-above-requires c =
+pub above-above_params-requires : goal.above-above_params-requires
+above-above_params-requires c =
     let P = λ (r : Reg). suc r.number < number_limit in
     subst (All P) (sym c.as_slice.ensures)
     (members P c.args.mach.now.params (λ r d. next_fits c.args.mach.now c.requires.countable r (is_param d)))
 
-pub above-requires-2 : goal.above-requires-2
-above-requires-2 c =
+pub above-above_colours-requires : goal.above-above_colours-requires
+above-above_colours-requires c =
     let P = λ (r : Reg). suc r.number < number_limit in
     subst (All P) (sym c.as_slice-2.ensures)
     (members P c.args.mach.now.colours (λ r d. next_fits c.args.mach.now c.requires.countable r (is_colour d)))
