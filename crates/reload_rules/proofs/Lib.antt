@@ -1,5 +1,7 @@
 pub mod Numbers
 pub mod Text
+pub mod Copies
+pub mod Room
 pub mod Killed
 pub mod Live
 pub mod Calm

@@ -2,27 +2,18 @@
 use Rattle.std.proofs.Common.{◌≡◌, ℕ, ◌+◌, ◌<◌, ◌≤◌, Bool, true, false, cond, List, [], ◌∷◌, ◌++◌, length, refl, sym, ap, ◌∙◌, subst, arith}
 use Rattle.std.proofs.lemmas.Bool.{eq-eqb, eqb-true}
 use Rattle.std.specs.Prelude.{nat_eq}
-use Rattle.mach_ir.specs.Sizes.{operand_count}
 use Rattle.mach_ir.specs.Walks.{Stands, here, below, IsRegister}
 use Rattle.mach_ir.specs.declared.reg.Reg.{Reg}
 use Rattle.mach_ir.specs.declared.mach.Instr.{Instr}
 use Rattle.mach_ir.specs.declared.mach.Mach.{Mach}
 use Rattle.mach_laws.specs.Expand.{expand}
 use Rattle.mach_laws.proofs.Places.{shorter}
-use Rattle.reload_rules.specs.Reloaded.{reads_registers, writes_registers, number_after, number_past, past_instr, reloaded_instr, reloaded_code, reloaded}
+use Rattle.pass_rules.specs.Measures.{operands_with, other_operands}
+use Rattle.reload_rules.specs.Reloaded.{reads_registers, writes_registers, number_past, past_instr, reloaded_instr, reloaded_code, reloaded}
+use Rattle.reload_rules.proofs.Copies.{few_past}
 use Rattle.reload_rules.proofs.Live.{IsNumbering, reloaded_by}
-use Rattle.reload_rules.proofs.Numbers.{after_few, past_rises}
+use Rattle.reload_rules.proofs.Numbers.{past_rises}
 use Rattle.reload_rules.proofs.Text.{laid_instr}
-
-past_few : (b : Bool) (n : ℕ) (rs : List Reg) → number_past b n rs ≤ n + length rs
-past_few b n [] = omega arith
-past_few b n (r ∷ rs) =
-    let x = past_few b (number_after b n r) rs in let y = after_few b n r in omega (arith, x, y)
-
-instr_few : (n : ℕ) (i : Instr) → past_instr n i ≤ n + (length i.args + length i.results)
-instr_few n i =
-    let x = past_few (reads_registers i.op) n i.args in
-    let y = past_few (writes_registers i.op) (number_past (reads_registers i.op) n i.args) i.results in omega (arith, x, y)
 
 instr_rises : (n : ℕ) (i : Instr) → n ≤ past_instr n i
 instr_rises n i =
@@ -70,17 +61,18 @@ rises_past (k ∷ is) n i j next rest (below s) t =
 rises_past [] n i j next rest s t = elim s [ ]
 
 below_all : (code : List Instr) (n : ℕ) (i : Instr) (next : List Instr) → Stands i next code →
-    past_instr (start_at code n (length next)) i ≤ n + operand_count code
+    past_instr (start_at code n (length next)) i ≤ n + other_operands code
 below_all (k ∷ is) n i next here =
-    let x = instr_few n i in
-    subst (λ a. past_instr a i ≤ n + operand_count (i ∷ is)) (sym (at_head i is n)) (more n (past_instr n i) (length i.args + length i.results) (operand_count is) x)
+    let x = few_past n i in
+    subst (λ a. past_instr a i ≤ n + other_operands (i ∷ is)) (sym (at_head i is n))
+    (more n (past_instr n i) (operands_with i.op i.args i.results) (other_operands is) x)
   where
     more : (n p h c : ℕ) → p ≤ n + h → p ≤ n + (h + c)
     more n p h c x = omega (arith, x)
 below_all (k ∷ is) n i next (below s) =
-    subst (λ a. past_instr a i ≤ n + operand_count (k ∷ is)) (sym (at_tail k is n (length next) (shorter s)))
-    (more n (past_instr (start_at is (past_instr n k) (length next)) i) (past_instr n k) (length k.args + length k.results) (operand_count is)
-    (instr_few n k) (below_all is (past_instr n k) i next s))
+    subst (λ a. past_instr a i ≤ n + other_operands (k ∷ is)) (sym (at_tail k is n (length next) (shorter s)))
+    (more n (past_instr (start_at is (past_instr n k) (length next)) i) (past_instr n k) (operands_with k.op k.args k.results) (other_operands is)
+    (few_past n k) (below_all is (past_instr n k) i next s))
   where
     more : (n p a h c : ℕ) → a ≤ n + h → p ≤ a + c → p ≤ n + (h + c)
     more n p a h c x y = omega (arith, x, y)
@@ -99,7 +91,7 @@ abbrev pub numbering : ℕ → Mach → ℕ → ℕ
 numbering free m = start_at m.code free
 
 pub is_numbering : (m : Mach) (free : ℕ) → ((r : Reg) → IsRegister m r → r.number < free) →
-    IsNumbering m (numbering free m) free (free + operand_count m.code)
+    IsNumbering m (numbering free m) free (free + other_operands m.code)
 is_numbering m free above =
     record {
       above = above;

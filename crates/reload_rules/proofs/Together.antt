@@ -1,26 +1,28 @@
 -- What reloading makes of a function is kept, and is one function.
-use Rattle.std.proofs.Common.{◌≡◌, ℕ, ◌+◌, ◌*◌, ◌≤◌, Bool, true, false, refl, ap, subst, arith}
+use Rattle.std.proofs.Common.{◌≡◌, ℕ, ◌+◌, Bool, true, false, refl, ap, subst, arith}
 use Rattle.std.proofs.lemmas.Bool.{both_ways}
 use Rattle.std.proofs.Math.Nat.{le_antisymm}
 use Rattle.mach_ir.specs.Formed.{WellFormed}
 use Rattle.mach_ir.specs.Placed.{Colouring, IsColouring, WellPlaced}
-use Rattle.mach_ir.specs.Sizes.{operand_count}
+use Rattle.mach_ir.specs.Sizes.{HasSize}
 use Rattle.mach_ir.specs.Walks.{IsRegister, Joined}
 use Rattle.mach_ir.proofs.Keeping.{keeps_then}
 use Rattle.mach_ir.specs.declared.mach.Mach.{Mach}
-use Rattle.mach_laws.proofs.Grows.{within_more}
+use Rattle.pass_rules.specs.Measures.{other_operands}
 use Rattle.places_rules.specs.Places.{ColoursLow, recoloured}
 use Rattle.places_rules.proofs.Colouring.{coloured_kept}
 use Rattle.places_rules.proofs.Open.{not_open}
 use Rattle.places_rules.proofs.Text.{placed_formed}
 use Rattle.places_rules.proofs.Walked.{no_addr_before}
 use Rattle.places_rules.proofs.Whole.{placed_keeps, placed_well, placed_seated, placed_size, placed_slots}
-use Rattle.reload_rules.specs.Kept.{IsKept}
+use Rattle.reload_rules.specs.Kept.{with_copies, IsKept}
 use Rattle.reload_rules.specs.Reloaded.{any_needs, reloaded, to_slots, in_slots, IsFree, IsReloadedBy, is_coloured, asks_again}
+use Rattle.reload_rules.proofs.Copies.{placed_others}
 use Rattle.reload_rules.proofs.Formed.{reloaded_formed}
 use Rattle.reload_rules.proofs.Live.{IsNumbering, reloaded_by}
 use Rattle.reload_rules.proofs.Numbering.{numbering, is_numbering, numbered_same}
 use Rattle.reload_rules.proofs.Placed.{reloaded_placed, reloaded_low, reloaded_seated}
+use Rattle.reload_rules.proofs.Room.{with_more}
 use Rattle.reload_rules.proofs.Slotted.{slots_placing, slots_least, slots_low, slots_above, coloured_needs}
 use Rattle.reload_rules.proofs.Whole.{reloaded_keeps, reloaded_no_addr, reloaded_slots, reloaded_size, reloaded_registers}
 
@@ -38,19 +40,9 @@ module _ (m : Mach) (place : Colouring) (formed : WellFormed m) (well : WellPlac
         colours_low = λ r k c i u. absurd (not_open k ((kept.placed).places k i) u);
         no_addr = kept.no_addr;
         in_registers = coloured_needs m place formed well colouring none;
-        size = λ s h.
-            within_more (kept.size s h) (more s.instrs s.operands) (times s.operands) (more s.registers s.operands) (same s.labels);
+        size = λ s h. with_more (other_operands m.code) (kept.size s h);
         slots = kept.slots;
       }
-    where
-      more : (a b : ℕ) → a ≤ a + b
-      more a b = omega arith
-
-      times : (a : ℕ) → a ≤ 3 * a
-      times a = omega arith
-
-      same : (a : ℕ) → a ≤ a
-      same a = omega arith
 
   abbrev m1 : Mach
   m1 = in_slots place m
@@ -62,14 +54,14 @@ module _ (m : Mach) (place : Colouring) (formed : WellFormed m) (well : WellPlac
   formed_there = placed_formed (to_slots place) m formed
 
   module _ (free : ℕ) (is_free : IsFree m free) where
-    numbers : IsNumbering (in_slots place m) (numbering free (in_slots place m)) free (free + operand_count (in_slots place m).code)
+    numbers : IsNumbering (in_slots place m) (numbering free (in_slots place m)) free (free + other_operands (in_slots place m).code)
     numbers = is_numbering (in_slots place m) free (slots_above m place formed well colouring free is_free.above)
 
     abbrev s : ℕ → ℕ
     s = numbering free (in_slots place m)
 
     abbrev top : ℕ
-    top = free + operand_count (in_slots place m).code
+    top = free + other_operands (in_slots place m).code
 
     of_numbered : IsKept m (reloaded_by (numbering free (in_slots place m)) (in_slots place m)) true
     of_numbered =
@@ -88,9 +80,10 @@ module _ (m : Mach) (place : Colouring) (formed : WellFormed m) (well : WellPlac
               (no_addr_before m (to_slots place) well (slots_placing m place formed well colouring) h);
           in_registers = reloaded_registers m1 s free top formed_there well_there numbers;
           size = λ size h.
-              let there = placed_size m (to_slots place) size h in
-              reloaded_size m1 s free top formed_there well_there numbers size (size.registers + size.operands) there (omega arith)
-              (sum free (operand_count m1.code) size.registers size.operands (is_free.least size.registers h.numbers) there.operands);
+              let same = placed_others (to_slots place) m.code in
+              let least = is_free.least size.registers h.numbers in
+              subst (λ n. HasSize (reloaded_by s m1) (with_copies n size)) same
+              (reloaded_size m1 s free top formed_there well_there numbers size (placed_size m (to_slots place) size h) (omega (arith, least)));
           slots = λ k few.
               let grown = placed_slots m formed (to_slots place) (slots_placing m place formed well colouring) k few in
               record {
@@ -99,9 +92,6 @@ module _ (m : Mach) (place : Colouring) (formed : WellFormed m) (well : WellPlac
                 all = λ slot h. grown.all slot (reloaded_slots m1 s free top formed_there well_there numbers slot h);
               };
         }
-      where
-        sum : (a b c d : ℕ) → a ≤ c → b ≤ d → a + b ≤ c + d
-        sum a b c d x y = omega (arith, x, y)
 
     of_reloaded : IsKept m (reloaded free (in_slots place m)) true
     of_reloaded = subst (λ q. IsKept m q true) (numbered_same (in_slots place m) free) of_numbered

@@ -1,31 +1,31 @@
 -- What a function with reloads and spills keeps.
-use Rattle.std.proofs.Common.{◌≡◌, ℕ, ◌+◌, suc, ◌*◌, ◌<◌, ◌≤◌, Bool, true, false, cond, inl, ⊎_elim, List, [], ◌∷◌, ◌++◌, length, refl, sym, ap, ◌∙◌, subst, arith}
+use Rattle.std.proofs.Common.{◌≡◌, ℕ, ◌+◌, suc, ◌<◌, ◌≤◌, Bool, true, false, cond, inl, ⊎_elim, List, [], ◌∷◌, ◌++◌, refl, sym, ap, ◌∙◌, subst, arith}
 use Rattle.std.specs.Prelude.{◌||◌}
 use Rattle.bs_words.specs.declared.types.Loc.{Loc}
 use Rattle.bs_words.specs.declared.types.Loc.TheVariants as loc
-use Rattle.std.proofs.lemmas.List.{length-append}
 use Rattle.std.proofs.lemmas.Bool.{both_ways, false≢true}
 use Rattle.mach_ir.specs.Acts.{Target, On, At}
 use Rattle.mach_ir.specs.Formed.{WellFormed}
 use Rattle.mach_ir.specs.Keeps.{Keeps, IsLoose, is_slot, HasOrigin, NamesSymbol, NamesExternal, IsNamedIn}
 use Rattle.mach_ir.specs.Meaning.{after_label, from_handler, code_at, passes_frame, tries_at}
 use Rattle.mach_ir.specs.Placed.{WellPlaced}
-use Rattle.mach_ir.specs.Sizes.{operand_count, Size, HasSize}
+use Rattle.mach_ir.specs.Sizes.{Size, HasSize}
 use Rattle.mach_ir.specs.Walks.{OneOf, this, other, targets, may_raise, goes, raises, Reached, at_entry, by_step, by_raise, LiveAcross, across_step, across_raise, Live, on, aside, IsRegister, NoAddrLive}
 use Rattle.mach_ir.specs.declared.op.CopyKind.{CopyKind}
-use Rattle.mach_ir.specs.declared.op.CopyKind.TheVariants as copy
 use Rattle.mach_ir.specs.declared.reg.Reg.{Reg}
 use Rattle.mach_ir.specs.declared.mach.MachOp.{MachOp}
 use Rattle.mach_ir.specs.declared.mach.Instr.{Instr}
 use Rattle.mach_ir.specs.declared.mach.Mach.{Mach}
 use Rattle.mach_laws.specs.Expand.{expand, Ending, all}
-use Rattle.mach_laws.proofs.Grows.{held, instrs_expand, operands_expand, operands_append}
 use Rattle.mach_laws.proofs.Places.{label_expand, handler_expand, ending_label, ending_from_handler}
+use Rattle.pass_rules.specs.Measures.{other_operands}
 use Rattle.places_rules.specs.Places.{IsSlot}
 use Rattle.places_rules.proofs.Open.{slot_open}
 use Rattle.split_rules.proofs.Formed.{contains_of}
 use Rattle.spill_rules.specs.Spilled.{copied}
-use Rattle.reload_rules.specs.Reloaded.{reads_registers, writes_registers, is_in_slot, is_renewed, fresh, number_after, renewed, reloads, spills, any_renewed, needs_registers, any_needs, results_from, renewed_instr}
+use Rattle.reload_rules.specs.Kept.{with_copies}
+use Rattle.reload_rules.specs.Reloaded.{reads_registers, writes_registers, is_in_slot, is_renewed, fresh, number_after, renewed, any_renewed, needs_registers, any_needs}
+use Rattle.reload_rules.proofs.Copies.{code_instrs, code_operands}
 use Rattle.reload_rules.proofs.Kept.{live_register, does_reloaded}
 use Rattle.reload_rules.proofs.Live.{IsNumbering, reloaded_by, Stage, Before, Reading, Storing, Laid, begins, reload, passes_operand, main, spill, passes_result, ends, laid_of, laid_tries, across_back}
 use Rattle.reload_rules.proofs.Parts.{first_operand, first_result, main_for, spills_for, laid_out, IsCopy, is_copy, main_op, part_in}
@@ -36,34 +36,6 @@ pub slot_of : (l : Loc) → is_in_slot l ≡ true → (k : ℕ) × (l ≡ loc.Sl
 slot_of (loc.Slot k) e = (k, refl)
 slot_of (loc.Machine n) e = absurd (false≢true e)
 slot_of loc.Unset e = absurd (false≢true e)
-
--- ---- how many
-
-pub same_length : (b : Bool) (n : ℕ) (rs : List Reg) → length (renewed b n rs) ≡ length rs
-same_length b n [] = refl
-same_length b n (r ∷ rs) = ap suc (same_length b (number_after b n r) rs)
-
-few_reloads : (b : Bool) (n : ℕ) (rs : List Reg) → (length (reloads b n rs) ≤ length rs) × (operand_count (reloads b n rs) ≤ 2 * length rs)
-few_reloads b n [] = (omega arith, omega arith)
-few_reloads b n (r ∷ rs) = by (is_renewed b r) (few_reloads b (suc n) rs) (few_reloads b n rs)
-  where
-    by : (t : Bool) → (length (reloads b (suc n) rs) ≤ length rs) × (operand_count (reloads b (suc n) rs) ≤ 2 * length rs) →
-        (length (reloads b n rs) ≤ length rs) × (operand_count (reloads b n rs) ≤ 2 * length rs) →
-        (length (cond t (copied copy.Reload r (fresh n r) ∷ reloads b (suc n) rs) (reloads b n rs)) ≤ length (r ∷ rs))
-        × (operand_count (cond t (copied copy.Reload r (fresh n r) ∷ reloads b (suc n) rs) (reloads b n rs)) ≤ 2 * length (r ∷ rs))
-    by true h g = let x = h.0 in let y = h.1 in (omega (arith, x), omega (arith, y))
-    by false h g = let x = g.0 in let y = g.1 in (omega (arith, x), omega (arith, y))
-
-few_spills : (b : Bool) (n : ℕ) (rs : List Reg) → (length (spills b n rs) ≤ length rs) × (operand_count (spills b n rs) ≤ 2 * length rs)
-few_spills b n [] = (omega arith, omega arith)
-few_spills b n (r ∷ rs) = by (is_renewed b r) (few_spills b (suc n) rs) (few_spills b n rs)
-  where
-    by : (t : Bool) → (length (spills b (suc n) rs) ≤ length rs) × (operand_count (spills b (suc n) rs) ≤ 2 * length rs) →
-        (length (spills b n rs) ≤ length rs) × (operand_count (spills b n rs) ≤ 2 * length rs) →
-        (length (cond t (copied copy.Spill (fresh n r) r ∷ spills b (suc n) rs) (spills b n rs)) ≤ length (r ∷ rs))
-        × (operand_count (cond t (copied copy.Spill (fresh n r) r ∷ spills b (suc n) rs) (spills b n rs)) ≤ 2 * length (r ∷ rs))
-    by true h g = let x = h.0 in let y = h.1 in (omega (arith, x), omega (arith, y))
-    by false h g = let x = g.0 in let y = g.1 in (omega (arith, x), omega (arith, y))
 
 -- ---- none is left in a slot
 
@@ -270,50 +242,32 @@ module _ (m : Mach) (s : ℕ → ℕ) (free top : ℕ) (formed : WellFormed m) (
 
   -- ---- sizes
 
-  few_instrs : (k : ℕ) (i : Instr) → length (f k i) ≤ suc (held i)
-  few_instrs k i =
-      let a = (few_reloads (reads_registers i.op) (s k) i.args).0 in
-      let b = (few_spills (writes_registers i.op) (results_from (s k) i) i.results).0 in
-      let z = length-append (reloads (reads_registers i.op) (s k) i.args) (renewed_instr (s k) i ∷ spills (writes_registers i.op) (results_from (s k) i) i.results) in
-      omega (arith, a, b, z)
-
-  few_operands : (k : ℕ) (i : Instr) → operand_count (f k i) ≤ 3 * held i
-  few_operands k i =
-      let a = (few_reloads (reads_registers i.op) (s k) i.args).1 in
-      let b = (few_spills (writes_registers i.op) (results_from (s k) i) i.results).1 in
-      let x = same_length (reads_registers i.op) (s k) i.args in
-      let y = same_length (writes_registers i.op) (results_from (s k) i) i.results in
-      let z = operands_append (reloads (reads_registers i.op) (s k) i.args)
-      (renewed_instr (s k) i ∷ spills (writes_registers i.op) (results_from (s k) i) i.results) in
-      omega (arith, a, b, x, y, z)
-
-  pub reloaded_size : (size : Size) (registers : ℕ) → HasSize m size → size.registers ≤ registers → top ≤ registers →
-      HasSize (reloaded_by s m)
-      (record size { instrs = size.instrs + size.operands; operands = 3 * size.operands; registers = registers })
-  reloaded_size size registers h le high =
-      let instrs = instrs_expand f few_instrs m.code in
-      let operands = operands_expand f 3 few_operands m.code in
+  pub reloaded_size : (size : Size) → HasSize m size → top ≤ size.registers + other_operands m.code →
+      HasSize (reloaded_by s m) (with_copies (other_operands m.code) size)
+  reloaded_size size h high =
+      let instrs = code_instrs s m.code in
+      let operands = code_operands s m.code in
       let a = h.instrs in
       let b = h.operands in
       record {
-        instrs = omega (arith, instrs, a, b);
+        instrs = omega (arith, instrs, a);
         operands = omega (arith, operands, b);
         numbers = λ r i. number r (old r i);
         origins = λ r i. origin r (old r i);
         labels = h.labels;
       }
     where
-      number : (r : Reg) → WasRegister m s free top formed placed is r → r.number < registers
-      number r (is_old a) = let lt = h.numbers r a in omega (arith, lt, le)
+      number : (r : Reg) → WasRegister m s free top formed placed is r → r.number < size.registers + other_operands m.code
+      number r (is_old a) = let lt = h.numbers r a in omega (arith, lt)
       number r (is_new i next x w t c g) =
           let lt = made_top m s free top formed placed is t c in
           let e : x ≡ r.number = ap (λ (r : Reg). r.number) g in omega (arith, lt, high, e)
 
-      origin : (r : Reg) → WasRegister m s free top formed placed is r → r.origin < registers
-      origin r (is_old a) = let lt = h.origins r a in omega (arith, lt, le)
+      origin : (r : Reg) → WasRegister m s free top formed placed is r → r.origin < size.registers + other_operands m.code
+      origin r (is_old a) = let lt = h.origins r a in omega (arith, lt)
       origin r (is_new i next x w t c g) =
           let lt = h.origins w (made_register m s free top formed placed is t c) in
-          let e : w.origin ≡ r.origin = ap (λ (r : Reg). r.origin) g in omega (arith, lt, le, e)
+          let e : w.origin ≡ r.origin = ap (λ (r : Reg). r.origin) g in omega (arith, lt, e)
 
   -- ---- none needs a register
 

@@ -7,8 +7,14 @@ use Rattle.mach_ir.specs.Seats.{Seated}
 use Rattle.mach_ir.specs.Sizes.{Size, HasSize, OpenAtMost}
 use Rattle.mach_ir.specs.Walks.{NoAddrLive}
 use Rattle.mach_ir.specs.declared.mach.Mach.{Mach}
+use Rattle.pass_rules.specs.Measures.{other_operands}
 use Rattle.places_rules.specs.Places.{ColoursLow, SlotsGrow}
 use Rattle.reload_rules.specs.Reloaded.{any_needs}
+
+-- so many copies more, each with an operand, a result and a register of its own
+abbrev pub with_copies : (copies : ℕ) → Size → Size
+with_copies n s =
+    record s { instrs = s.instrs + n; operands = s.operands + 2 * n; registers = s.registers + n }
 
 pub record IsKept (m q : Mach) (asks : Bool) : Type 0 where
   -- it does what the first does
@@ -22,13 +28,7 @@ pub record IsKept (m q : Mach) (asks : Bool) : Type 0 where
   pub no_addr : NoAddrLive m → NoAddrLive q
   -- no operand or result of an operation other than a copy stands in a slot
   pub in_registers : any_needs q.code ≡ false
-  -- at most a copy and a register for each operand and result
-  pub size : (s : Size) → HasSize m s →
-      HasSize q
-      (record s {
-        instrs = s.instrs + s.operands;
-        operands = 3 * s.operands;
-        registers = s.registers + s.operands;
-      })
+  -- at most a copy and a register for each operand and result of another instruction than a copy
+  pub size : (s : Size) → HasSize m s → HasSize q (with_copies (other_operands m.code) s)
   -- at most as many slots are new as registers were open
   pub slots : (open_ones : ℕ) → OpenAtMost m open_ones → SlotsGrow m q open_ones

@@ -22,7 +22,7 @@ use Rattle.pass_rules.proofs.Carried.{ends_second, returns_alone}
 use Rattle.places_rules.specs.Places.{Placing, placed, all_placed, placed_instr, placed_code}
 use Rattle.reload_rules.specs.Reloaded.{is_copy, reads_registers, writes_registers, renewed, reloads, spills, number_past, results_from, past_instr, renewed_instr, reloaded_instr, reloaded_code}
 use Rattle.reload_rules.proofs.Text.{no_reloads, no_spills, none_renewed}
-use Rattle.reload_rules.proofs.Whole.{same_length}
+use Rattle.reload_rules.proofs.Copies.{same_length}
 use Rattle.rounds_rules.proofs.Feeding.{IsSound, slot_stays, machine_stays, AreHomed, after, sound_after, twice_instr, placed_append, FedBy, fed_at_first, fed_words, fed_placed, fed_reloaded, fed_spilled}
 
 -- ---- copies

@@ -1,5 +1,5 @@
 -- An allocated function is what it was, each of its registers has a place, and of the copies that rounds leave few have words.
-use Rattle.std.proofs.Common.{◌≡◌, ◌⊎◌, inl, inr, ℕ, suc, ◌+◌, ◌*◌, ◌≤◌, Bool, true, false, cond, List, [], ◌∷◌, ◌++◌, length, All, refl, sym, ap, ◌∙◌, subst, arith}
+use Rattle.std.proofs.Common.{◌≡◌, ◌⊎◌, inl, inr, ℕ, suc, ◌+◌, ◌*◌, ◌<◌, ◌≤◌, Bool, true, false, List, [], ◌∷◌, length, All, refl, sym, ap, ◌∙◌, subst, arith}
 use Rattle.std.specs.Prelude.{Contains}
 use Rattle.std.proofs.Math.Nat.{mul-le-mul_right, suc-mul}
 use Rattle.std.proofs.lemmas.List.Elements.{All-nil, All-cons, All-head, All-tail}
@@ -14,6 +14,7 @@ use Rattle.mach_ir.specs.Meaning.{tries_at}
 use Rattle.mach_ir.specs.Placed.{Colouring, FullyPlaced, IsColouring, IsPlaced, WellPlaced}
 use Rattle.mach_ir.specs.Placed as placings
 use Rattle.mach_ir.specs.Seats.{Seated}
+use Rattle.mach_ir.specs.Sizes.{Size, HasSize, HasRoom}
 use Rattle.mach_ir.specs.Walks.{InCode, in_args, in_results, further, IsRegister, is_in_code, Joined, Stands, here, below}
 use Rattle.mach_ir.specs.declared.op.Leaving.TheVariants as leaving
 use Rattle.mach_ir.specs.declared.op.Op.{Op}
@@ -28,15 +29,19 @@ use Rattle.mach_laws.proofs.Colouring.{colouring_of}
 use Rattle.mach_laws.proofs.Instructions.{return_results}
 use Rattle.pass_rules.specs.Carried.{IsCarried, OffsetFits}
 use Rattle.pass_rules.specs.Measures.{code_words, copy_words, other_operands}
+use Rattle.pass_rules.proofs.Operands.{others_few}
 use Rattle.places_rules.specs.Places.{Placing, all_placed, placed_code, recoloured, rest_in_slots, last_resort, or_slot, ColoursLow}
 use Rattle.places_rules.proofs.Open.{machine_open, slot_open, machine_slot, not_open}
 use Rattle.places_rules.proofs.Rest.{rest_keeps, rest_placed, rest_formed, rest_seated}
-use Rattle.reload_rules.specs.Reloaded.{slot_or, to_slots, in_slots, reloads, spills, reads_registers, writes_registers, results_from, past_instr, renewed_instr, reloaded_instr, reloaded_code, is_renewed, IsReloadedBy, is_coloured, asks_again}
+use Rattle.reload_rules.specs.Kept.{with_copies}
+use Rattle.reload_rules.specs.Reloaded.{slot_or, to_slots, in_slots, reloaded_code, IsReloadedBy, is_coloured, asks_again}
+use Rattle.reload_rules.proofs.Copies.{code_instrs, placed_others}
+use Rattle.reload_rules.proofs.Numbering.{numbering, numbered_same}
+use Rattle.reload_rules.proofs.Room.{with_more, with_both, small_both}
 use Rattle.reload_rules.proofs.Together.{reloaded_kept}
-use Rattle.rounds_rules.specs.Rounds.{IsRound, Asked, none_yet, one_more, most_rounds, Ends, asks_no_more, gives_up, IsAllocated, IsKept}
+use Rattle.rounds_rules.specs.Rounds.{IsRound, Asked, none_yet, one_more, most_rounds, allocated_size, Ends, asks_no_more, gives_up, IsAllocated, IsKept}
 use Rattle.rounds_rules.proofs.Feeding.{MayStand, stays, in_colour, at_home, left_open, IsSound, IsHomed, stays_homed, AreHomed, none_homed, one_homed}
-use Rattle.rounds_rules.proofs.Grown as grown
-use Rattle.rounds_rules.proofs.Grown.{same_code, other_count, copy_operands, HomedCode, no_code, homed_then, Grown, grown_first, grown_placed, grown_reloaded, grown_words, grown_points, grown_exits, grown_operands, Shallow, grown_shallow, Fit, grown_fit, ReturnsNothing, grown_ends}
+use Rattle.rounds_rules.proofs.Grown.{HomedCode, no_code, homed_then, Grown, grown_first, grown_placed, grown_reloaded, grown_words, grown_points, grown_exits, grown_operands, Shallow, grown_shallow, Fit, grown_fit, ReturnsNothing, grown_ends}
 
 -- ---- placings of all registers that do as a colouring does
 
@@ -168,46 +173,6 @@ module _ (place : Placing) (sound : IsSound place) where
   code_homed (i ∷ is) h =
       homed_then (list_homed i.args (λ r c. h r (in_args c))) (list_homed i.results (λ r c. h r (in_results c))) (code_homed is (λ r c. h r (further c)))
 
--- ---- how long the code is
-
-long_append : (xs ys : List Instr) → length (xs ++ ys) ≡ length xs + length ys
-long_append [] ys = omega arith
-long_append (x ∷ xs) ys = let e = long_append xs ys in omega (arith, e)
-
-few_either : (b : Bool) (n : ℕ) (c : Instr) (xs ys : List Instr) → length xs ≤ n → length ys ≤ n → length (cond b (c ∷ xs) ys) ≤ suc n
-few_either true n c xs ys x y = omega (arith, x)
-few_either false n c xs ys x y = omega (arith, y)
-
-few_reloads : (b : Bool) (n : ℕ) (rs : List Reg) → length (reloads b n rs) ≤ length rs
-few_reloads b n [] = omega arith
-few_reloads b n (r ∷ rs) = few_either (is_renewed b r) (length rs) _ _ _ (few_reloads b (suc n) rs) (few_reloads b n rs)
-
-few_spills : (b : Bool) (n : ℕ) (rs : List Reg) → length (spills b n rs) ≤ length rs
-few_spills b n [] = omega arith
-few_spills b n (r ∷ rs) = few_either (is_renewed b r) (length rs) _ _ _ (few_spills b (suc n) rs) (few_spills b n rs)
-
-reloaded_long : (n : ℕ) (code : List Instr) → length (reloaded_code n code) ≤ length code + other_operands code
-reloaded_long n [] = omega arith
-reloaded_long n (i ∷ is) = by (grown.copies i.op) refl (λ k. reloaded_long k is)
-  where
-    by : (b : Bool) → grown.copies i.op ≡ b → ((k : ℕ) → length (reloaded_code k is) ≤ length is + other_operands is) →
-        length (reloaded_code n (i ∷ is)) ≤ suc (length is) + other_operands (i ∷ is)
-    by true c others =
-        let text = ap length (same_code i c n is) in
-        let rest = others n in
-        let none = copy_operands i.op i.args i.results c in
-        omega (arith, text, rest, none)
-    by false c others =
-        let front : length (reloads (reads_registers i.op) n i.args) ≤ length i.args = few_reloads (reads_registers i.op) n i.args in
-        let back : length (spills (writes_registers i.op) (results_from n i) i.results) ≤ length i.results = few_spills (writes_registers i.op) (results_from n i) i.results in
-        let count = other_count i.op i.args i.results c in
-        let rest = others (past_instr n i) in
-        let whole : length (reloaded_code n (i ∷ is)) ≡ length (reloaded_instr n i) + length (reloaded_code (past_instr n i) is) =
-        long_append (reloaded_instr n i) (reloaded_code (past_instr n i) is) in
-        let one : length (reloaded_instr n i) ≡ length (reloads (reads_registers i.op) n i.args) + suc (length (spills (writes_registers i.op) (results_from n i) i.results)) =
-        long_append (reloads (reads_registers i.op) n i.args) (renewed_instr n i ∷ spills (writes_registers i.op) (results_from n i) i.results) in
-        omega (arith, front, back, count, rest, whole, one)
-
 -- ---- from lists of facts and back
 
 shallow_of : (k : ℕ) (code : List Instr) → ((i : Instr) (next : List Instr) → Stands i next code → length (tries_at (i ∷ next)) ≤ k) → Shallow k code
@@ -263,6 +228,7 @@ record Standing (first : Mach) (rounds : ℕ) (m : Mach) : Type 0 where
   grown : Grown first.code m.code
   labels : m.labels ≡ first.labels
   instrs : length m.code ≤ length first.code + rounds * other_operands first.code
+  size : (s : Size) → HasSize first s → HasSize m (with_copies (rounds * other_operands first.code) s)
 
 module _ (m : Mach) (place : Colouring) (colouring : IsColouring (IsRegister m) (Joined m) place) where
   slots_agree : placed_code (by_slots place) m.code ≡ (in_slots place m).code
@@ -308,18 +274,14 @@ placed_long : (place : Placing) (code : List Instr) → length (placed_code plac
 placed_long place [] = refl
 placed_long place (i ∷ is) = ap suc (placed_long place is)
 
-placed_operands : (place : Placing) (code : List Instr) → IsSound place → other_operands (placed_code place code) ≡ other_operands code
-placed_operands place code sound = grown_operands (grown_placed place sound (grown_first code))
-
-reload_instrs : {m q : Mach} (place : Colouring) → IsColouring (IsRegister m) (Joined m) place → {asks : Bool} → IsReloadedBy m place q asks →
-    length q.code ≤ length m.code + other_operands m.code
-reload_instrs {m} place c (is_coloured e) = let same = placed_long (λ r. place r.number) m.code in omega (arith, same)
-reload_instrs {m} place c (asks_again {free = free} e h) =
-    let long = reloaded_long free (in_slots place m).code in
+reload_instrs : {m q : Mach} (place : Colouring) {asks : Bool} → IsReloadedBy m place q asks → length q.code ≤ length m.code + other_operands m.code
+reload_instrs {m} place (is_coloured e) = let same = placed_long (λ r. place r.number) m.code in omega (arith, same)
+reload_instrs {m} place (asks_again {free = free} e h) =
+    let text = ap (λ (q : Mach). length q.code) (numbered_same (in_slots place m) free) in
+    let long = code_instrs (numbering free (in_slots place m)) (in_slots place m).code in
     let same = placed_long (to_slots place) m.code in
-    let agree = ap other_operands (slots_agree m place c) in
-    let count = placed_operands (by_slots place) m.code (slots_sound place) in
-    omega (arith, long, same, agree, count)
+    let count = placed_others (to_slots place) m.code in
+    omega (arith, text, long, same, count)
 
 module _ {fresh : ℕ} where
   chosen : {m q : Mach} {asks : Bool} (r : IsRound fresh m q asks) → IsColouring (IsRegister m) (Joined m) (place_in r.colours)
@@ -330,7 +292,7 @@ module _ {fresh : ℕ} where
     next_round {rounds} {m} {q} s r =
         let place : Colouring = place_in r.colours in
         let kept = reloaded_kept m q place true s.formed s.well s.low (chosen r) r.reloaded in
-        let long = reload_instrs place (chosen r) r.reloaded in
+        let long = reload_instrs place r.reloaded in
         let so_far = s.instrs in
         let same = grown_operands s.grown in
         record {
@@ -343,8 +305,15 @@ module _ {fresh : ℕ} where
           labels = reload_labels place r.reloaded ∙ s.labels;
           instrs = by (rounds * other_operands first.code) (length first.code) (other_operands first.code) (suc rounds * other_operands first.code) long so_far same
               (suc-mul rounds (other_operands first.code));
+          size = λ size h.
+              with_both size (rounds * other_operands first.code) (other_operands m.code) (suc rounds * other_operands first.code)
+              (fits (rounds * other_operands first.code) same (suc-mul rounds (other_operands first.code)))
+              (kept.size (with_copies (rounds * other_operands first.code) size) (s.size size h));
         }
       where
+        fits : (k : ℕ) {n o t : ℕ} → o ≡ n → t ≡ k + n → k + o ≤ t
+        fits k same all = omega (arith, same, all)
+
         by : (k c n t : ℕ) {a b o : ℕ} → a ≤ b + o → b ≤ c + k → o ≡ n → t ≡ k + n → a ≤ c + t
         by k c n t one two same all = omega (arith, one, two, same, all)
 
@@ -358,6 +327,7 @@ module _ {fresh : ℕ} where
       grown = grown_first first.code;
       labels = refl;
       instrs = omega arith;
+      size = λ size h. with_more (0 * other_operands first.code) h;
     }
     standing (one_more a r) = next_round (standing a) r
 
@@ -367,6 +337,31 @@ module _ {fresh : ℕ} where
 
     pub still_placed : {rounds : ℕ} {m : Mach} → Asked fresh first rounds m → WellPlaced m
     still_placed a = let s = standing a in s.well
+
+    -- how large it is
+    pub still_within : {rounds : ℕ} {m : Mach} → Asked fresh first rounds m → (s : Size) → HasSize first s →
+        HasSize m (with_copies (rounds * other_operands first.code) s)
+    still_within a = let s = standing a in s.size
+
+    -- and that there is room for one round more, if there is for all
+    pub still_room : {rounds : ℕ} {m : Mach} → Asked fresh first rounds m → rounds < most_rounds → HasRoom allocated_size first →
+        HasRoom (with_copies (other_operands m.code)) m
+    still_room {rounds} {m} a few room =
+        let s = standing a in
+        let same = grown_operands s.grown in
+        let all = others_few first.code in
+        let operands = (room.within).operands in
+        let turns : suc rounds * other_operands first.code ≤ most_rounds * other_operands first.code = mul-le-mul_right (other_operands first.code) few in
+        record {
+          size = with_copies (rounds * other_operands first.code) room.size;
+          within = s.size room.size room.within;
+          small = small_both room.size (rounds * other_operands first.code) (other_operands m.code) (most_rounds * (room.size).operands)
+              (fits (rounds * other_operands first.code) turns same (suc-mul rounds (other_operands first.code)) all operands)
+              room.small;
+        }
+      where
+        fits : (k : ℕ) {n o c s t : ℕ} → t ≤ most_rounds * n → o ≡ n → t ≡ k + n → n ≤ c → c ≤ s → k + o ≤ most_rounds * s
+        fits k turns same all few operands = omega (arith, turns, same, all, few, operands)
 
 module _ {first : Mach} (formed : WellFormed first) where
   -- what is carried to a function each of whose registers has a place
@@ -393,7 +388,7 @@ module _ {first : Mach} (formed : WellFormed first) where
         let place : Colouring = place_in r.colours in
         let kept = reloaded_kept m q place false s.formed s.well s.low (chosen r) r.reloaded in
         let full : FullyPlaced q = kept.all_placed refl in
-        let long = reload_instrs place (chosen r) r.reloaded in
+        let long = reload_instrs place r.reloaded in
         let so_far = s.instrs in
         let same = grown_operands s.grown in
         let most = few_rounds (suc rounds) (other_operands first.code) few in

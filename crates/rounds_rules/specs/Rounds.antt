@@ -6,12 +6,14 @@ use Rattle.mach_ir.specs.Graph.{IsGraph, ColoursGraph, place_in}
 use Rattle.mach_ir.specs.Keeps.{Keeps}
 use Rattle.mach_ir.specs.Placed.{FullyPlaced}
 use Rattle.mach_ir.specs.Seats.{Seated}
+use Rattle.mach_ir.specs.Sizes.{Size}
 use Rattle.mach_ir.specs.declared.graph.Colours.{Colours}
 use Rattle.mach_ir.specs.declared.graph.Graph.{Graph}
 use Rattle.mach_ir.specs.declared.mach.Mach.{Mach}
 use Rattle.pass_rules.specs.Carried.{IsCarried}
 use Rattle.pass_rules.specs.Measures.{copy_words, other_operands}
 use Rattle.places_rules.specs.Places.{rest_in_slots}
+use Rattle.reload_rules.specs.Kept.{with_copies}
 use Rattle.reload_rules.specs.Reloaded.{IsFree, IsReloadedBy}
 
 -- One round: the graph of a function, its colouring, what reloading makes of the function by that, and
@@ -34,6 +36,11 @@ pub data Asked (fresh : ℕ) (first : Mach) : ℕ → Mach → Type 0 where
 -- after how many rounds allocation gives up
 abbrev pub most_rounds : ℕ
 most_rounds = 50
+
+-- How large a function is after all rounds: a round adds a copy and a register for an operand or result
+-- that stands in a slot, and no copy asks for another.
+abbrev pub allocated_size : Size → Size
+allocated_size s = with_copies (most_rounds * s.operands) s
 
 -- Either the last round asks for no other, or after so many that each asked for another the first
 -- function is taken, with a slot for each register whose place is open.
