@@ -3,6 +3,7 @@ ghost use Rattle.std.specs.Prelude.{◌<◌, ◌↔◌, length, IfOk, IsTrue};
 ghost use Rattle.lin_ir.specs.declared.lin.Lin.{Lin};
 ghost use Rattle.lin_laws.specs.Graph.{AreNumbered, loc_of};
 ghost use Rattle.lin_flow.specs.Live.{ReadsOnFrom, ReadsOnAmong};
+ghost use Rattle.lin_flow.specs.Sizes.{IsCountable};
 ghost use Rattle.lin_flow.specs.Walked.{AreLive, IsReachedAt, IsReadAfter};
 
 use crate::labels::Labels;
@@ -30,13 +31,13 @@ pub struct LiveWalks {
 
 /// Searches where walks from the entry come, and what is live there as val.
 ///
-/// A function with more lines or slots than a number can count is want of memory.
+/// That walks come to more positions than a number can count is want of memory.
 pub fn live_walks(alloc: Global, lin: &Lin) -> Result<LiveWalks, AllocError>
-    requires { AreNumbered lin.now }
+    requires numbered { AreNumbered lin.now }
+    requires countable { IsCountable lin.now }
     ensures { IfOk result (AreLive lin.now) }
 {
-    let _last = number_after(lin.code.len())?;
-    let bound = bound_of(lin.slots)?;
+    let bound = bound_of(lin.slots);
     let labels = Labels::of_function(alloc, lin)?;
     let Walks { search, nodes } = search_walks(alloc, lin, &labels)?;
     let reached = number_after(nodes.len())?;
