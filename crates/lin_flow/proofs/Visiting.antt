@@ -23,7 +23,7 @@ use Rattle.lin_flow.proofs.Searching.{grown_then, grown_none, numbers_kept, push
 use Rattle.lin_flow.specs.Labels.{place_in, AreLabelsOf}
 use Rattle.mach_ir.specs.Labels.{place_to}
 use Rattle.lin_flow.specs.Nodes.{landing_to, steps_to, Landed, IsText, IsNodeOfLine, Visited, IsReady, AreWalkedTo, Spreads}
-use Rattle.lin_flow.specs.Search.{all_of, groups_of, Grown}
+use Rattle.lin_flow.specs.Search.{all_of, groups_of, Grown, AreCountable}
 use Rattle.lin_flow.specs.Sizes.{IsCountable, HaveSmall}
 use Rattle.lin_flow.specs.declared.labels.Labels.{Labels}
 use Rattle.lin_flow.specs.declared.search.Search.{Search}
@@ -277,6 +277,7 @@ module _ (m : Lin) where
         grouped = λ g. v.grown.grouped (h.grouped g);
         ready = record {
           groups = v.grown.len ∙ h.ready.groups;
+          countable = v.grown.countable h.ready.countable;
           fewer = omega (arith, lt, e, grows, len);
           are = subst (AreNodes m (m.slots + 32) (all_of new)) (sym is) (nodes_more s new nodes node h.ready v');
         };
@@ -284,11 +285,12 @@ module _ (m : Lin) where
 
   -- more positions, none of them visited
   pub still_ready : (s new : Search) (nodes : List place.Place) → IsReady m s nodes → length nodes ≡ length (all_of s) →
-      AreKept (all_of s) (all_of new) → length (groups_of new) ≡ length (groups_of s) → IsReady m new nodes
-  still_ready s new nodes h len kept groups =
+      AreKept (all_of s) (all_of new) → length (groups_of new) ≡ length (groups_of s) → (AreCountable s → AreCountable new) → IsReady m new nodes
+  still_ready s new nodes h len kept groups countable =
       let grows : length (all_of s) ≤ length (all_of new) = kept_length (all_of s) (all_of new) kept in
       record {
         groups = groups ∙ h.groups;
+        countable = countable h.countable;
         fewer = omega (arith, len, grows);
         are = λ q x node at is.
             let lt : q < length nodes = slice_get_within nodes q node is in

@@ -10,7 +10,7 @@ use Rattle.lin_laws.specs.declared.position.Position.{Position}
 use Rattle.lin_flow.specs.Labels.{AreLabelsOf, place_in}
 use Rattle.mach_ir.specs.Labels.{place_to}
 use Rattle.lin_laws.specs.Numbers.{val_numbers, written_numbers}
-use Rattle.lin_flow.specs.Search.{all_of, groups_of, Grown, AreGrouped}
+use Rattle.lin_flow.specs.Search.{all_of, groups_of, Grown, AreGrouped, AreCountable}
 use Rattle.lin_flow.specs.Sizes.{IsCountable}
 use Rattle.lin_flow.specs.declared.labels.Labels.{Labels}
 use Rattle.lin_flow.specs.declared.search.Search.{Search}
@@ -57,6 +57,7 @@ pub record Visited (m : Lin) (old new : Search) (number : ℕ) (node : place.Pla
 -- the first positions were visited
 pub record IsReady (m : Lin) (s : Search) (nodes : List place.Place) : Type 0 where
   pub groups : length (groups_of s) ≡ suc (length m.code)
+  pub countable : AreCountable s
   pub fewer : length nodes ≤ length (all_of s)
   pub are : AreNodes m (m.slots + 32) (all_of s) nodes
 

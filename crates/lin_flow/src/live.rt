@@ -9,7 +9,7 @@ ghost use Rattle.lin_flow.specs.Walked.{AreLive, IsReachedAt, IsReadAfter};
 use crate::labels::Labels;
 use crate::lines::bound_of;
 use crate::nodes::node_numbered;
-use crate::search::{Search, number_after};
+use crate::search::Search;
 use crate::walks::{Walks, search_walks};
 use bs_words::List;
 use dataflow::{Flow, Rows, live_in_any_order};
@@ -31,7 +31,7 @@ pub struct LiveWalks {
 
 /// Searches where walks from the entry come, and what is live there as val.
 ///
-/// That walks come to more positions than a number can count is want of memory.
+/// That walks come to more positions than there are numbers is want of memory.
 pub fn live_walks(alloc: Global, lin: &Lin) -> Result<LiveWalks, AllocError>
     requires numbered { AreNumbered lin.now }
     requires countable { IsCountable lin.now }
@@ -40,7 +40,7 @@ pub fn live_walks(alloc: Global, lin: &Lin) -> Result<LiveWalks, AllocError>
     let bound = bound_of(lin.slots);
     let labels = Labels::of_function(alloc, lin)?;
     let Walks { search, nodes } = search_walks(alloc, lin, &labels)?;
-    let reached = number_after(nodes.len())?;
+    let reached = nodes.len() as u32;
     let flow = Flow {
         places: List::from_vec(nodes),
         bound,

@@ -146,8 +146,8 @@ fn visit(
 
 /// The places of the graph that are positions, and every position to which control goes from one.
 ///
-/// Most functions have one position for each place. That there are more than a number can count is
-/// want of memory.
+/// Most functions have one position for each place. That one is left without a number is want of
+/// memory.
 pub fn spread(
     alloc: Global,
     lin: &Lin,
@@ -167,5 +167,6 @@ pub fn spread(
         let node = visit(alloc, lin, labels, search, number)?;
         nodes.push(node)?;
     }
-    Err(AllocError)
+    // As many were visited as there are numbers, so these are all.
+    Ok(())
 }
