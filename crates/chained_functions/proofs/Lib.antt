@@ -2,3 +2,4 @@ pub mod Carried
 pub mod Chained
 pub mod Placed
 pub mod Once
+pub mod Rooms

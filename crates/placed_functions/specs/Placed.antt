@@ -35,7 +35,7 @@ pub record IsPlacedFor (tree : FunctionTree) (q : Mach) : Type 0 where
       code_words (selected tree).code + 12 * operand_count (selected tree).code + 36 * tree.tokens
   pub points : code_points q.code ≤ code_points (selected tree).code
   pub exits : exits q.code ≤ exits (selected tree).code
-  pub instrs : length q.code ≤ 12000 * tree.tokens
+  pub instrs : length q.code ≤ 9640 * tree.tokens
   pub labels : q.labels ≤ 23 * tree.tokens
   -- a slot for each of these registers at the most
   pub slots : SlotsGrow (selected tree) q (2 * (tree.tokens - all_tries tree.body))
