@@ -2,3 +2,5 @@
 pub use Rattle.chained_functions.proofs.Chained.{chained, within}
 pub use Rattle.chained_functions.proofs.Once.{made_once}
 pub use Rattle.chained_functions.proofs.Placed.{IsPlacedFor, selected_preparable, selected_room, ready, prepared_room, carried, placed_for}
+pub use Rattle.chained_functions.proofs.Rooms.{line_room}
+pub use Rattle.linear_rules.specs.Sizes.{HasLineRoom}

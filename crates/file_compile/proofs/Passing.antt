@@ -15,8 +15,8 @@ use Rattle.mach_ir.specs.Text.{mach_text}
 use Rattle.mach_ir.specs.declared.mach.Mach.{Mach}
 use Rattle.mach_passes.specs.Prepared.{IsPreparable, IsPrepared, prepared_size}
 use Rattle.file_promise.specs.Made.{IsFunctionMade}
-use Rattle.file_promise.proofs.Bounds.{IsPlacedFor}
-use Rattle.file_promise.proofs.Bounds.{selected_preparable, selected_room, ready, prepared_room, carried, placed_for}
+use Rattle.file_promise.proofs.Bounds.{IsPlacedFor, HasLineRoom}
+use Rattle.file_promise.proofs.Bounds.{selected_preparable, selected_room, ready, prepared_room, carried, placed_for, line_room}
 use Rattle.places_rules.specs.Places.{ColoursLow}
 use Rattle.rounds_rules.specs.Rounds.{IsAllocatedIn, IsAllocated, allocated_size}
 use Rattle.rv_pieces.specs.declared.piece.Pieces.{Pieces}
@@ -61,6 +61,9 @@ module _ (tree : FunctionTree) (accepted : IsAcceptedFunction tree) (mach : Mach
       pub is_placed : IsPlacedFor tree placed
       is_placed = placed_for known of_selected allocated
 
+      pub has_line_room : HasLineRoom placed
+      has_line_room = line_room known is_placed
+
       module _ (lin : Lin) (linear : IsLinearOf placed lin) where
         pub lines_within : IsWithin lin
         lines_within = within known is_placed linear (frame_fits known is_placed linear)
@@ -86,6 +89,11 @@ module _ (tree : FunctionTree) (accepted : IsAcceptedFunction tree) (mach : Mach
 pub allocated_placed : (tree : FunctionTree) → IsAcceptedFunction tree → (m : Mach) → IsAllocatedFor tree m → IsPlacedFor tree m
 allocated_placed tree accepted m a =
     placed_for (function_accepted accepted.of_file.text accepted.file accepted.of_file.is_file tree accepted.among) a.is_prepared a.allocated
+
+-- with numbers for its lines
+pub allocated_line_room : (tree : FunctionTree) → IsAcceptedFunction tree → (m : Mach) → IsAllocatedFor tree m → HasLineRoom m
+allocated_line_room tree accepted m a =
+    line_room (function_accepted accepted.of_file.text accepted.file accepted.of_file.is_file tree accepted.among) (allocated_placed tree accepted m a)
 
 -- the text of what a pass makes of a selected function is one of that
 pub of_selected_text : (Is : Mach → Mach → Type 0) (tree : FunctionTree) (mach passed : Mach) (text : List ℕ) → mach ≡ selected tree → Is mach passed → text ≡ mach_text passed →

@@ -2,11 +2,19 @@ use Rattle.std.proofs.Common.{subst}
 use Rattle.cmm_tree.specs.View.{function_view}
 use Rattle.mach_ir.specs.declared.mach.Mach.{Mach}
 use Rattle.mach_passes.specs.Prepared.{IsPrepared}
-use Rattle.file_compile.proofs.Passing.{preparable, prepared_formed, prepared_placed, prepared_low}
+use Rattle.file_compile.proofs.Passing.{preparable, room, prepared_has_room, prepared_formed, prepared_placed, prepared_low}
 use Rattle.file_compile.proofs.listing.allocated.Goals as goal
 
 pub prepared-requires : goal.prepared-requires
 prepared-requires c = preparable (function_view c.args.function.now) c.requires.accepted c.in_ok-mach.mach c.in_ok-mach.ensures
+
+pub prepared-requires-clause-room : goal.prepared-requires-clause-room
+prepared-requires-clause-room c = room (function_view c.args.function.now) c.requires.accepted c.in_ok-mach.mach c.in_ok-mach.ensures
+
+pub allocate-requires-clause-room : goal.allocate-requires-clause-room
+allocate-requires-clause-room c =
+    prepared_has_room (function_view c.args.function.now) c.requires.accepted c.in_ok-mach.mach c.in_ok-mach.ensures
+    c.in_ok-prepared.prepared c.in_ok-prepared.ensures
 
 pub allocate-requires-clause-formed : goal.allocate-requires-clause-formed
 allocate-requires-clause-formed c =

@@ -1,6 +1,6 @@
 use Rattle.std.proofs.lemmas.Result.{IfOk-weaker}
 use Rattle.cmm_tree.specs.View.{function_view}
-use Rattle.file_compile.proofs.Passing.{allocated_placed}
+use Rattle.file_compile.proofs.Passing.{allocated_placed, allocated_line_room}
 use Rattle.file_compile.proofs.listing.lines.Goals as goal
 
 pub linear-requires-clause-well_formed : goal.linear-requires-clause-well_formed
@@ -14,6 +14,9 @@ linear-requires-clause-placed c =
 pub linear-requires-clause-seated : goal.linear-requires-clause-seated
 linear-requires-clause-seated c =
     (allocated_placed (function_view c.args.function.now) c.requires.accepted c.in_ok-placed.placed c.in_ok-placed.ensures).seated
+
+pub linear-requires-clause-room : goal.linear-requires-clause-room
+linear-requires-clause-room c = allocated_line_room (function_view c.args.function.now) c.requires.accepted c.in_ok-placed.placed c.in_ok-placed.ensures
 
 pub returns : goal.returns
 returns c =

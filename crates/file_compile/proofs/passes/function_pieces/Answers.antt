@@ -2,11 +2,19 @@ use Rattle.std.proofs.Common.{length, ap, sym, subst, ◌∙◌}
 use Rattle.std.proofs.lemmas.Result.{IfOk-weaker}
 use Rattle.cmm_tree.specs.View.{function_view}
 use Rattle.lin_ir.specs.Descriptors.{AreExact}
-use Rattle.file_compile.proofs.Passing.{preparable, prepared_formed, prepared_placed, prepared_low, is_placed, lines_within, function_made}
+use Rattle.file_compile.proofs.Passing.{preparable, room, prepared_has_room, prepared_formed, prepared_placed, prepared_low, is_placed, has_line_room, lines_within, function_made}
 use Rattle.file_compile.proofs.passes.function_pieces.Goals as goal
 
 pub prepared-requires : goal.prepared-requires
 prepared-requires c = preparable (function_view c.args.function.now) c.requires.accepted c.in_ok-mach.mach c.in_ok-mach.ensures
+
+pub prepared-requires-clause-room : goal.prepared-requires-clause-room
+prepared-requires-clause-room c = room (function_view c.args.function.now) c.requires.accepted c.in_ok-mach.mach c.in_ok-mach.ensures
+
+pub allocate-requires-clause-room : goal.allocate-requires-clause-room
+allocate-requires-clause-room c =
+    prepared_has_room (function_view c.args.function.now) c.requires.accepted c.in_ok-mach.mach c.in_ok-mach.ensures
+    c.in_ok-prepared.prepared c.in_ok-prepared.ensures
 
 pub allocate-requires-clause-formed : goal.allocate-requires-clause-formed
 allocate-requires-clause-formed c =
@@ -40,6 +48,12 @@ linear-requires-clause-seated c =
     (is_placed (function_view c.args.function.now) c.requires.accepted c.in_ok-mach.mach c.in_ok-mach.ensures
     c.in_ok-prepared.prepared c.in_ok-prepared.ensures c.in_ok-allocated.allocated.mach c.in_ok-allocated.allocated.rounds
     c.in_ok-allocated.allocated.rest c.in_ok-allocated.ensures).seated
+
+pub linear-requires-clause-room : goal.linear-requires-clause-room
+linear-requires-clause-room c =
+    has_line_room (function_view c.args.function.now) c.requires.accepted c.in_ok-mach.mach c.in_ok-mach.ensures
+    c.in_ok-prepared.prepared c.in_ok-prepared.ensures c.in_ok-allocated.allocated.mach c.in_ok-allocated.allocated.rounds
+    c.in_ok-allocated.allocated.rest c.in_ok-allocated.ensures
 
 pub descriptors-requires-clause-within : goal.descriptors-requires-clause-within
 descriptors-requires-clause-within c =
