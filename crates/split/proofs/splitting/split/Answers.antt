@@ -1,6 +1,3 @@
-use Rattle.std.proofs.Common.{◌≤◌, arith}
-use Rattle.mach_ir.specs.Sizes.{Size}
-use Rattle.liveness.proofs.Counting.{countable_of, places_fit}
 use Rattle.split.proofs.Grouping.{countable, writes_fit}
 use Rattle.split.proofs.Named.{split_done}
 use Rattle.split.proofs.splitting.split.Goals as goal
@@ -12,3 +9,6 @@ returns c = λ formed placed.
 
 pub first_free-free-requires : goal.first_free-free-requires
 first_free-free-requires c = record { countable = countable c.args.mach c.requires.room }
+
+pub tables_of-requires-clause-room : goal.tables_of-requires-clause-room
+tables_of-requires-clause-room c = writes_fit c.args.mach c.first_free-free.result c.first_free-free.ensures.least c.requires.room
