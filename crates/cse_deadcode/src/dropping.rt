@@ -1,5 +1,6 @@
 //! Dead code, dropped.
 ghost use Rattle.std.specs.Prelude.{◌≡◌, ◌∷◌, ◌++◌, [], cond, IfOk};
+ghost use Rattle.mach_ir.specs.Sizes.{IsCountable};
 ghost use Rattle.mach_laws.specs.Expand.{expand};
 ghost use Rattle.dead_rules.specs.Dropped.{without, IsDropped};
 ghost use Rattle.cse_deadcode.specs.Uses.{is_one_used, is_dead, drops_by};
@@ -60,8 +61,9 @@ fn drop_code(alloc: Global, rows: &Rows, code: Seq<Instr>) -> Result<Seq<Instr>,
 /// loads.
 ///
 /// It solves what is used itself: what is live would let stay what only dead instructions read. The
-/// only error is want of memory, which more places or registers than a number can count are too.
+/// only error is want of memory.
 pub fn drop_dead(alloc: Global, mach: Mach) -> Result<Mach, AllocError>
+    requires countable { IsCountable mach }
     ensures { IfOk result (λ made. IsDropped mach made) }
 {
     let rows = used(alloc, &mach)?;

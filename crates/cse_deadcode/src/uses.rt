@@ -1,6 +1,7 @@
 //! Which registers are used at each place of a function.
 ghost use Rattle.std.specs.Prelude.{◌≡◌, length, false, replicate, IfOk};
 ghost use Rattle.dataflow.specs.Flow.{WellFormed};
+ghost use Rattle.mach_ir.specs.Sizes.{IsCountable};
 ghost use Rattle.cse_deadcode.specs.Flows.{AreUsed};
 ghost use Rattle.cse_deadcode.specs.Uses.{goes_at, AreUses};
 
@@ -40,9 +41,9 @@ fn used_in_flow(alloc: Global, flow: &Flow, code: &[Instr]) -> Result<Rows, Allo
 /// The registers that are used from each instruction on, and after the last.
 ///
 /// The time is that of a sweep over the function for each depth of its loops and two more; the memory
-/// is a bit for each register and place. The only error is want of memory, which more places or
-/// registers than a number can count are too.
+/// is a bit for each register and place. The only error is want of memory.
 pub fn used(alloc: Global, mach: &Mach) -> Result<Rows, AllocError>
+    requires countable { IsCountable mach.now }
     ensures { IfOk result (λ rows. AreUses mach.now rows.rows.items) }
 {
     let flow = flow_of(alloc, mach)?;

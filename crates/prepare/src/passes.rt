@@ -1,7 +1,8 @@
 //! The passes, in their order.
-ghost use Rattle.std.specs.Prelude.{IfOk};
+ghost use Rattle.std.specs.Prelude.{length, IfOk};
 ghost use Rattle.mach_ir.specs.Formed.{WellFormed};
-ghost use Rattle.mach_passes.specs.Prepared.{IsPreparable, IsPrepared};
+ghost use Rattle.mach_ir.specs.Sizes.{HasRoom};
+ghost use Rattle.mach_passes.specs.Prepared.{IsPreparable, IsPrepared, prepared_size};
 ghost use Rattle.mach_passes.specs.Stages.{IsCommoned, HasNoRepeats, IsCleaned, IsReadied, HasSlots};
 
 use comballoc::combine;
@@ -41,7 +42,8 @@ pub fn without_repeats(alloc: Global, mach: Mach) -> Result<Mach, AllocError>
 /// not used. The only error is want of memory.
 #[tactic(auto, using(crate::proofs::Stages::is_cleaned))]
 pub fn without_dead(alloc: Global, mach: Mach) -> Result<Mach, AllocError>
-    requires { IsPreparable mach }
+    requires preparable { IsPreparable mach }
+    requires room { HasRoom (prepared_size (length mach.params)) mach }
     ensures { IfOk result (IsCleaned mach) }
 {
     let repeated = without_repeats(alloc, mach)?;
@@ -52,7 +54,8 @@ pub fn without_dead(alloc: Global, mach: Mach) -> Result<Mach, AllocError>
 /// lives over calls moved to itself before one of them. The only error is want of memory.
 #[tactic(auto, using(crate::proofs::Stages::is_readied))]
 fn readied(alloc: Global, mach: Mach) -> Result<Mach, AllocError>
-    requires { IsPreparable mach }
+    requires preparable { IsPreparable mach }
+    requires room { HasRoom (prepared_size (length mach.params)) mach }
     ensures { IfOk result (IsReadied mach) }
 {
     let dropped = without_dead(alloc, mach)?;
@@ -63,7 +66,8 @@ fn readied(alloc: Global, mach: Mach) -> Result<Mach, AllocError>
 /// The function, so readied, in which what lives over calls has slots. The only error is want of memory.
 #[tactic(auto, using(crate::proofs::Stages::has_slots))]
 pub fn with_slots(alloc: Global, mach: Mach) -> Result<Mach, AllocError>
-    requires { IsPreparable mach }
+    requires preparable { IsPreparable mach }
+    requires room { HasRoom (prepared_size (length mach.params)) mach }
     ensures { IfOk result (HasSlots mach) }
 {
     let ready = readied(alloc, mach)?;
@@ -75,10 +79,10 @@ pub fn with_slots(alloc: Global, mach: Mach) -> Result<Mach, AllocError>
 /// used goes, constants of loops are made at the entry, what lives over calls goes to slots, stored late,
 /// and each web of writes gets a number of its own.
 ///
-/// The only error is want of memory, which more places, writes or registers than a number can count
-/// are too.
+/// The only error is want of memory.
 pub fn prepared(alloc: Global, mach: Mach) -> Result<Mach, AllocError>
-    requires { IsPreparable mach }
+    requires preparable { IsPreparable mach }
+    requires room { HasRoom (prepared_size (length mach.params)) mach }
     ensures { IfOk result (IsPrepared mach) }
 {
     let spilled = with_slots(alloc, mach)?;

@@ -1,6 +1,7 @@
 //! Sinking, whole.
 ghost use Rattle.std.specs.Prelude.{◌≡◌, IfOk};
 ghost use Rattle.mach_ir.specs.Formed.{WellFormed};
+ghost use Rattle.mach_ir.specs.Sizes.{IsCountable};
 ghost use Rattle.sink_rules.specs.Chosen.{IsSunk};
 ghost use Rattle.sink.specs.Chosen.{has_call, AreMoves};
 
@@ -28,7 +29,8 @@ fn has_call(code: &[Instr]) -> bool
 
 /// The moves of a function, by rising numbers of their registers. With no call there is none.
 fn moves_of(alloc: Global, mach: &Mach) -> Result<Vec<Move>, AllocError>
-    requires { WellFormed mach.now }
+    requires formed { WellFormed mach.now }
+    requires countable { IsCountable mach.now }
     ensures { IfOk result (λ moves. AreMoves mach.now moves.items) }
 {
     let code = mach.code.as_slice();
@@ -54,9 +56,10 @@ fn moves_of(alloc: Global, mach: &Mach) -> Result<Vec<Move>, AllocError>
 /// flow graph of the function is made once, and what is live, what is stale and what is fresh are solved
 /// over it. The time is that of a sweep over the function for each depth of its loops and two more, three
 /// times, and for each of these registers that of the way back from the call to the begin of its run. The
-/// only error is want of memory, which more places or registers than a number can count are too.
+/// only error is want of memory.
 pub fn sink(alloc: Global, mach: Mach) -> Result<Mach, AllocError>
-    requires { WellFormed mach }
+    requires formed { WellFormed mach }
+    requires countable { IsCountable mach }
     ensures { IfOk result (IsSunk mach) }
 {
     let moves = moves_of(alloc, &mach)?;

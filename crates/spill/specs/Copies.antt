@@ -1,8 +1,10 @@
 -- The code with its stores and reloads, by the tables.
-use Rattle.std.specs.Prelude.{ℕ, suc, ◌+◌, ◌-◌, Bool, cond, ◌&&◌, List, [], ◌∷◌, ◌++◌}
+use Rattle.std.specs.Prelude.{ℕ, suc, ◌+◌, ◌-◌, ◌<◌, All, Bool, cond, ◌&&◌, List, [], ◌∷◌, ◌++◌}
 use Rattle.bs_bits.specs.Set.{has}
 use Rattle.bs_words.specs.declared.types.Loc.TheVariants as loc
 use Rattle.dataflow.specs.Rows.{row}
+use Rattle.mach_ir.specs.Sizes.{number_limit}
+use Rattle.mach_ir.specs.Walks.{InCode}
 use Rattle.mach_ir.specs.declared.op.CopyKind.TheVariants as copy
 use Rattle.mach_ir.specs.declared.reg.Reg.{Reg}
 use Rattle.mach_ir.specs.declared.mach.Instr.{Instr}
@@ -14,6 +16,14 @@ use Rattle.spill.specs.declared.tables.Tables.{Tables}
 -- the slot's register
 abbrev pub slot_of : ℕ → Reg → Reg
 slot_of free r = record r { number = free + r.number; loc = loc.Slot r.origin }
+
+-- there are numbers for the slots of these registers
+abbrev pub HaveSlots : ℕ → List Reg → Type 0
+HaveSlots free rs = All (λ (r : Reg). free + r.number < number_limit) rs
+
+-- and of those of a code
+abbrev pub CodeHasSlots : ℕ → List Instr → Type 0
+CodeHasSlots free code = (r : Reg) → InCode r code → free + r.number < number_limit
 
 abbrev pub is_reloaded : Tables → ℕ → Reg → Bool
 is_reloaded t p r = is_open r.loc && has (row t.lost.rows.items p) r.number

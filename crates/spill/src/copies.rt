@@ -1,7 +1,8 @@
 //! The function with its stores and reloads.
-ghost use Rattle.std.specs.Prelude.{◌≡◌, ◌<◌, ◌++◌, ◌^◌, [], ◌∷◌, suc, length, IfOk};
+ghost use Rattle.std.specs.Prelude.{◌≡◌, ◌+◌, ◌<◌, ◌++◌, ◌^◌, [], ◌∷◌, suc, length, IfOk};
+ghost use Rattle.mach_ir.specs.Sizes.{number_limit};
 ghost use Rattle.spill_rules.specs.Spilled.{copied};
-ghost use Rattle.spill.specs.Copies.{slot_of, reloads_at, spills_at, instr_at, code_at};
+ghost use Rattle.spill.specs.Copies.{HaveSlots, CodeHasSlots, slot_of, reloads_at, spills_at, instr_at, code_at};
 
 use crate::tables::Tables;
 use crate::wanted::is_reloaded;
@@ -10,16 +11,16 @@ use liveness::Backward;
 use mach_ir::{CopyKind, Instr, MachOp, Op, Pure, Reg, Seq};
 use std::alloc::{AllocError, Global};
 
-/// The register of the slot. That it has no number counts as want of memory.
-fn slot_of(free: u32, reg: Reg) -> Result<Reg, AllocError>
-    ensures { IfOk result (λ slot. slot ≡ slot_of free reg) }
+/// The register of the slot.
+fn slot_of(free: u32, reg: Reg) -> Reg
+    requires { free + reg.number < number_limit }
+    ensures { result ≡ slot_of free reg }
 {
-    let number = free.checked_add(reg.number).ok_or(AllocError)?;
-    Ok(Reg {
-        number,
+    Reg {
+        number: free + reg.number,
         loc: Loc::Slot(reg.origin),
         ..reg
-    })
+    }
 }
 
 fn just(alloc: Global, reg: Reg) -> Result<Seq<Reg>, AllocError>
@@ -49,12 +50,13 @@ fn reloads_at(
     place: usize,
     args: &[Reg],
 ) -> Result<Vec<Instr>, AllocError>
+    requires { HaveSlots tables.now.free args.now }
     ensures { IfOk result (λ made. made.items ≡ reloads_at tables.now place args.now) }
 {
     let mut made = Vec::new(alloc);
     for reg in args {
         if is_reloaded(&tables.lost, place, reg) {
-            let slot = slot_of(tables.free, *reg)?;
+            let slot = slot_of(tables.free, *reg);
             made.push(copy(alloc, CopyKind::Reload, slot, *reg)?)?;
         }
     }
@@ -68,12 +70,13 @@ fn spills_at(
     place: usize,
     results: &[Reg],
 ) -> Result<Vec<Instr>, AllocError>
+    requires { HaveSlots tables.now.free results.now }
     ensures { IfOk result (λ made. made.items ≡ spills_at tables.now place results.now) }
 {
     let mut made = Vec::new(alloc);
     for reg in results {
         if tables.wanted.contains(place, reg.number) {
-            let slot = slot_of(tables.free, *reg)?;
+            let slot = slot_of(tables.free, *reg);
             made.push(copy(alloc, CopyKind::Spill, *reg, slot)?)?;
         }
     }
@@ -99,7 +102,9 @@ fn push_instr(
     instr: Instr,
     made: &mut Backward<Instr>,
 ) -> Result<(), AllocError>
-    requires { suc place < 2 ^ 64 }
+    requires fits { suc place < 2 ^ 64 }
+    requires args { HaveSlots tables.now.free instr.args }
+    requires results { HaveSlots tables.now.free instr.results }
     ensures { IfOk result (λ _. made.new ≡ instr_at tables.now place instr ++ made.old) }
 {
     let reloads = reloads_at(alloc, tables, place, instr.args.as_slice())?;
@@ -115,6 +120,7 @@ pub fn spill_code(
     tables: &Tables,
     code: Seq<Instr>,
 ) -> Result<Seq<Instr>, AllocError>
+    requires { CodeHasSlots tables.now.free code }
     ensures { IfOk result (λ made. made ≡ code_at tables.now (length code) code) }
 {
     let mut items = code.into_vec();

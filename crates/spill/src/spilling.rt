@@ -2,7 +2,8 @@
 ghost use Rattle.std.specs.Prelude.{IfOk};
 ghost use Rattle.mach_ir.specs.Formed.{WellFormed};
 ghost use Rattle.mach_ir.specs.Placed.{WellPlaced};
-ghost use Rattle.spill_rules.specs.Chosen.{IsSpilled, ParamsPlaced, IsChosenKept};
+ghost use Rattle.mach_ir.specs.Sizes.{HasRoom, IsCountable};
+ghost use Rattle.spill_rules.specs.Chosen.{IsSpilled, ParamsPlaced, IsChosenKept, spilled_size};
 ghost use Rattle.spill.specs.Tables.{AreTables};
 
 use crate::copies::spill_code;
@@ -15,9 +16,10 @@ use std::alloc::{AllocError, Global};
 
 /// The tables of a function.
 fn tables_of(alloc: Global, mach: &Mach) -> Result<Tables, AllocError>
+    requires countable { IsCountable mach.now }
     ensures { IfOk result (AreTables mach.now) }
 {
-    let free = first_free(mach)?;
+    let free = first_free(mach);
     let LiveFlow { flow, live } = live_flow(alloc, mach)?;
     let lost = lost(alloc, mach, &live, &flow)?;
     let wanted = wanted(alloc, mach, &lost, &flow)?;
@@ -33,9 +35,9 @@ fn tables_of(alloc: Global, mach: &Mach) -> Result<Tables, AllocError>
 ///
 /// The flow graph of the function is made once, and what is live, what is lost and what is wanted are
 /// solved over it. The time is that of a sweep over the function for each depth of its loops and two
-/// more, three times. The only error is want of memory, which more places or registers than a number
-/// can count are too.
+/// more, three times. The only error is want of memory.
 pub fn spill(alloc: Global, mach: Mach) -> Result<Mach, AllocError>
+    requires room { HasRoom spilled_size mach }
     ensures spilled { IfOk result (λ made. WellFormed mach → IsSpilled mach made) }
     ensures kept { IfOk result (λ made. WellFormed mach → WellPlaced mach → ParamsPlaced mach →
         (s : IsSpilled mach made) → IsChosenKept mach made s.plan) }

@@ -1,16 +1,20 @@
 -- Writes in the groups of their numbers, one after the other.
-use Rattle.std.proofs.Common.{◌≡◌, ◌≢◌, ℕ, zero, suc, ◌+◌, ◌<◌, ◌≤◌, ◌⊎◌, inl, inr, ⊎_elim, List, [], ◌∷◌, ◌++◌, Some, None, length, map, take, set, get_or, refl, sym, ap, ◌∙◌, subst, arith}
+use Rattle.std.proofs.Common.{◌≡◌, ◌≢◌, ℕ, zero, suc, ◌+◌, ◌<◌, ◌≤◌, Bool, true, false, cond, ◌⊎◌, inl, inr, ⊎_elim, List, [], ◌∷◌, ◌++◌, Some, None, length, map, take, set, get_or, refl, sym, ap, ◌∙◌, subst, arith}
 use Rattle.std.specs.List.{All, Contains}
 use Rattle.std.specs.Prelude.{slice_get, slice_index_or}
 use Rattle.std.proofs.lemmas.List.Elements.{Contains-get_or, Contains-append_left, Contains-append_right}
+use Rattle.mach_ir.specs.Sizes.{operand_count, HasRoom, IsCountable, number_limit}
 use Rattle.mach_ir.specs.Walks.{IsRegister}
 use Rattle.mach_ir.specs.declared.reg.Reg.{Reg}
+use Rattle.mach_ir.specs.declared.mach.Instr.{Instr}
 use Rattle.mach_ir.specs.declared.mach.Mach.{Mach}
 use Rattle.std.proofs.lemmas.Bool.{cases_eq}
 use Rattle.std.proofs.lemmas.List.{length-set, length-map, map-set, get_or-map, get_or-set_same, get_or-set_other, take_more, take_all, length-append}
 use Rattle.std.proofs.lemmas.Option.{slice_get_within}
 use Rattle.liveness.proofs.Bounds.{split_in}
-use Rattle.split_rules.specs.Order.{writes_of}
+use Rattle.liveness.proofs.Counting.{countable_of}
+use Rattle.split_rules.specs.Order.{is_open, write_of, open_writes, code_writes, writes_of}
+use Rattle.split_rules.specs.Split.{split_size}
 use Rattle.bs_words.proofs.Lists.{none_in, first_in, later_in, in_cons}
 use Rattle.split.specs.Writes.{members_in, HasMember, AreRising, ends, rises, IsGrouped}
 use Rattle.split.specs.declared.writes.Group as group
@@ -183,3 +187,43 @@ numbers_small m free writes small e = λ k d lt.
     let x = slice_index_or writes k d in
     let o = open_write m x (subst (λ xs. Contains xs x) e (Contains-get_or writes k d lt)) in
     subst (λ n. n < free) o.number (small o.register o.among)
+
+-- ---- how many writes there are
+
+few_open : (k : ℕ) (rs : List Reg) → length (open_writes k rs) ≤ length rs
+few_open k [] = omega arith
+few_open k (r ∷ rs) = by (is_open r.loc) (few_open k rs)
+  where
+    by : (b : Bool) → length (open_writes k rs) ≤ length rs →
+        length (cond b (write_of k r ∷ open_writes k rs) (open_writes k rs)) ≤ length (r ∷ rs)
+    by true le = omega (arith, le)
+    by false le = omega (arith, le)
+
+few_code : (code : List Instr) → length (code_writes code) ≤ operand_count code
+few_code [] = omega arith
+few_code (i ∷ is) =
+    let a = few_open (length is) i.results in
+    let b = few_code is in
+    let c = length-append (open_writes (length is) i.results) (code_writes is) in
+    omega (arith, a, b, c)
+
+-- at most one for each operand and each parameter
+pub few_writes : (m : Mach) → length (writes_of m) ≤ length m.params + operand_count m.code
+few_writes m =
+    let a = few_open (length m.code) m.params in
+    let b = few_code m.code in
+    let c = length-append (open_writes (length m.code) m.params) (code_writes m.code) in
+    omega (arith, a, b, c)
+
+-- so there is a number for each, from the first free one on
+pub writes_fit : (m : Mach) (free : ℕ) → ((b : ℕ) → ((r : Reg) → IsRegister m r → r.number < b) → free ≤ b) →
+    HasRoom (split_size (length m.params)) m → free + length (writes_of m) < number_limit
+writes_fit m free least room =
+    by free room.size.registers room.size.operands (length m.params) (length (writes_of m)) (operand_count m.code) number_limit
+    (least room.size.registers room.within.numbers) (few_writes m) room.within.operands room.small.registers
+  where
+    by : (f r o p w c b : ℕ) → f ≤ r → w ≤ p + c → c ≤ o → r + (o + p) < b → f + w < b
+    by f r o p w c b low few ops small = omega (arith, low, few, ops, small)
+
+pub countable : (m : Mach) → HasRoom (split_size (length m.params)) m → IsCountable m
+countable m room = countable_of (split_size (length m.params)) m (λ s. omega arith) (λ s. omega arith) (λ s. omega arith) (λ s. omega arith) room

@@ -537,6 +537,13 @@ pub record WebsBefore (m : Mach) (t : Writes) (rows : List (List Bool)) (labels 
   pub one : (p : ℕ) (i : Instr) (next : List Instr) (n : ℕ) → p < place → drop p m.code ≡ i ∷ next → Among n i.args →
       HaveOne t rows labels p n
 
+-- labels that only fall stay below
+pub still_least : (old new : List ℕ) → length new ≡ length old → ((w : ℕ) → w < length old → slice_index new w ≤ slice_index old w) →
+    ((w : ℕ) → w < length old → slice_index old w ≤ w) → (w : ℕ) → w < length new → slice_index new w ≤ w
+still_least old new len less least w lt =
+    let old_lt : w < length old = omega (arith, lt, len) in
+    let fallen = less w old_lt in let was = least w old_lt in omega (arith, fallen, was)
+
 pub indexes : (m : Mach) (free : ℕ) (t : Writes) (labels : List ℕ) → AreWrites m free t → length labels ≡ length (all_of t) →
     AreIndexes t (length labels)
 indexes m free t labels writes len =

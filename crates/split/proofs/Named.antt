@@ -2,7 +2,7 @@
 use Rattle.std.proofs.Common.{◌≡◌, ◌≢◌, ℕ, suc, ◌+◌, ◌-◌, ◌<◌, ◌≤◌, Bool, true, false, cond, ◌⊎◌, inl, inr, ⊎_elim, List, [], ◌∷◌, Option, Some, None, length, drop, refl, sym, ap, ◌∙◌, subst, arith}
 use Rattle.std.proofs.lemmas.List.Elements.{Contains-append_left, Contains-append_right}
 use Rattle.std.proofs.lemmas.Bool.{cases_Bool, eq-eqb, lt-ltb, le-ltb}
-use Rattle.std.proofs.lemmas.List.{length-append, length-drop}
+use Rattle.std.proofs.lemmas.List.{length-drop}
 use Rattle.std.proofs.lemmas.Option.{slice_get_within}
 use Rattle.std.specs.List.{Contains}
 use Rattle.std.specs.Prelude.{nat_lt, slice_get, slice_index}
@@ -12,7 +12,7 @@ use Rattle.dataflow.specs.Rows.{row}
 use Rattle.mach_ir.specs.Formed.{WellFormed}
 use Rattle.mach_ir.specs.Meaning.{killed}
 use Rattle.mach_ir.specs.Placed.{WellPlaced}
-use Rattle.mach_ir.specs.Sizes.{operand_count, Size, HasSize}
+use Rattle.mach_ir.specs.Sizes.{Size, HasSize}
 use Rattle.mach_ir.specs.Walks.{Among, Writes, IsRegister, is_param, is_colour, is_in_code, Stands, here, below}
 use Rattle.mach_ir.specs.declared.reg.Reg.{Reg}
 use Rattle.mach_ir.specs.declared.mach.Instr.{Instr}
@@ -32,6 +32,7 @@ use Rattle.split_rules.specs.Order.{is_open, write_of, open_writes, code_writes,
 use Rattle.split.specs.Writes.{all_of, members, AreRising, has_left, find_at, is_first, after}
 use Rattle.split.specs.declared.tables.Tables.{Tables}
 use Rattle.split_rules.specs.declared.writes.Write.{Write}
+use Rattle.split.proofs.Grouping.{few_writes}
 use Rattle.split.proofs.Joining.{chain_turned, chain_on}
 use Rattle.split.proofs.Members.{some_is, got_in, in_got, in_open, in_writes, is_unset, IsOpenWrite, open_write, fixed_no_write, found_at, finds_at, finds_first, first_low, first_least, one_first, at_entry, entry_at, left_within, found_coming, finds_coming}
 
@@ -448,31 +449,6 @@ module _ (m : Mach) (free : ℕ) (t : Tables) (formed : WellFormed m) (placed : 
 
   -- ---- how large numbers are
 
-  few_open : (k : ℕ) (rs : List Reg) → length (open_writes k rs) ≤ length rs
-  few_open k [] = omega arith
-  few_open k (r ∷ rs) = by (is_open r.loc) (few_open k rs)
-    where
-      by : (b : Bool) → length (open_writes k rs) ≤ length rs →
-          length (cond b (write_of k r ∷ open_writes k rs) (open_writes k rs)) ≤ length (r ∷ rs)
-      by true le = omega (arith, le)
-      by false le = omega (arith, le)
-
-  few_code : (code : List Instr) → length (code_writes code) ≤ operand_count code
-  few_code [] = omega arith
-  few_code (i ∷ is) =
-      let a = few_open (length is) i.results in
-      let b = few_code is in
-      let c = length-append (open_writes (length is) i.results) (code_writes is) in
-      omega (arith, a, b, c)
-
-  few_writes : length (all_of t.writes) ≤ length m.params + operand_count m.code
-  few_writes =
-      let e = ap length tables.writes.all in
-      let a = few_open (length m.code) m.params in
-      let b = few_code m.code in
-      let c = length-append (open_writes (length m.code) m.params) (code_writes m.code) in
-      omega (arith, a, b, c, e)
-
   module _ (least : (b : ℕ) → ((r : Reg) → IsRegister m r → r.number < b) → free ≤ b) where
     small_name : (s : Size) → HasSize m s → (r : Reg) → IsRegister m r → (o : Option ℕ) →
         ((w : ℕ) → o ≡ Some w → Contains (ws r.number) w) →
@@ -489,10 +465,11 @@ module _ (m : Mach) (free : ℕ) (t : Tables) (formed : WellFormed m) (placed : 
         let x = label_write r.number w c in
         let lt : slice_index tables.labels w < length (all_of t.writes) =
         slice_get_within (all_of t.writes) (slice_index tables.labels w) x.0 x.1 in
-        let few = few_writes in
+        let few = few_writes m in
+        let all = ap length tables.writes.all in
         let ops = h.operands in
         let low = least s.registers h.numbers in
-        subst (λ k. k < s.registers + (s.operands + length m.params)) (sym e) (omega (arith, lt, few, ops, low)))
+        subst (λ k. k < s.registers + (s.operands + length m.params)) (sym e) (omega (arith, lt, few, all, ops, low)))
         (kept_or r.number (slice_index tables.labels w)))
 
     pub is_dense : IsDense m names

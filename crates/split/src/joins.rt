@@ -1,5 +1,7 @@
 //! Which writes have one number.
-ghost use Rattle.std.specs.Prelude.{◌≡◌, ◌<◌, ℕ, All, map, length, slice_index, IfOk};
+ghost use Rattle.std.specs.Prelude.{◌≡◌, ◌<◌, ◌≤◌, ℕ, All, map, length, slice_index, IfOk};
+ghost use Rattle.mach_ir.specs.Sizes.{number_limit};
+ghost use Rattle.split_rules.specs.Order.{writes_of};
 ghost use Rattle.split.specs.Writes.{AreWrites};
 ghost use Rattle.split.specs.Reach.{AreReaching};
 ghost use Rattle.split.specs.Joins.{replaced, joined, Joins, AreIndexes, JoinsReads, AreWebs};
@@ -88,13 +90,13 @@ pub fn webs_of(
     writes: &Writes,
     rows: &Rows,
 ) -> Result<Vec<u32>, AllocError>
-    requires { AreWrites mach.now free writes.now }
-    ensures { IfOk result (λ labels. AreReaching mach.now writes.now rows.now.rows.items →
+    requires few { length (writes_of mach.now) < number_limit }
+    requires writes { AreWrites mach.now free writes.now }
+    ensures least { IfOk result (λ labels. (w : ℕ) → w < length labels.items →
+        slice_index labels.items w ≤ w) }
+    ensures webs { IfOk result (λ labels. AreReaching mach.now writes.now rows.now.rows.items →
         AreWebs mach.now writes.now rows.now.rows.items labels.items) }
 {
-    if writes.all.len() > u32::MAX as usize {
-        return Err(AllocError);
-    }
     let mut labels = own_labels(alloc, writes.all.len() as u32)?;
     for (place, instr) in mach.code.as_slice().iter().enumerate() {
         join_reads(&mut labels, writes, rows, place, instr.args.as_slice());

@@ -1,21 +1,23 @@
 //! The numbers of webs.
-ghost use Rattle.std.specs.Prelude.{◌≡◌, IfOk};
+ghost use Rattle.std.specs.Prelude.{◌≡◌, ◌+◌, ◌<◌, ◌≤◌, ℕ, length, slice_index, IfOk};
 ghost use Rattle.dataflow.specs.Rows.{row};
+ghost use Rattle.mach_ir.specs.Sizes.{number_limit};
+ghost use Rattle.split.specs.Writes.{all_of};
 ghost use Rattle.split.specs.Names.{new_number, AreNames, find_coming, or_name, name_of};
 
 use crate::writes::Writes;
 use dataflow::Rows;
 use std::alloc::{AllocError, Global};
 
-/// The number of a web of this register, whose first write has this index. That there is none counts as
-/// want of memory.
-fn new_number(writes: &Writes, free: u32, number: u32, label: u32) -> Result<u32, AllocError>
-    ensures { IfOk result (λ name. name ≡ new_number writes.now free number label) }
+/// The number of a web of this register, whose first write has this index.
+fn new_number(writes: &Writes, free: u32, number: u32, label: u32) -> u32
+    requires { free + label < number_limit }
+    ensures { result ≡ new_number writes.now free number label }
 {
     if writes.is_first(number, label) {
-        Ok(number)
+        number
     } else {
-        free.checked_add(label).ok_or(AllocError)
+        free + label
     }
 }
 
@@ -26,6 +28,8 @@ pub fn names_of(
     labels: &[u32],
     free: u32,
 ) -> Result<Vec<u32>, AllocError>
+    requires least { (w : ℕ) → w < length labels.now → slice_index labels.now w ≤ w }
+    requires room { free + length (all_of writes.now) < number_limit }
     ensures { IfOk result (λ names. AreNames writes.now labels.now free names.items) }
 {
     let mut names = Vec::with_capacity(alloc, writes.all.len())?;
@@ -34,7 +38,7 @@ pub fn names_of(
             None => 0,
             Some(label) => *label,
         };
-        let name = new_number(writes, free, write.number, label)?;
+        let name = new_number(writes, free, write.number, label);
         names.push(name)?;
     }
     Ok(names)

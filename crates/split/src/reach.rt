@@ -3,9 +3,11 @@ ghost use Rattle.std.specs.Prelude.{◌≡◌, ◌<◌, ◌^◌, [], suc, length
 ghost use Rattle.bs_words.specs.Contents.{contents};
 ghost use Rattle.mach_ir.specs.Formed.{WellFormed};
 ghost use Rattle.mach_ir.specs.Placed.{WellPlaced};
+ghost use Rattle.mach_ir.specs.Sizes.{number_limit};
 ghost use Rattle.liveness.specs.Labels.{AreLabelsOf};
 ghost use Rattle.liveness.specs.Nodes.{IsNode, AreNodes};
 ghost use Rattle.split.specs.Writes.{AreWrites};
+ghost use Rattle.split_rules.specs.Order.{writes_of};
 ghost use Rattle.split.specs.Reach.{made_at, ended_by, write_uses, IsNodeAt, IsEntry, AreReaching};
 
 use crate::writes::Writes;
@@ -125,13 +127,11 @@ fn nodes_of(
 /// Which writes of open registers come to each place of a function, by their indexes.
 pub fn reach(alloc: Global, mach: &Mach, free: u32, writes: &Writes) -> Result<Rows, AllocError>
     requires fits { suc (length mach.now.code) < 2 ^ 32 }
+    requires few { length (writes_of mach.now) < number_limit }
     requires writes { AreWrites mach.now free writes.now }
     ensures { IfOk result (λ rows. WellFormed mach.now → WellPlaced mach.now →
         AreReaching mach.now writes.now rows.rows.items) }
 {
-    if writes.all.len() > u32::MAX as usize {
-        return Err(AllocError);
-    }
     let bound = writes.all.len() as u32;
     let labels = Labels::of_function(alloc, mach)?;
     let mut nodes = nodes_of(alloc, mach, &labels, writes)?;

@@ -1,11 +1,13 @@
 //! Splitting, whole.
-ghost use Rattle.std.specs.Prelude.{◌<◌, ◌^◌, suc, length, IfOk};
+ghost use Rattle.std.specs.Prelude.{◌<◌, ◌+◌, ◌^◌, suc, length, IfOk};
 ghost use Rattle.mach_ir.specs.Formed.{WellFormed};
 ghost use Rattle.mach_ir.specs.Placed.{WellPlaced};
+ghost use Rattle.mach_ir.specs.Sizes.{HasRoom, number_limit};
 ghost use Rattle.mach_ir.specs.Walks.{IsRegister};
 ghost use Rattle.mach_ir.specs.declared.reg.Reg.{Reg};
 ghost use Rattle.split.specs.Names.{AreTables};
-ghost use Rattle.split_rules.specs.Split.{IsSplit};
+ghost use Rattle.split_rules.specs.Order.{writes_of};
+ghost use Rattle.split_rules.specs.Split.{IsSplit, split_size};
 
 use crate::joins::webs_of;
 use crate::names::names_of;
@@ -20,6 +22,7 @@ use std::alloc::{AllocError, Global};
 /// The tables of a function whose registers have numbers below `free`.
 fn tables_of(alloc: Global, mach: &Mach, free: u32) -> Result<Tables, AllocError>
     requires fits { suc (length mach.now.code) < 2 ^ 32 }
+    requires room { free + length (writes_of mach.now) < number_limit }
     requires numbers { (r : Reg) → IsRegister mach.now r → r.number < free }
     ensures { IfOk result (λ tables. WellFormed mach.now → WellPlaced mach.now →
         AreTables mach.now free tables) }
@@ -43,16 +46,13 @@ fn tables_of(alloc: Global, mach: &Mach, free: u32) -> Result<Tables, AllocError
 /// register's first write keeps the register's number, any other has the index of its first write, from
 /// the first free number on. Nothing else changes.
 ///
-/// The time is that of `dataflow::reaching` over the writes. The only error is want of memory, which
-/// more places, writes or registers than a number can count are too.
+/// The time is that of `dataflow::reaching` over the writes. The only error is want of memory.
 pub fn split(alloc: Global, mach: Mach) -> Result<Mach, AllocError>
+    requires room { HasRoom (split_size (length mach.params)) mach }
     ensures { IfOk result (λ made. WellFormed mach → WellPlaced mach → IsSplit mach made) }
 {
-    if mach.code.len() >= u32::MAX as usize {
-        return Err(AllocError);
-    }
     let end = mach.code.len() as u32;
-    let free = first_free(&mach)?;
+    let free = first_free(&mach);
     let tables = tables_of(alloc, &mach, free)?;
     let Mach {
         name,

@@ -1,5 +1,6 @@
 //! The writes of the registers whose places are open.
 ghost use Rattle.std.specs.Prelude.{◌≡◌, ◌<◌, ◌++◌, ◌^◌, [], All, length, IfOk};
+ghost use Rattle.mach_ir.specs.Sizes.{number_limit};
 ghost use Rattle.mach_ir.specs.Walks.{IsRegister};
 ghost use Rattle.mach_ir.specs.declared.reg.Reg.{Reg};
 ghost use Rattle.split_rules.specs.Order.{is_open, open_writes, writes_of};
@@ -102,13 +103,11 @@ impl Writes {
     /// The writes of a function, whose registers have numbers below `free`.
     pub fn of_function(alloc: Global, mach: &Mach, free: u32) -> Result<Writes, AllocError>
         requires few { length mach.now.code < 2 ^ 32 }
+        requires writes { length (writes_of mach.now) < number_limit }
         requires numbers { (r : Reg) → IsRegister mach.now r → r.number < free }
         ensures { IfOk result (AreWrites mach.now free) }
     {
         let all = all_writes(alloc, mach)?;
-        if all.len() > u32::MAX as usize {
-            return Err(AllocError);
-        }
         let groups = groups_of(alloc, all.as_slice(), free)?;
         Ok(Writes { all, groups })
     }

@@ -16,7 +16,7 @@ returns-then-not-has_call c =
 
 pub choose-requires : goal.choose-requires
 choose-requires c =
-    lengths c.args.mach.now c.requires c.in_ok-flow.field-0.live c.in_ok-flow.ensures.live c.in_ok-flow.field-0.flow.bound c.in_ok-solved.solved
+    lengths c.args.mach.now c.requires.formed c.in_ok-flow.field-0.live c.in_ok-flow.ensures.live c.in_ok-flow.field-0.flow.bound c.in_ok-solved.solved
     c.in_ok-solved.ensures c.deref.result.now c.deref-2.result.now
     (c.deref.ensures.value ∙ c.in_ok-registers.ensures
     ∙ ap (λ (code : List Instr). entered_code code (replicate c.in_ok-flow.field-0.flow.bound None)) c.as_slice-code.ensures)
@@ -35,7 +35,7 @@ returns c =
     let mixed : c.in_ok-mixed.mixed ≡ mixed_set =
     c.in_ok-mixed.ensures
     ∙ ap (λ (code : List Instr). noted_code fresh stale 0 code (replicate c.in_ok-flow.field-0.flow.bound false)) c.as_slice-code.ensures in
-    are_moves m c.requires c.in_ok-flow.field-0.live c.in_ok-flow.ensures.live c.in_ok-flow.field-0.flow.bound c.in_ok-solved.solved c.in_ok-solved.ensures
+    are_moves m c.requires.formed c.in_ok-flow.field-0.live c.in_ok-flow.ensures.live c.in_ok-flow.field-0.flow.bound c.in_ok-solved.solved c.in_ok-solved.ensures
     c.in_ok-flow.field-0.flow c.in_ok-flow.ensures.flow c.in_ok-flow.ensures.formed refl c.in_ok-moves.moves.items
     (c.in_ok-moves.ensures
     ∙ ap (λ (code : List Instr). all_moves code stale c.in_ok-mixed.mixed c.deref.result.now c.deref-2.result.now) c.as_slice-code.ensures

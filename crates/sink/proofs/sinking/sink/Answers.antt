@@ -10,9 +10,9 @@ returns-then-is_empty c =
     let moves = c.in_ok-moves.moves in
     let none : vec_len moves ≡ 0 = eqb-true (vec_len moves) 0 (sym c.is_empty.ensures ∙ c.if-is_empty.true) in
     let count : vec_len moves ≡ length moves.items = omega (arith, moves.ok.0) in
-    unsunk c.args.mach c.requires moves.items c.in_ok-moves.ensures (none_of moves.items (sym count ∙ none))
+    unsunk c.args.mach c.requires.formed moves.items c.in_ok-moves.ensures (none_of moves.items (sym count ∙ none))
 
 pub returns : goal.returns
 returns c =
-    sunk_by c.args.mach c.requires c.in_ok-moves.moves.items c.in_ok-moves.ensures c.in_ok-code.code
+    sunk_by c.args.mach c.requires.formed c.in_ok-moves.moves.items c.in_ok-moves.ensures c.in_ok-code.code
     (c.in_ok-code.ensures ∙ ap (λ (xs : List Move). code_at xs c.args.mach.code c.args.mach.code) c.deref.ensures.value)

@@ -9,7 +9,7 @@ returns c = λ formed placed.
       writes = c.in_ok-writes.ensures;
       reaching = reach;
       labels = c.in_ok-labels.labels.items;
-      webs = c.in_ok-labels.ensures reach;
+      webs = c.in_ok-labels.ensures.webs reach;
       names = subst (λ ls. AreNames c.in_ok-writes.writes ls c.args.free c.in_ok-names.names.items) c.as_slice.ensures.value
           c.in_ok-names.ensures;
     }
