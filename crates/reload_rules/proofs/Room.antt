@@ -1,5 +1,6 @@
 -- Bounds on a function that gets copies.
 use Rattle.std.proofs.Common.{ℕ, ◌+◌, ◌*◌, ◌≤◌, arith}
+use Rattle.liveness.proofs.Counting.{countable_of}
 use Rattle.mach_ir.specs.Sizes.{Size, HasSize, IsSmall, HasRoom, IsCountable}
 use Rattle.mach_ir.specs.declared.mach.Mach.{Mach}
 use Rattle.mach_laws.proofs.Grows.{within_more}
@@ -43,17 +44,5 @@ small_both s n k both le h =
 
 -- All of a function can be counted where there is room for copies.
 pub room_counts : {m : Mach} (n : ℕ) → HasRoom (with_copies n) m → IsCountable m
-room_counts n room =
-    let places = (room.small).places in
-    let operands = (room.small).operands in
-    let registers = (room.small).registers in
-    record {
-      size = room.size;
-      within = room.within;
-      small = record {
-        places = omega (arith, places);
-        operands = omega (arith, operands);
-        registers = omega (arith, registers);
-        labels = (room.small).labels;
-      };
-    }
+room_counts {m} n room =
+    countable_of (with_copies n) m (λ s. no_less s.instrs n) (λ s. twice s.operands n) (λ s. no_less s.registers n) (λ s. same s.labels) room
