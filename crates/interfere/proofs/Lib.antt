@@ -5,3 +5,4 @@ pub mod Meetings
 pub mod Moved
 pub mod Nodes
 pub mod Pairs
+pub mod Counting

@@ -2,6 +2,7 @@
 ghost use Rattle.std.specs.Prelude.{IfOk};
 ghost use Rattle.mach_ir.specs.Formed.{WellFormed};
 ghost use Rattle.mach_ir.specs.Graph.{IsGraph};
+ghost use Rattle.mach_ir.specs.Sizes.{IsCountable};
 
 use crate::tables::Tables;
 use mach_ir::{Graph, Mach, Seq};
@@ -15,10 +16,10 @@ use std::alloc::{AllocError, Global};
 /// destroys is written too.
 ///
 /// The time is that of liveness, and of what each instruction writes times what is live after it; the memory
-/// is that of liveness, a bit for each pair of registers, and the graph. The only error is want of memory,
-/// which more places, registers or uses than a number can count are too.
+/// is that of liveness, a bit for each pair of registers, and the graph. The only error is want of memory.
 pub fn graph(alloc: Global, mach: &Mach) -> Result<Graph, AllocError>
     requires formed { WellFormed mach.now }
+    requires countable { IsCountable mach.now }
     ensures { IfOk result (IsGraph mach.now) }
 {
     let tables = Tables::of_function(alloc, mach)?;

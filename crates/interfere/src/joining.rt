@@ -4,6 +4,7 @@ ghost use Rattle.bs_bits.specs.Set.{has};
 ghost use Rattle.bs_words.specs.Contents.{contents};
 ghost use Rattle.dataflow.specs.Flow.{WellFormed};
 ghost use Rattle.mach_ir.specs.Graph.{IsLiveMap};
+ghost use Rattle.mach_ir.specs.Sizes.{IsCountable};
 ghost use Rattle.mach_ir.specs.Walks.{IsRegister, Joined};
 ghost use Rattle.mach_ir.specs.declared.reg.Reg.{Reg};
 ghost use Rattle.mach_laws.specs.Graph.{IsFlowOf};
@@ -135,7 +136,8 @@ fn joined_in(
 /// The pairs of registers of a function that are joined; their numbers are below `size`. The flow graph
 /// and what is live in it are made once, and are gone when the pairs are there.
 pub fn joined_of(alloc: Global, mach: &Mach, size: u32) -> Result<Matrix, AllocError>
-    requires { (r : Reg) → IsRegister mach.now r → r.number < size }
+    requires numbers { (r : Reg) → IsRegister mach.now r → r.number < size }
+    requires countable { IsCountable mach.now }
     ensures len { IfOk result (λ joined. length joined ≡ size) }
     ensures pairs { IfOk result (λ joined. (n k : ℕ) → Has joined n k ↔ Joined mach.now n k) }
 {

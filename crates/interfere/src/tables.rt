@@ -1,5 +1,6 @@
 //! What is known of each register of a function, by number.
 ghost use Rattle.std.specs.Prelude.{◌≡◌, ◌+◌, ◌<◌, ℕ, length, slice_index, IfOk};
+ghost use Rattle.mach_ir.specs.Sizes.{IsCountable};
 ghost use Rattle.interfere.specs.Partners.{partners_in};
 ghost use Rattle.interfere.specs.Registers.{IsAt};
 ghost use Rattle.interfere.specs.Tables.{AreTables, IsNode, AreByNumber, AreNodesBelow};
@@ -47,9 +48,10 @@ fn uses_at(uses: &[u32], number: u32) -> u32
 impl Tables {
     /// The tables of a function.
     pub fn of_function(alloc: Global, mach: &Mach) -> Result<Tables, AllocError>
+        requires countable { IsCountable mach.now }
         ensures { IfOk result (AreTables mach.now) }
     {
-        let size = first_free(mach)?;
+        let size = first_free(mach);
         let code = mach.code.as_slice();
         let registers = registers_of(alloc, mach, size)?;
         let joined = joined_of(alloc, mach, size)?;

@@ -1,5 +1,5 @@
 -- What the passes and register allocation make of a function of an accepted text is known.
-use Rattle.std.proofs.Common.{◌≡◌, ℕ, ◌+◌, ◌-◌, ◌*◌, ◌≤◌, true, List, [], ◌∷◌, length, Option, ap, ◌∙◌, arith}
+use Rattle.std.proofs.Common.{◌≡◌, ℕ, ◌+◌, ◌-◌, ◌*◌, ◌≤◌, List, length, Option, ap, arith}
 use Rattle.std.proofs.lemmas.List.{length-map}
 use Rattle.bs_words.specs.declared.types.Comp.{Comp}
 use Rattle.bs_words.specs.declared.types.Comp.TheVariants as comp
@@ -9,19 +9,14 @@ use Rattle.cmm_tree.specs.Tree.{Parameter, FunctionTree}
 use Rattle.combine_rules.specs.Kept.{IsCombinable, holds_block}
 use Rattle.correctness.specs.Measures.{tries}
 use Rattle.mach_ir.specs.Sizes.{operand_count, HasRoom}
-use Rattle.mach_ir.specs.declared.mach.Instr.{Instr}
 use Rattle.mach_ir.specs.declared.mach.Mach.{Mach}
-use Rattle.mach_ir.specs.declared.mach.MachOp.{MachOp}
-use Rattle.mach_ir.specs.declared.mach.MachOp.TheVariants as mach
-use Rattle.mach_ir.specs.declared.op.Op.TheVariants as op
-use Rattle.mach_ir.specs.declared.op.Pure.TheVariants as pure
-use Rattle.mach_ir.specs.declared.reg.Reg.{Reg}
 use Rattle.mach_ir.proofs.Keeping.{keeps_then}
 use Rattle.mach_passes.specs.Prepared.{IsPreparable, IsPrepared, prepared_size}
 use Rattle.mach_passes.specs.Prepared as prepared
 use Rattle.mach_passes.proofs.Whole.{prepared_kept}
 use Rattle.pass_rules.specs.Carried.{IsCarried}
-use Rattle.pass_rules.specs.Measures.{copy_words, operands_with, other_operands}
+use Rattle.pass_rules.proofs.Operands.{others_few}
+use Rattle.pass_rules.specs.Measures.{copy_words}
 use Rattle.rounds_rules.specs.Rounds.{IsAllocated, allocated_size}
 use Rattle.rounds_rules.specs.Rounds as rounds
 use Rattle.rounds_rules.proofs.Kept.{allocated_kept}
@@ -32,21 +27,6 @@ use Rattle.selection_rules.specs.Select.{selected}
 use Rattle.placed_functions.specs.Placed.{IsPlacedFor}
 use Rattle.placed_functions.proofs.Ends.{selected_end}
 use Rattle.placed_functions.proofs.Slots.{slots_of_open}
-
--- no more operands of other instructions than copies than of all
-few_others : (f : MachOp) (args results : List Reg) → operands_with f args results ≤ length args + length results
-few_others (mach.Op (op.Pure (pure.Copy kind))) args results = omega arith
-few_others (mach.Op (op.Pure (pure.Constant w))) args results = omega arith
-few_others (mach.Op (op.Pure (pure.Symbol name))) args results = omega arith
-few_others (mach.Op (op.Pure (pure.Operator f right))) args results = omega arith
-few_others (mach.Op (op.Access f)) args results = omega arith
-few_others (mach.Op (op.Calling f)) args results = omega arith
-few_others (mach.Op (op.Leaving f)) args results = omega arith
-few_others (mach.Mark f) args results = omega arith
-
-others_few : (code : List Instr) → other_operands code ≤ operand_count code
-others_few [] = omega arith
-others_few (i ∷ is) = let here = few_others i.op i.args i.results in let rest = others_few is in omega (arith, here, rest)
 
 module _ {defined : List ℕ → Option DefinedSymbol} {tree : FunctionTree} (accepted : IsAccepted defined tree) where
   promise : Selects tree (selected tree)

@@ -2,8 +2,11 @@
 ghost use Rattle.std.specs.Prelude.{IfOk};
 ghost use Rattle.mach_ir.specs.Formed.{WellFormed};
 ghost use Rattle.mach_ir.specs.Placed.{WellPlaced};
+ghost use Rattle.mach_ir.specs.Sizes.{HasRoom};
+ghost use Rattle.pass_rules.specs.Measures.{other_operands};
 ghost use Rattle.places_rules.specs.Places.{ColoursLow};
-ghost use Rattle.rounds_rules.specs.Rounds.{IsRound, IsAllocatedIn};
+ghost use Rattle.reload_rules.specs.Kept.{with_copies};
+ghost use Rattle.rounds_rules.specs.Rounds.{IsRound, IsAllocatedIn, allocated_size};
 
 use crate::copies::copy;
 use crate::slots::rest_in_slots;
@@ -34,6 +37,7 @@ pub struct Allocated {
 fn round(alloc: Global, mach: Mach, fresh: u32) -> Result<(Mach, bool), AllocError>
     requires formed { WellFormed mach }
     requires placed { WellPlaced mach }
+    requires room { HasRoom (with_copies (other_operands mach.code)) mach }
     ensures { IfOk result (λ made. IsRound fresh mach made.0 made.1) }
 {
     let graph = graph(alloc, &mach)?;
@@ -44,14 +48,15 @@ fn round(alloc: Global, mach: Mach, fresh: u32) -> Result<(Mach, bool), AllocErr
 /// A place for each register of a function, in how many rounds, and whether it gave up.
 ///
 /// The time is that of the rounds, each of them that of liveness, of the graph and of its colouring. The
-/// only error is want of memory, which more places, registers or uses than a number can count are too.
+/// only error is want of memory.
 pub fn allocate(alloc: Global, mach: Mach) -> Result<Allocated, AllocError>
     requires formed { WellFormed mach }
     requires placed { WellPlaced mach }
     requires low { ColoursLow mach }
+    requires room { HasRoom allocated_size mach }
     ensures { IfOk result (λ made. IsAllocatedIn mach made.mach made.rounds made.rest) }
 {
-    let fresh = first_free(&mach)?;
+    let fresh = first_free(&mach);
     let first = copy(alloc, &mach)?;
     let mut current = mach;
     for rounds in 0..MOST_ROUNDS {

@@ -1,5 +1,6 @@
 //! Fresh registers for operands and results in slots, and the copies between them.
-ghost use Rattle.std.specs.Prelude.{◌≡◌, ◌++◌, ◌∷◌, [], suc, IfOk};
+ghost use Rattle.std.specs.Prelude.{◌≡◌, ◌<◌, ◌++◌, ◌∷◌, [], IfOk};
+ghost use Rattle.mach_ir.specs.Sizes.{number_limit};
 ghost use Rattle.spill_rules.specs.Spilled.{copied};
 ghost use Rattle.reload_rules.specs.Reloaded.{is_copy, reads_registers, writes_registers, is_in_slot, is_renewed};
 ghost use Rattle.reload_rules.specs.Reloaded.{fresh, number_past, renewed, reloads, spills, any_renewed};
@@ -106,24 +107,18 @@ fn fresh(number: u32, reg: Reg) -> Reg
     }
 }
 
-/// The next number. That there is none counts as want of memory.
-fn next(number: u32) -> Result<u32, AllocError>
-    ensures { IfOk result (λ next. next ≡ suc number) }
-{
-    number.checked_add(1).ok_or(AllocError)
-}
-
 /// The next number, past those of the fresh registers for these.
-pub(crate) fn number_past(registers: bool, from: u32, regs: &[Reg]) -> Result<u32, AllocError>
-    ensures { IfOk result (λ number. number ≡ number_past registers from regs.now) }
+pub(crate) fn number_past(registers: bool, from: u32, regs: &[Reg]) -> u32
+    requires room { number_past registers from regs.now < number_limit }
+    ensures { result ≡ number_past registers from regs.now }
 {
     let mut number = from;
     for reg in regs {
         if is_renewed(registers, *reg) {
-            number = next(number)?;
+            number += 1;
         }
     }
-    Ok(number)
+    number
 }
 
 /// These registers, with a fresh one for each that needs it.
@@ -133,6 +128,7 @@ pub(crate) fn renewed(
     from: u32,
     regs: &[Reg],
 ) -> Result<Vec<Reg>, AllocError>
+    requires room { number_past registers from regs.now < number_limit }
     ensures { IfOk result (λ made. made.items ≡ renewed registers from regs.now) }
 {
     let mut made = Vec::with_capacity(alloc, regs.len())?;
@@ -140,7 +136,7 @@ pub(crate) fn renewed(
     for reg in regs {
         if is_renewed(registers, *reg) {
             made.push(fresh(number, *reg))?;
-            number = next(number)?;
+            number += 1;
         } else {
             made.push(*reg)?;
         }
@@ -176,6 +172,7 @@ pub(crate) fn push_reloads(
     regs: &[Reg],
     code: &mut Vec<Instr>,
 ) -> Result<(), AllocError>
+    requires room { number_past registers from regs.now < number_limit }
     ensures { IfOk result (λ _.
         code.new.items ≡ code.old.items ++ reloads registers from regs.now) }
 {
@@ -183,7 +180,7 @@ pub(crate) fn push_reloads(
     for reg in regs {
         if is_renewed(registers, *reg) {
             code.push(copy(alloc, CopyKind::Reload, *reg, fresh(number, *reg))?)?;
-            number = next(number)?;
+            number += 1;
         }
     }
     Ok(())
@@ -197,13 +194,14 @@ pub(crate) fn push_spills(
     regs: &[Reg],
     code: &mut Vec<Instr>,
 ) -> Result<(), AllocError>
+    requires room { number_past registers from regs.now < number_limit }
     ensures { IfOk result (λ _. code.new.items ≡ code.old.items ++ spills registers from regs.now) }
 {
     let mut number = from;
     for reg in regs {
         if is_renewed(registers, *reg) {
             code.push(copy(alloc, CopyKind::Spill, fresh(number, *reg), *reg)?)?;
-            number = next(number)?;
+            number += 1;
         }
     }
     Ok(())

@@ -1,10 +1,13 @@
 //! The function with its reloads and spills.
-ghost use Rattle.std.specs.Prelude.{◌≡◌, ◌++◌, IfOk};
+ghost use Rattle.std.specs.Prelude.{◌≡◌, ◌+◌, ◌<◌, ◌++◌, IfOk};
 ghost use Rattle.mach_ir.specs.Formed.{WellFormed};
 ghost use Rattle.mach_ir.specs.Graph.{place_in};
 ghost use Rattle.mach_ir.specs.Placed.{IsColouring};
+ghost use Rattle.mach_ir.specs.Sizes.{HasRoom, number_limit};
 ghost use Rattle.mach_ir.specs.Walks.{IsRegister, Joined};
 ghost use Rattle.mach_ir.specs.declared.mach.Mach.{Mach};
+ghost use Rattle.pass_rules.specs.Measures.{other_operands};
+ghost use Rattle.reload_rules.specs.Kept.{with_copies};
 ghost use Rattle.reload_rules.specs.Reloaded.{needs_registers, any_needs, reloaded_instr, past_instr, reloaded_code, IsReloadedBy};
 
 use crate::places::{Putting, put_all};
@@ -42,6 +45,7 @@ fn push_instr(
     instr: Instr,
     code: &mut Vec<Instr>,
 ) -> Result<u32, AllocError>
+    requires room { past_instr number instr < number_limit }
     ensures number { IfOk result (λ next. next ≡ past_instr number instr) }
     ensures code { IfOk result (λ _.
         code.new.items ≡ code.old.items ++ reloaded_instr number instr) }
@@ -49,8 +53,8 @@ fn push_instr(
     let Instr { op, args, results } = instr;
     let reads = reads_registers(&op);
     let writes = writes_registers(&op);
-    let second = number_past(reads, number, args.as_slice())?;
-    let next = number_past(writes, second, results.as_slice())?;
+    let second = number_past(reads, number, args.as_slice());
+    let next = number_past(writes, second, results.as_slice());
     push_reloads(alloc, reads, number, args.as_slice(), code)?;
     let new_args = renewed(alloc, reads, number, args.as_slice())?;
     let new_results = renewed(alloc, writes, second, results.as_slice())?;
@@ -64,6 +68,7 @@ fn push_instr(
 }
 
 fn reloaded_code(alloc: Global, free: u32, code: Seq<Instr>) -> Result<Seq<Instr>, AllocError>
+    requires room { free + other_operands code < number_limit }
     ensures { IfOk result (λ made. made ≡ reloaded_code free code) }
 {
     let mut made = Vec::new(alloc);
@@ -76,14 +81,14 @@ fn reloaded_code(alloc: Global, free: u32, code: Seq<Instr>) -> Result<Seq<Instr
 
 /// What reloading makes of a function by its colours, and whether it asks for another round.
 ///
-/// The time is linear in the function. The only error is want of memory; so counts that there is no number
-/// for a fresh register.
+/// The time is linear in the function. The only error is want of memory.
 pub fn reload(alloc: Global, mach: Mach, colours: &Colours) -> Result<(Mach, bool), AllocError>
     requires formed { WellFormed mach }
     requires colouring { IsColouring (IsRegister mach) (Joined mach) (place_in colours.now) }
+    requires room { HasRoom (with_copies (other_operands mach.code)) mach }
     ensures { IfOk result (λ made. IsReloadedBy mach (place_in colours.now) made.0 made.1) }
 {
-    let free = first_free(&mach)?;
+    let free = first_free(&mach);
     let slotted = put_all(alloc, Putting::IntoSlots, colours, mach)?;
     if any_needs(slotted.code.as_slice()) {
         let code = reloaded_code(alloc, free, slotted.code)?;

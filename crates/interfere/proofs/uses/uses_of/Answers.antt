@@ -1,17 +1,29 @@
 use Rattle.std.proofs.Common.{◌∙◌}
+use Rattle.interfere.proofs.Counting.{args_fit, results_fit}
 use Rattle.interfere.proofs.Entering.{regs_small, args_in, results_in, read_in}
 use Rattle.interfere.proofs.uses.uses_of.Goals as goal
 
-pub count-requires : goal.count-requires
-count-requires c =
+pub count-requires-clause-numbers : goal.count-requires-clause-numbers
+count-requires-clause-numbers c =
     let i = c.instr-item.result in
     let at = read_in c.args.code.now c.loop-instr.instr-index i c.loop-instr-test.true c.instr-item.is in
-    regs_small c.args.size _ i.args c.as_slice.result.now c.as_slice.ensures (λ r a. c.requires r (args_in c.args.code.now i r at a))
+    regs_small c.args.size _ i.args c.as_slice.result.now c.as_slice.ensures (λ r a. c.requires.numbers r (args_in c.args.code.now i r at a))
     c.loop-instr.invariant.len
 
-pub count-requires-in-loop-instr : goal.count-requires-in-loop-instr
-count-requires-in-loop-instr c =
+pub count-requires-clause-countable : goal.count-requires-clause-countable
+count-requires-clause-countable c =
+    args_fit _ c.args.code.now c.loop-instr.instr-index c.instr-item.result c.loop-instr-test.true c.instr-item.is
+    c.loop-instr.invariant.uses c.requires.countable c.as_slice.result.now c.as_slice.ensures
+
+pub count-2-requires-clause-numbers : goal.count-2-requires-clause-numbers
+count-2-requires-clause-numbers c =
     let i = c.instr-item.result in
     let at = read_in c.args.code.now c.loop-instr.instr-index i c.loop-instr-test.true c.instr-item.is in
-    regs_small c.args.size _ i.results c.as_slice-in-loop-instr.result.now c.as_slice-in-loop-instr.ensures
-    (λ r a. c.requires r (results_in c.args.code.now i r at a)) (c.in_ok-count.ensures.len ∙ c.loop-instr.invariant.len)
+    regs_small c.args.size _ i.results c.as_slice-2.result.now c.as_slice-2.ensures
+    (λ r a. c.requires.numbers r (results_in c.args.code.now i r at a)) (c.count.ensures.len ∙ c.loop-instr.invariant.len)
+
+pub count-2-requires-clause-countable : goal.count-2-requires-clause-countable
+count-2-requires-clause-countable c =
+    results_fit _ c.args.code.now c.loop-instr.instr-index c.instr-item.result c.loop-instr-test.true c.instr-item.is
+    c.loop-instr.invariant.uses c.requires.countable c.as_slice.result.now c.as_slice-2.result.now _ c.as_slice.ensures c.as_slice-2.ensures
+    c.count.ensures.more

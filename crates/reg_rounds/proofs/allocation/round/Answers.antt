@@ -1,6 +1,11 @@
 use Rattle.mach_ir.specs.Graph.{place_in}
 use Rattle.mach_laws.proofs.Colouring.{colourable, colouring_of}
+use Rattle.pass_rules.specs.Measures.{other_operands}
+use Rattle.reload_rules.proofs.Room.{room_counts}
 use Rattle.reg_rounds.proofs.allocation.round.Goals as goal
+
+pub graph-requires-clause-countable : goal.graph-requires-clause-countable
+graph-requires-clause-countable c = room_counts (other_operands c.args.mach.code) c.requires.room
 
 pub colour-requires : goal.colour-requires
 colour-requires c = colourable c.args.mach c.in_ok-graph.graph c.in_ok-graph.ensures c.requires.placed

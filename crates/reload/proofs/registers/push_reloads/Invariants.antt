@@ -1,8 +1,11 @@
 use Rattle.std.proofs.Common.{◌≡◌, ◌++◌, drop}
-use Rattle.reload_rules.specs.Reloaded.{reloads}
+use Rattle.reload_rules.specs.Reloaded.{number_past, reloads}
 use Rattle.reload.proofs.registers.push_reloads.Given as goal
 
 abbrev pub invariant-loop-reg : goal.invariant-loop-reg
 invariant-loop-reg l =
-    l.code.items ++ reloads l.registers l.number (drop l.reg-index l.regs)
-    ≡ l.initial.code.items ++ reloads l.registers l.from l.regs
+    record {
+      code : l.code.items ++ reloads l.registers l.number (drop l.reg-index l.regs)
+          ≡ l.initial.code.items ++ reloads l.registers l.from l.regs;
+      number : number_past l.registers l.number (drop l.reg-index l.regs) ≡ number_past l.registers l.from l.regs;
+    }

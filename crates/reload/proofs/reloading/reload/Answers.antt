@@ -6,8 +6,8 @@ use Rattle.reload.proofs.reloading.reload.Goals as goal
 
 pub returns-in_ok-code : goal.returns-in_ok-code
 returns-in_ok-code c =
-    answers_reloaded c.args.mach c.in_ok-slotted.slotted (place_in c.args.colours.now) c.any_needs.result c.in_ok-free.free c.in_ok-code.code
-    c.in_ok-slotted.ensures (c.any_needs.ensures ∙ ap any_needs c.as_slice.ensures) c.if-any_needs.true c.in_ok-free.ensures.above c.in_ok-free.ensures.least
+    answers_reloaded c.args.mach c.in_ok-slotted.slotted (place_in c.args.colours.now) c.any_needs.result c.first_free.result c.in_ok-code.code
+    c.in_ok-slotted.ensures (c.any_needs.ensures ∙ ap any_needs c.as_slice.ensures) c.if-any_needs.true c.first_free.ensures.above c.first_free.ensures.least
     c.in_ok-code.ensures
 
 pub returns-in_ok-coloured : goal.returns-in_ok-coloured
