@@ -8,25 +8,31 @@
 //! description of the language; where that gives no output, an evaluator in another language has made it.
 use anyhow::Result;
 use rows_lines::Table;
-use std::alloc::Global;
+use std::alloc::{AllocError, Global};
 use std::thread::Threads;
 
-/// What the program says to a row, but for the lines that tell the need of stack.
-pub(crate) fn said_to<R: Threads + Sync>(
+/// Puts what the program says to a row, but for the lines that tell the need of stack.
+pub(crate) fn put<R: Threads + Sync>(
     rt: &R,
     alloc: Global,
     table: &mut Table,
+    said: &mut Vec<u8>,
     row: &str,
-) -> Result<Vec<u8>> {
-    let said = table.said_to(rt, alloc, row)?;
-    let mut shown = Vec::new(alloc);
-    for line in str::from_utf8(said.as_slice())?.split_terminator('\n') {
+) -> Result<()> {
+    let answer = table.said_to(rt, alloc, row)?;
+    put_lines(said, str::from_utf8(answer.as_slice())?)?;
+    Ok(())
+}
+
+/// Puts the lines but those that tell the need of stack.
+fn put_lines(said: &mut Vec<u8>, lines: &str) -> Result<(), AllocError> {
+    for line in lines.split_terminator('\n') {
         if !is_need(line) {
-            shown.extend_from_slice(line.as_bytes())?;
-            shown.push(b'\n')?;
+            said.extend_from_slice(line.as_bytes())?;
+            said.push(b'\n')?;
         }
     }
-    Ok(shown)
+    Ok(())
 }
 
 /// Whether the line tells how much stack a run needs.

@@ -8,6 +8,7 @@
 //! the front of what it holds without, or the line says that they are not.
 //!
 //! The answers were made by a script that knows how long each output is and what the rules say of statuses.
+use anyhow::{Result, bail};
 use rows_lines::{Answer, Table};
 use std::alloc::{AllocError, Global};
 use std::thread::Threads;
@@ -24,53 +25,85 @@ const TROUBLES: [&str; 5] = [
 /// The most trials of one trouble.
 const TRIALS: u64 = 256;
 
-/// The lines of a command.
-pub(crate) fn said_to<R: Threads + Sync>(
+/// Puts the lines of a row.
+pub(crate) fn put<R: Threads + Sync>(
     rt: &R,
     alloc: Global,
     table: &mut Table,
+    said: &mut Vec<u8>,
     row: &str,
-) -> Result<Vec<u8>, AllocError> {
+) -> Result<()> {
     let Some((words, input)) = row.split_once(" | ") else {
-        return b"no bar\n".to_vec(alloc);
+        bail!("no bar: {row}");
     };
-    let mut said = words.as_bytes().to_vec(alloc)?;
+    said.extend_from_slice(words.as_bytes())?;
     said.extend_from_slice(b": ")?;
-    if let Some(words) = words.strip_prefix("once ") {
-        let answer = table.answer_to(rt, alloc, words, input)?;
-        said.extend_from_slice(told(alloc, &answer, &answer)?.as_slice())?;
-        return Ok(said);
+    match words.strip_prefix("once ") {
+        Some(words) => {
+            let answer = table.answer_to(rt, alloc, words, input)?;
+            put_answer(alloc, said, &answer, &answer)?;
+        }
+        None => put_trials(rt, alloc, table, said, words, input)?,
     }
-    let whole = table.answer_to(rt, alloc, words, input)?;
-    said.extend_from_slice(told(alloc, &whole, &whole)?.as_slice())?;
-    for trouble in TROUBLES {
-        said.extend_from_slice(tried(rt, alloc, table, words, trouble, &whole)?.as_slice())?;
-    }
-    Ok(said)
+    Ok(())
 }
 
-/// The lines of the trials of a trouble, up to the first that changes nothing.
-fn tried<R: Threads + Sync>(
+/// Puts the lines of a command, without trouble and with each.
+fn put_trials<R: Threads + Sync>(
     rt: &R,
     alloc: Global,
     table: &mut Table,
+    said: &mut Vec<u8>,
+    words: &str,
+    input: &str,
+) -> Result<(), AllocError> {
+    let whole = table.answer_to(rt, alloc, words, input)?;
+    put_answer(alloc, said, &whole, &whole)?;
+    for trouble in TROUBLES {
+        put_trouble(rt, alloc, table, said, words, trouble, &whole)?;
+    }
+    Ok(())
+}
+
+/// Puts the lines of the trials of a trouble, up to the first that changes nothing.
+fn put_trouble<R: Threads + Sync>(
+    rt: &R,
+    alloc: Global,
+    table: &mut Table,
+    said: &mut Vec<u8>,
     words: &str,
     trouble: &str,
     whole: &Answer,
-) -> Result<Vec<u8>, AllocError> {
-    let mut lines = Vec::new(alloc);
+) -> Result<(), AllocError> {
     for number in 0..TRIALS {
-        let line = format!(in alloc; "{trouble}={number} {words}")?;
-        let answer = table.answer_to(rt, alloc, line.as_str(), "same")?;
-        let head = format!(in alloc; "  {trouble}={number}: ")?;
-        lines.extend_from_slice(head.as_bytes())?;
-        if is_same(&answer, whole) {
-            lines.extend_from_slice(b"as without\n")?;
-            return Ok(lines);
+        let trial = format!(in alloc; "{trouble}={number}")?;
+        if is_last(rt, alloc, table, said, words, trial.as_str(), whole)? {
+            return Ok(());
         }
-        lines.extend_from_slice(told(alloc, &answer, whole)?.as_slice())?;
     }
-    Ok(lines)
+    Ok(())
+}
+
+/// Puts the line of a trial, and says whether it changes nothing.
+fn is_last<R: Threads + Sync>(
+    rt: &R,
+    alloc: Global,
+    table: &mut Table,
+    said: &mut Vec<u8>,
+    words: &str,
+    trial: &str,
+    whole: &Answer,
+) -> Result<bool, AllocError> {
+    let line = format!(in alloc; "{trial} {words}")?;
+    let answer = table.answer_to(rt, alloc, line.as_str(), "same")?;
+    let head = format!(in alloc; "  {trial}: ")?;
+    said.extend_from_slice(head.as_bytes())?;
+    if is_same(&answer, whole) {
+        said.extend_from_slice(b"as without\n")?;
+        return Ok(true);
+    }
+    put_answer(alloc, said, &answer, whole)?;
+    Ok(false)
 }
 
 /// Whether the answers are the same.
@@ -80,19 +113,23 @@ fn is_same(answer: &Answer, whole: &Answer) -> bool {
         && answer.err.as_slice() == whole.err.as_slice()
 }
 
-/// The line of an answer, where `whole` is the one without trouble.
-fn told(alloc: Global, answer: &Answer, whole: &Answer) -> Result<Vec<u8>, AllocError> {
+/// Puts the line of an answer, where `whole` is the one without trouble.
+fn put_answer(
+    alloc: Global,
+    said: &mut Vec<u8>,
+    answer: &Answer,
+    whole: &Answer,
+) -> Result<(), AllocError> {
     let status = answer.status;
-    let held = answer.out.as_slice().len();
-    let head = format!(in alloc; "status {status}, out {held}")?;
-    let mut line = head.into_bytes();
-    if !whole.out.as_slice().starts_with(answer.out.as_slice()) {
-        line.extend_from_slice(b" not the front")?;
+    let held = answer.out.len();
+    let is_front = whole.out.as_slice().starts_with(answer.out.as_slice());
+    let not = if is_front { "" } else { " not the front" };
+    let line = format!(in alloc; "status {status}, out {held}{not}, err ")?;
+    said.extend_from_slice(line.as_bytes())?;
+    said.extend_from_slice(answer.err.as_slice())?;
+    if answer.err.as_slice().ends_with(b"\n") {
+        Ok(())
+    } else {
+        said.extend_from_slice(b"..\n")
     }
-    line.extend_from_slice(b", err ")?;
-    line.extend_from_slice(answer.err.as_slice())?;
-    if !line.ends_with(b"\n") {
-        line.extend_from_slice(b"..\n")?;
-    }
-    Ok(line)
 }

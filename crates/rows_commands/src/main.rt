@@ -16,27 +16,37 @@ mod texts;
 
 use anyhow::Result;
 use rows_lines::Table;
-use std::io::{self, BufRead, BufReader, BufWriter, Write};
+use std::alloc::Global;
+use std::io::{self, BufRead, BufReader, Write};
+use std::thread::Threads;
 use subject::Subject;
 
-fn main(rt: HostRuntime) -> Result<()> {
-    let alloc = rt.alloc();
+/// Puts what is shown of the lines.
+fn put_lines<R: Threads + Sync, B: BufRead>(
+    rt: &R,
+    alloc: Global,
+    said: &mut Vec<u8>,
+    lines: B,
+) -> Result<()> {
     let mut subject = Subject::Commands;
     let mut table = Table::new(alloc);
-    let mut out = BufWriter::new(alloc, rt.stdout())?;
-    for line in BufReader::new(alloc, rt.stdin())?.lines(alloc) {
+    for line in lines.lines(alloc) {
         let line = line?;
         match line.as_str().strip_prefix("= ") {
             Some(name) => {
-                subject = Subject::of(name);
+                subject = Subject::of(name)?;
                 table = Table::new(alloc);
             }
-            None => {
-                let said = subject.said_to(&rt, alloc, &mut table, line.as_str())?;
-                out.write_all(said.as_slice())?;
-            }
+            None => subject.put(rt, alloc, &mut table, said, line.as_str())?,
         }
     }
-    out.flush()?;
+    Ok(())
+}
+
+fn main(rt: HostRuntime) -> Result<()> {
+    let alloc = rt.alloc();
+    let mut said = Vec::new(alloc);
+    put_lines(&rt, alloc, &mut said, BufReader::new(alloc, rt.stdin())?)?;
+    rt.stdout().write_all(said.as_slice())?;
     Ok(())
 }
