@@ -112,7 +112,7 @@ written_is m i results colours found all made e g f a h =
 member : (P : Reg → Type 0) (xs : List Reg) (q : Reg) → All P xs → Contains xs q → P q
 member P xs q all c = subst P c.2 (all c.0 q c.1)
 
-members : (P : Reg → Type 0) (xs : List Reg) → ((q : Reg) → Contains xs q → P q) → All P xs
+pub members : (P : Reg → Type 0) (xs : List Reg) → ((q : Reg) → Contains xs q → P q) → All P xs
 members P xs h = λ k d lt. h (slice_index_or xs k d) (Contains-get_or xs k d lt)
 
 left_in : (xs ys : List Reg) (y : Reg) → Contains xs y → Contains (xs ++ ys) y

@@ -1,6 +1,7 @@
 //! The flow graph of a function.
 ghost use Rattle.std.specs.Prelude.{◌<◌, ◌^◌, suc, length, IfOk};
 ghost use Rattle.dataflow.specs.Flow.{WellFormed};
+ghost use Rattle.mach_ir.specs.Sizes.{IsCountable};
 ghost use Rattle.mach_laws.specs.Graph.{IsFlowOf};
 ghost use Rattle.liveness.specs.Labels.{AreLabelsOf};
 ghost use Rattle.liveness.specs.Nodes.{AreNodes, register_uses};
@@ -40,16 +41,12 @@ fn nodes_of(alloc: Global, mach: &Mach, labels: &Labels) -> Result<Vec<Place>, A
 }
 
 /// The flow graph of the function. Its places are those of the text, and one after the last.
-///
-/// A function with more places or registers than a number can count is want of memory.
 pub fn flow_of(alloc: Global, mach: &Mach) -> Result<Flow, AllocError>
+    requires countable { IsCountable mach.now }
     ensures flow { IfOk result (IsFlowOf mach.now) }
     ensures formed { IfOk result WellFormed }
 {
-    if mach.code.len() >= u32::MAX as usize {
-        return Err(AllocError);
-    }
-    let bound = first_free(mach)?;
+    let bound = first_free(mach);
     let labels = Labels::of_function(alloc, mach)?;
     let nodes = nodes_of(alloc, mach, &labels)?;
     Ok(Flow {

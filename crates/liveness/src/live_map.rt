@@ -2,6 +2,7 @@
 ghost use Rattle.std.specs.Prelude.{IfOk};
 ghost use Rattle.dataflow.specs.Flow.{WellFormed};
 ghost use Rattle.mach_ir.specs.Graph.{IsLiveMap};
+ghost use Rattle.mach_ir.specs.Sizes.{IsCountable};
 ghost use Rattle.mach_laws.specs.Graph.{IsFlowOf};
 
 use crate::flow::flow_of;
@@ -21,9 +22,9 @@ pub struct LiveFlow {
 /// so that the graph is made once.
 ///
 /// The time is that of a sweep over the function for each depth of its loops and two more; the memory
-/// is a bit for each register and place. The only error is want of memory, which more places or
-/// registers than a number can count are too.
+/// is a bit for each register and place. The only error is want of memory.
 pub fn live_flow(alloc: Global, mach: &Mach) -> Result<LiveFlow, AllocError>
+    requires countable { IsCountable mach.now }
     ensures flow { IfOk result (λ found. IsFlowOf mach.now found.flow) }
     ensures formed { IfOk result (λ found. WellFormed found.flow) }
     ensures live { IfOk result (λ found. IsLiveMap mach.now found.live) }
@@ -36,6 +37,7 @@ pub fn live_flow(alloc: Global, mach: &Mach) -> Result<LiveFlow, AllocError>
 
 /// What is live alone, by `live_flow`.
 pub fn live(alloc: Global, mach: &Mach) -> Result<LiveMap, AllocError>
+    requires countable { IsCountable mach.now }
     ensures { IfOk result (IsLiveMap mach.now) }
 {
     let found = live_flow(alloc, mach)?;

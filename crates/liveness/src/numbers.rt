@@ -1,51 +1,44 @@
 //! The numbers of a function's registers.
-ghost use Rattle.std.specs.Prelude.{◌≡◌, ◌+◌, ◌<◌, ◌≤◌, ℕ, IfOk};
-ghost use Rattle.mach_ir.specs.Walks.{IsRegister};
+ghost use Rattle.std.specs.Prelude.{◌<◌, ◌≤◌, ℕ, suc, All};
+ghost use Rattle.mach_ir.specs.Sizes.{IsCountable, number_limit};
+ghost use Rattle.mach_ir.specs.Walks.{InCode, IsRegister};
 ghost use Rattle.mach_ir.specs.declared.reg.Reg.{Reg};
 ghost use Rattle.liveness.specs.Numbers.{IsAbove, IsAboveCode};
 
 use mach_ir::{Instr, Mach, Reg};
-use std::alloc::AllocError;
-
-/// The next number. That there is none counts as want of memory.
-fn number_after(number: u32) -> Result<u32, AllocError>
-    ensures { IfOk result (λ next. next ≡ number + 1) }
-{
-    number.checked_add(1).ok_or(AllocError)
-}
 
 /// The least number, from `bound` on, that is above those of these registers.
-fn above(bound: u32, regs: &[Reg]) -> Result<u32, AllocError>
-    ensures { IfOk result (IsAbove bound regs.now) }
+fn above(bound: u32, regs: &[Reg]) -> u32
+    requires { All (λ (r : Reg). suc r.number < number_limit) regs.now }
+    ensures { IsAbove bound regs.now result }
 {
     let mut above = bound;
     for reg in regs {
-        let next = number_after(reg.number)?;
+        let next = reg.number + 1;
         above = above.max(next);
     }
-    Ok(above)
+    above
 }
 
-fn above_code(bound: u32, code: &[Instr]) -> Result<u32, AllocError>
-    ensures { IfOk result (IsAboveCode bound code.now) }
+fn above_code(bound: u32, code: &[Instr]) -> u32
+    requires { (r : Reg) → InCode r code.now → suc r.number < number_limit }
+    ensures { IsAboveCode bound code.now result }
 {
     let mut above_all = bound;
     for instr in code {
-        let above_args = above(above_all, instr.args.as_slice())?;
-        above_all = above(above_args, instr.results.as_slice())?;
+        let above_args = above(above_all, instr.args.as_slice());
+        above_all = above(above_args, instr.results.as_slice());
     }
-    Ok(above_all)
+    above_all
 }
 
-/// The least number that is above those of all registers of the function. That there is none counts as
-/// want of memory.
-pub fn first_free(mach: &Mach) -> Result<u32, AllocError>
-    ensures above { IfOk result (λ free. (r : Reg) → IsRegister mach.now r → r.number < free) }
-    ensures least { IfOk result (λ free. (b : ℕ) →
-        ((r : Reg) → IsRegister mach.now r → r.number < b) → free ≤ b) }
+/// The least number that is above those of all registers of the function.
+pub fn first_free(mach: &Mach) -> u32
+    requires countable { IsCountable mach.now }
+    ensures above { (r : Reg) → IsRegister mach.now r → r.number < result }
+    ensures least { (b : ℕ) → ((r : Reg) → IsRegister mach.now r → r.number < b) → result ≤ b }
 {
-    let above_params = above(0, mach.params.as_slice())?;
-    let above_colours = above(above_params, mach.colours.as_slice())?;
-    let free = above_code(above_colours, mach.code.as_slice())?;
-    Ok(free)
+    let above_params = above(0, mach.params.as_slice());
+    let above_colours = above(above_params, mach.colours.as_slice());
+    above_code(above_colours, mach.code.as_slice())
 }

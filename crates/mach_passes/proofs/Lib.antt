@@ -2,6 +2,7 @@ pub mod Replaced
 pub mod Split
 pub mod Spilled
 pub mod Whole
+pub mod Room
 pub mod Repeated
 pub mod Propagated
 pub mod Dropped

@@ -27,16 +27,16 @@ use Rattle.mach_ir.specs.declared.reg.Reg.{Reg}
 use Rattle.mach_ir.specs.declared.mach.Instr.{Instr}
 use Rattle.mach_ir.specs.declared.mach.Mach.{Mach}
 use Rattle.pass_rules.specs.Carried.{IsCarried}
-use Rattle.pass_rules.specs.Measures.{copy_words, code_words, exits}
+use Rattle.pass_rules.specs.Measures.{copy_words, code_words}
 use Rattle.sink_rules.proofs.Chosen as sinking
 use Rattle.sink_rules.proofs.Chosen.{one_sunk}
 use Rattle.sink_rules.specs.Chosen.{IsSunk}
 use Rattle.sink_rules.specs.Sunk as sinks
 use Rattle.spill_rules.proofs.Chosen.{spilled_kept, one_spilled, seated_params}
-use Rattle.spill_rules.specs.Chosen.{ParamsPlaced, IsSpilled, IsChosenKept}
+use Rattle.spill_rules.specs.Chosen.{ParamsPlaced, IsSpilled, IsChosenKept, spilled_size}
 use Rattle.split_rules.proofs.One.{one_split}
 use Rattle.split_rules.proofs.Whole.{split_kept}
-use Rattle.split_rules.specs.Split.{IsSplit}
+use Rattle.split_rules.specs.Split.{IsSplit, split_size}
 use Rattle.bs_words.proofs.Lists.{none_in, in_cons}
 use Rattle.mach_passes.specs.Prepared.{IsPrepared, IsPreparable, IsKept}
 use Rattle.mach_passes.specs.Stages.{IsCommoned, HasNoRepeats, IsCleaned, IsReadied, HasSlots}
@@ -218,17 +218,11 @@ within_size {m} {s} {t} h instrs operands registers labels =
 pub fewer_operands : {more : ℕ} {m q : Mach} → IsStage more (λ (s : Size). s) m q → operand_count q.code ≤ operand_count m.code
 fewer_operands {m = m} stage = (stage.size (own_size m) (has_own_size m)).operands
 
-abbrev spilled_size : Size → Size
-spilled_size s = record s { instrs = s.instrs + s.operands; operands = 3 * s.operands; registers = 2 * s.registers }
-
-abbrev split_size : ℕ → Size → Size
-split_size parameters s = record s { registers = s.registers + (s.operands + parameters) }
-
 -- a move to itself for each register at the most
-abbrev sunk_size : Size → Size
+abbrev pub sunk_size : Size → Size
 sunk_size s = record s { instrs = s.instrs + s.registers; operands = s.operands + 2 * s.registers }
 
-hoist_stage : (m q : Mach) → WellFormed m → WellPlaced m → HasConstantsFirst m q → Smaller m q
+pub hoist_stage : (m q : Mach) → WellFormed m → WellPlaced m → HasConstantsFirst m q → Smaller m q
 hoist_stage m q formed placed s =
     let k = constants_first_kept m q formed s in
     record {

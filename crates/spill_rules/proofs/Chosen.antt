@@ -36,7 +36,7 @@ use Rattle.spill_rules.specs.Spilled.{Plan, copied, reload, spill, reloads_of, s
 use Rattle.spill_rules.proofs.Formed.{spilled_formed}
 use Rattle.spill_rules.proofs.Kept.{Which, own, slotted, WasRegister, IsCopiedAt, by_reload, by_spill, was_register}
 use Rattle.spill_rules.proofs.Placed.{spilled_placed, spilled_seated}
-use Rattle.spill_rules.proofs.Whole.{spilled_keeps, spilled_size, few_reloads, few_spills, cond_few}
+use Rattle.spill_rules.proofs.Whole.{spilled_keeps, within_bounds, few_reloads, few_spills, cond_few}
 
 -- ---- places of a code
 
@@ -238,7 +238,7 @@ module _ (m : Mach) (plan : Plan) (formed : WellFormed m) (params : ParamsPlaced
           formed = spilled_formed m plan formed placed is;
           placed = spilled_placed m plan formed placed is;
           seated = spilled_seated m plan formed placed is;
-          size = spilled_size m plan formed placed is;
+          size = within_bounds m plan formed placed is;
         }
 
     pub chosen_kept : IsChosenKept m (spilled plan m) plan

@@ -287,11 +287,11 @@ module _ (m : Mach) (plan : Plan) (formed : WellFormed m) (placed : WellPlaced m
   number_below registers r w (own e) x y = subst (λ n. n < registers) (ap (λ (x : Reg). x.number) e) x
   number_below registers r w (slotted e) x y = subst (λ n. n < registers) (ap (λ (x : Reg). x.number) e) y
 
-  pub spilled_size : (s : Size) (registers : ℕ) → HasSize m s → s.registers ≤ registers →
+  pub within_bounds : (s : Size) (registers : ℕ) → HasSize m s → s.registers ≤ registers →
       ((r : Reg) → IsRegister m r → plan.slot r.number < registers) →
       HasSize (spilled plan m)
       (record s { instrs = s.instrs + s.operands; operands = 3 * s.operands; registers = registers })
-  spilled_size s registers h le slots =
+  within_bounds s registers h le slots =
       let instrs = instrs_expand f few_instrs m.code in
       let operands = operands_expand f 3 few_operands m.code in
       let a = h.instrs in

@@ -94,6 +94,16 @@ pub record IsNeededSlot (m : Mach) (r : Reg) : Type 0 where
   pub to : List Instr
   pub over : LivesOver m register.number call next to
 
+-- The bounds on a function with its stores and reloads, by those on the one without: at most a reload for
+-- each operand and a store for each result, and a register for the slot of each.
+abbrev pub spilled_size : Size → Size
+spilled_size s =
+    record s {
+      instrs = s.instrs + s.operands;
+      operands = 3 * s.operands;
+      registers = 2 * s.registers;
+    }
+
 pub record IsChosenKept (m q : Mach) (plan : Plan) : Type 0 where
   pub kept : IsKept m q plan
   -- the only new registers stand in such slots
@@ -102,10 +112,4 @@ pub record IsChosenKept (m q : Mach) (plan : Plan) : Type 0 where
   pub reloads : (i : Instr) (k : ℕ) →
       length (reloads_of plan k (operands_of i)) ≤ length i.args
   pub spills : (i : Instr) (k : ℕ) → length (spills_of plan k (results_of i)) ≤ length i.results
-  pub size : (s : Size) → HasSize m s →
-      HasSize q
-      (record s {
-        instrs = s.instrs + s.operands;
-        operands = 3 * s.operands;
-        registers = 2 * s.registers;
-      })
+  pub size : (s : Size) → HasSize m s → HasSize q (spilled_size s)

@@ -73,6 +73,12 @@ pub record IsOneWeb (q : Mach) : Type 0 where
   pub one : (r : Reg) → IsRegister q r → r.loc ≡ loc.Unset → (from to : List Instr) →
       IsWrite q r.number from → IsWrite q r.number to → Chained q r.number from to
 
+-- The bounds on a split function, by those on the one that it is made of, and the number of its
+-- parameters: there are as many instructions, operands and labels, and at most a register more for each
+-- operand and each parameter.
+abbrev pub split_size : ℕ → Size → Size
+split_size parameters s = record s { registers = s.registers + (s.operands + parameters) }
+
 -- What a split function keeps.
 pub record IsKept (p q : Mach) : Type 0 where
   pub keeps : Keeps p q
@@ -80,7 +86,4 @@ pub record IsKept (p q : Mach) : Type 0 where
   pub placed : WellPlaced q
   pub seated : Seated p → Seated q
   pub no_addr : NoAddrLive p → NoAddrLive q
-  -- There are as many instructions, operands and labels, and at most a register more for each operand
-  -- and each parameter.
-  pub size : (s : Size) → HasSize p s →
-      HasSize q (record s { registers = s.registers + (s.operands + length p.params) })
+  pub size : (s : Size) → HasSize p s → HasSize q (split_size (length p.params) s)

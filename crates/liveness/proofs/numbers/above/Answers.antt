@@ -1,4 +1,4 @@
-use Rattle.std.proofs.Common.{subst}
+use Rattle.std.proofs.Common.{refl, subst}
 use Rattle.std.proofs.lemmas.List.{take_all}
 use Rattle.liveness.specs.Numbers.{IsAbove}
 use Rattle.liveness.proofs.Bounds.{above_begun, above_step}
@@ -9,8 +9,8 @@ loop-reg-init c = above_begun c.args.bound c.args.regs.now
 
 pub loop-reg-preserved : goal.loop-reg-preserved
 loop-reg-preserved c =
-    above_step c.args.bound c.loop-reg.above c.max-above.result c.in_ok-next.next c.loop-reg.reg-index c.args.regs.now _
-    c.loop-reg-test.true c.loop-reg.invariant c.in_ok-next.ensures c.max-above.ensures
+    above_step c.args.bound c.loop-reg.above c.max-above.result _ c.loop-reg.reg-index c.args.regs.now _
+    c.loop-reg-test.true c.loop-reg.invariant refl c.max-above.ensures
 
 pub returns : goal.returns
 returns c =

@@ -1,12 +1,34 @@
-use Rattle.std.proofs.Common.{subst}
+use Rattle.std.proofs.Common.{suc, ◌<◌, sym, subst}
 use Rattle.liveness.specs.Numbers.{IsAbove, IsAboveCode}
-use Rattle.liveness.proofs.Bounds.{first_least}
+use Rattle.mach_ir.specs.Sizes.{number_limit}
+use Rattle.mach_ir.specs.Walks.{InCode, is_param, is_colour, is_in_code}
+use Rattle.mach_ir.specs.declared.reg.Reg.{Reg}
+use Rattle.std.specs.List.{All}
+use Rattle.liveness.proofs.Bounds.{first_least, members}
+use Rattle.liveness.proofs.Counting.{next_fits}
 use Rattle.liveness.proofs.numbers.first_free.Goals as goal
 
 pub returns-clause-least : goal.returns-clause-least
 returns-clause-least c =
-    first_least c.args.mach.now c.in_ok-above_params.above_params c.in_ok-above_colours.above_colours c.in_ok-free.free
-    (subst (λ rs. IsAbove 0 rs c.in_ok-above_params.above_params) c.as_slice.ensures c.in_ok-above_params.ensures)
-    (subst (λ rs. IsAbove c.in_ok-above_params.above_params rs c.in_ok-above_colours.above_colours) c.as_slice-2.ensures
-    c.in_ok-above_colours.ensures)
-    (subst (λ xs. IsAboveCode c.in_ok-above_colours.above_colours xs c.in_ok-free.free) c.as_slice-3.ensures c.in_ok-free.ensures)
+    first_least c.args.mach.now c.above-above_params.result c.above-above_colours.result c.above_code.result
+    (subst (λ rs. IsAbove 0 rs c.above-above_params.result) c.as_slice.ensures c.above-above_params.ensures)
+    (subst (λ rs. IsAbove c.above-above_params.result rs c.above-above_colours.result) c.as_slice-2.ensures
+    c.above-above_colours.ensures)
+    (subst (λ xs. IsAboveCode c.above-above_colours.result xs c.above_code.result) c.as_slice-3.ensures c.above_code.ensures)
+
+pub above-above_params-requires : goal.above-above_params-requires
+above-above_params-requires c =
+    let P = λ (r : Reg). suc r.number < number_limit in
+    subst (All P) (sym c.as_slice.ensures)
+    (members P c.args.mach.now.params (λ r d. next_fits c.args.mach.now c.requires.countable r (is_param d)))
+
+pub above-above_colours-requires : goal.above-above_colours-requires
+above-above_colours-requires c =
+    let P = λ (r : Reg). suc r.number < number_limit in
+    subst (All P) (sym c.as_slice-2.ensures)
+    (members P c.args.mach.now.colours (λ r d. next_fits c.args.mach.now c.requires.countable r (is_colour d)))
+
+pub above_code-requires : goal.above_code-requires
+above_code-requires c =
+    subst (λ code. (r : Reg) → InCode r code → suc r.number < number_limit) (sym c.as_slice-3.ensures)
+    (λ r d. next_fits c.args.mach.now c.requires.countable r (is_in_code d))
