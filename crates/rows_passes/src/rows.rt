@@ -3,11 +3,16 @@
 //! A line `= NAME` begins a table (`Subject` has the names), and a line `colours REGISTERS` has the colours of the functions
 //! that follow. A function is a line `mach NAME RESULT PARAMETERS`, an instruction a line (`rows_reading` has the form), and
 //! an empty line. A line `# ..` says what a function is about. Any other line is an error.
+ghost use Rattle.std.specs.Prelude.{length};
+ghost use Rattle.mach_ir.specs.Sizes.{HasRoom};
+ghost use Rattle.mach_tests.specs.Room.{wide};
+
 use crate::{lines, webs};
 use anyhow::{Result, bail};
 use bs_words::Name;
 use mach_ir::page::Page;
 use mach_ir::{Instr, Mach, Reg, Seq};
+use mach_tests::has_room;
 use rows_reading::{apart, given, registers};
 use std::alloc::Global;
 use std::mem;
@@ -34,12 +39,23 @@ impl Subject {
         }
     }
 
-    /// Puts what is made of a function.
-    fn put(self, alloc: Global, page: &mut Page, mach: Mach) -> Result<()> {
+    /// Puts what is made of a function for which the passes have room.
+    fn put(self, alloc: Global, page: &mut Page, mach: Mach) -> Result<()>
+        requires { HasRoom (wide (length mach.params)) mach }
+    {
         match self {
             Subject::Splits => webs::put_split(alloc, page, mach),
             Subject::Spills => webs::put_spilled(alloc, page, mach),
             Subject::Lines => lines::put(alloc, page, &mach),
+        }
+    }
+
+    /// Puts what is made of a function. The error is one for which the passes have no room.
+    fn put_tested(self, alloc: Global, page: &mut Page, mach: Mach) -> Result<()> {
+        if has_room(&mach) {
+            self.put(alloc, page, mach)
+        } else {
+            bail!("no room for what passes make")
         }
     }
 }
@@ -101,7 +117,7 @@ impl Rows {
         let head = mem::replace(&mut self.head, String::new(self.alloc));
         let instrs = mem::replace(&mut self.instrs, Vec::new(self.alloc));
         let mach = function(self.alloc, head.as_str(), self.colours.as_slice(), instrs)?;
-        self.subject.put(self.alloc, page, mach)
+        self.subject.put_tested(self.alloc, page, mach)
     }
 
     /// Reads an instruction.

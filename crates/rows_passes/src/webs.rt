@@ -4,6 +4,10 @@
 //! What is wanted is by a reading of its own of what the terms mean: what is live by the least sets that the edges allow,
 //! webs by the writes that come to each operand and their numbers by the first of them, reloads by the calls that lead to a
 //! read, and stores by the reloads that a write comes to.
+ghost use Rattle.std.specs.Prelude.{length};
+ghost use Rattle.mach_ir.specs.Sizes.{HasRoom};
+ghost use Rattle.mach_tests.specs.Room.{wide};
+
 use anyhow::Result;
 use liveness::{first_free, live};
 use mach_ir::page::Page;
@@ -36,7 +40,9 @@ fn put_text(alloc: Global, page: &mut Page, word: &[u8], mach: &Mach) -> Result<
 
 /// The function, what is live before each of its instructions and after the last, and the split
 /// function.
-pub(crate) fn put_split(alloc: Global, page: &mut Page, mach: Mach) -> Result<()> {
+pub(crate) fn put_split(alloc: Global, page: &mut Page, mach: Mach) -> Result<()>
+    requires { HasRoom (wide (length mach.params)) mach }
+{
     put_text(alloc, page, b"", &mach)?;
     let free = first_free(&mach)?;
     let live = live(alloc, &mach)?;
