@@ -8,31 +8,25 @@
 //! description of the language; where that gives no output, an evaluator in another language has made it.
 use anyhow::Result;
 use rows_lines::Table;
-use std::alloc::{AllocError, Global};
+use std::alloc::Global;
 use std::thread::Threads;
 
-/// Puts what the program says to a row, but for the lines that tell the need of stack.
-pub(crate) fn put<R: Threads + Sync>(
+/// What the program says to a row, but for the lines that tell the need of stack.
+pub(crate) fn said_to<R: Threads + Sync>(
     rt: &R,
     alloc: Global,
     table: &mut Table,
-    said: &mut Vec<u8>,
     row: &str,
-) -> Result<()> {
-    let answer = table.said_to(rt, alloc, row)?;
-    put_lines(said, str::from_utf8(answer.as_slice())?)?;
-    Ok(())
-}
-
-/// Puts the lines but those that tell the need of stack.
-fn put_lines(said: &mut Vec<u8>, lines: &str) -> Result<(), AllocError> {
-    for line in lines.split_terminator('\n') {
+) -> Result<Vec<u8>> {
+    let said = table.said_to(rt, alloc, row)?;
+    let mut shown = Vec::new(alloc);
+    for line in str::from_utf8(said.as_slice())?.split_terminator('\n') {
         if !is_need(line) {
-            said.extend_from_slice(line.as_bytes())?;
-            said.push(b'\n')?;
+            shown.extend_from_slice(line.as_bytes())?;
+            shown.push(b'\n')?;
         }
     }
-    Ok(())
+    Ok(shown)
 }
 
 /// Whether the line tells how much stack a run needs.

@@ -8,7 +8,6 @@
 //! the front of what it holds without, or the line says that they are not.
 //!
 //! The answers were made by a script that knows how long each output is and what the rules say of statuses.
-use anyhow::{Result, bail};
 use rows_lines::{Answer, Table};
 use std::alloc::{AllocError, Global};
 use std::thread::Threads;
@@ -25,85 +24,53 @@ const TROUBLES: [&str; 5] = [
 /// The most trials of one trouble.
 const TRIALS: u64 = 256;
 
-/// Puts the lines of a row.
-pub(crate) fn put<R: Threads + Sync>(
+/// The lines of a command.
+pub(crate) fn said_to<R: Threads + Sync>(
     rt: &R,
     alloc: Global,
     table: &mut Table,
-    said: &mut Vec<u8>,
     row: &str,
-) -> Result<()> {
+) -> Result<Vec<u8>, AllocError> {
     let Some((words, input)) = row.split_once(" | ") else {
-        bail!("no bar: {row}");
+        return b"no bar\n".to_vec(alloc);
     };
-    said.extend_from_slice(words.as_bytes())?;
+    let mut said = words.as_bytes().to_vec(alloc)?;
     said.extend_from_slice(b": ")?;
-    match words.strip_prefix("once ") {
-        Some(words) => {
-            let answer = table.answer_to(rt, alloc, words, input)?;
-            put_answer(alloc, said, &answer, &answer)?;
-        }
-        None => put_trials(rt, alloc, table, said, words, input)?,
+    if let Some(words) = words.strip_prefix("once ") {
+        let answer = table.answer_to(rt, alloc, words, input)?;
+        said.extend_from_slice(told(alloc, &answer, &answer)?.as_slice())?;
+        return Ok(said);
     }
-    Ok(())
-}
-
-/// Puts the lines of a command, without trouble and with each.
-fn put_trials<R: Threads + Sync>(
-    rt: &R,
-    alloc: Global,
-    table: &mut Table,
-    said: &mut Vec<u8>,
-    words: &str,
-    input: &str,
-) -> Result<(), AllocError> {
     let whole = table.answer_to(rt, alloc, words, input)?;
-    put_answer(alloc, said, &whole, &whole)?;
+    said.extend_from_slice(told(alloc, &whole, &whole)?.as_slice())?;
     for trouble in TROUBLES {
-        put_trouble(rt, alloc, table, said, words, trouble, &whole)?;
+        said.extend_from_slice(tried(rt, alloc, table, words, trouble, &whole)?.as_slice())?;
     }
-    Ok(())
+    Ok(said)
 }
 
-/// Puts the lines of the trials of a trouble, up to the first that changes nothing.
-fn put_trouble<R: Threads + Sync>(
+/// The lines of the trials of a trouble, up to the first that changes nothing.
+fn tried<R: Threads + Sync>(
     rt: &R,
     alloc: Global,
     table: &mut Table,
-    said: &mut Vec<u8>,
     words: &str,
     trouble: &str,
     whole: &Answer,
-) -> Result<(), AllocError> {
+) -> Result<Vec<u8>, AllocError> {
+    let mut lines = Vec::new(alloc);
     for number in 0..TRIALS {
-        let trial = format!(in alloc; "{trouble}={number}")?;
-        if is_last(rt, alloc, table, said, words, trial.as_str(), whole)? {
-            return Ok(());
+        let line = format!(in alloc; "{trouble}={number} {words}")?;
+        let answer = table.answer_to(rt, alloc, line.as_str(), "same")?;
+        let head = format!(in alloc; "  {trouble}={number}: ")?;
+        lines.extend_from_slice(head.as_bytes())?;
+        if is_same(&answer, whole) {
+            lines.extend_from_slice(b"as without\n")?;
+            return Ok(lines);
         }
+        lines.extend_from_slice(told(alloc, &answer, whole)?.as_slice())?;
     }
-    Ok(())
-}
-
-/// Puts the line of a trial, and says whether it changes nothing.
-fn is_last<R: Threads + Sync>(
-    rt: &R,
-    alloc: Global,
-    table: &mut Table,
-    said: &mut Vec<u8>,
-    words: &str,
-    trial: &str,
-    whole: &Answer,
-) -> Result<bool, AllocError> {
-    let line = format!(in alloc; "{trial} {words}")?;
-    let answer = table.answer_to(rt, alloc, line.as_str(), "same")?;
-    let head = format!(in alloc; "  {trial}: ")?;
-    said.extend_from_slice(head.as_bytes())?;
-    if is_same(&answer, whole) {
-        said.extend_from_slice(b"as without\n")?;
-        return Ok(true);
-    }
-    put_answer(alloc, said, &answer, whole)?;
-    Ok(false)
+    Ok(lines)
 }
 
 /// Whether the answers are the same.
@@ -113,23 +80,19 @@ fn is_same(answer: &Answer, whole: &Answer) -> bool {
         && answer.err.as_slice() == whole.err.as_slice()
 }
 
-/// Puts the line of an answer, where `whole` is the one without trouble.
-fn put_answer(
-    alloc: Global,
-    said: &mut Vec<u8>,
-    answer: &Answer,
-    whole: &Answer,
-) -> Result<(), AllocError> {
+/// The line of an answer, where `whole` is the one without trouble.
+fn told(alloc: Global, answer: &Answer, whole: &Answer) -> Result<Vec<u8>, AllocError> {
     let status = answer.status;
-    let held = answer.out.len();
-    let is_front = whole.out.as_slice().starts_with(answer.out.as_slice());
-    let not = if is_front { "" } else { " not the front" };
-    let line = format!(in alloc; "status {status}, out {held}{not}, err ")?;
-    said.extend_from_slice(line.as_bytes())?;
-    said.extend_from_slice(answer.err.as_slice())?;
-    if answer.err.as_slice().ends_with(b"\n") {
-        Ok(())
-    } else {
-        said.extend_from_slice(b"..\n")
+    let held = answer.out.as_slice().len();
+    let head = format!(in alloc; "status {status}, out {held}")?;
+    let mut line = head.into_bytes();
+    if !whole.out.as_slice().starts_with(answer.out.as_slice()) {
+        line.extend_from_slice(b" not the front")?;
     }
+    line.extend_from_slice(b", err ")?;
+    line.extend_from_slice(answer.err.as_slice())?;
+    if !line.ends_with(b"\n") {
+        line.extend_from_slice(b"..\n")?;
+    }
+    Ok(line)
 }

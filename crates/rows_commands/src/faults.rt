@@ -9,17 +9,15 @@ use rows_lines::{OpenGate, answer_of};
 use std::alloc::{AllocError, Global};
 use std::thread::Threads;
 
-/// Puts what the program says of a text.
-pub(crate) fn put<R: Threads + Sync>(
+/// What the program says of a text.
+pub(crate) fn said_to<R: Threads + Sync>(
     rt: &R,
     alloc: Global,
-    said: &mut Vec<u8>,
     text: &str,
-) -> Result<(), AllocError> {
+) -> Result<Vec<u8>, AllocError> {
     let answer = answer_of(rt, alloc, "compile", text.as_bytes(), &OpenGate)?;
     if answer.status == 0 {
-        said.extend_from_slice(b"compiled\n")
-    } else {
-        said.extend_from_slice(answer.err.as_slice())
+        return b"compiled\n".to_vec(alloc);
     }
+    Ok(answer.err)
 }

@@ -1,59 +1,63 @@
 //! What `cmmc` says to texts at the ends of its limits, and just past them.
 //!
-//! A row has the name of a form, a number that says how long the text becomes, the words of a command, a bar, and what the
-//! command reads, as a template (`texts`). What it answers is the status; what went to out, of an image the number of its
-//! bytes alone; and what went to err. The answers were counted by hand, and by a script that makes the same texts.
+//! A row has the form of a text, a number that says how long it becomes (`texts` has the forms), and the words of a
+//! command. What it answers is the status; what went to out, of an image the number of its bytes alone; and what went to
+//! err. The answers were counted by hand, and by a script that makes the same texts.
 use crate::texts::text_of;
-use anyhow::{Result, bail};
+use anyhow::Result;
 use rows_lines::{Answer, Table};
 use std::alloc::{AllocError, Global};
 use std::thread::Threads;
 
-/// The form and the number of a row, and its words.
-fn parts(head: &str) -> Option<(&str, u32, &str)> {
-    let (form, rest) = head.split_once(' ')?;
-    let (number, words) = rest.split_once(' ')?;
-    Some((form, number.parse::<u32>().ok()?, words))
-}
-
-/// Puts the lines of a row.
-pub(crate) fn put<R: Threads + Sync>(
+/// The lines of a row.
+pub(crate) fn said_to<R: Threads + Sync>(
     rt: &R,
     alloc: Global,
     table: &mut Table,
-    said: &mut Vec<u8>,
     row: &str,
-) -> Result<()> {
-    let Some((head, template)) = row.split_once(" | ") else {
-        bail!("no template: {row}");
+) -> Result<Vec<u8>> {
+    let Some((form, rest)) = row.split_once(' ') else {
+        return Ok(b"no number\n".to_vec(alloc)?);
     };
-    let Some((form, number, words)) = parts(head) else {
-        bail!("no number or no command: {row}");
+    let Some((number, words)) = rest.split_once(' ') else {
+        return Ok(b"no command\n".to_vec(alloc)?);
     };
+    let number = number.parse::<u32>()?;
+    let answer = answered(rt, alloc, table, form, number, words)?;
     let head = format!(in alloc; "{form} {number}, ")?;
-    said.extend_from_slice(head.as_bytes())?;
-    let input = text_of(alloc, template, number)?;
-    let answer = table.answer_to(rt, alloc, words, input.as_str())?;
-    put_answer(alloc, said, words == "compile", &answer)?;
-    Ok(())
+    let mut said = head.into_bytes();
+    said.extend_from_slice(told(alloc, words == "compile", &answer)?.as_slice())?;
+    Ok(said)
 }
 
-/// Puts the lines of an answer.
-fn put_answer(
+/// What the program answers to the words, over the text of a form.
+fn answered<R: Threads + Sync>(
+    rt: &R,
     alloc: Global,
-    said: &mut Vec<u8>,
-    is_image: bool,
-    answer: &Answer,
-) -> Result<(), AllocError> {
+    table: &mut Table,
+    form: &str,
+    number: u32,
+    words: &str,
+) -> Result<Answer> {
+    let is_run = words.starts_with("run ");
+    let head = if is_run { "image " } else { "" };
+    let mut input = head.as_bytes().to_vec(alloc)?;
+    input.extend_from_slice(text_of(alloc, form, number)?.as_slice())?;
+    Ok(table.answer_to(rt, alloc, words, str::from_utf8(input.as_slice())?)?)
+}
+
+/// The lines of an answer.
+fn told(alloc: Global, is_image: bool, answer: &Answer) -> Result<Vec<u8>, AllocError> {
     let status = answer.status;
-    let bytes = answer.out.len();
+    let head = format!(in alloc; "status {status}\n")?;
+    let mut lines = head.into_bytes();
     if is_image && status == 0 {
-        let lines = format!(in alloc; "status {status}\n{bytes} bytes\n")?;
-        said.extend_from_slice(lines.as_bytes())?;
+        let bytes = answer.out.as_slice().len();
+        let line = format!(in alloc; "{bytes} bytes\n")?;
+        lines.extend_from_slice(line.as_bytes())?;
     } else {
-        let line = format!(in alloc; "status {status}\n")?;
-        said.extend_from_slice(line.as_bytes())?;
-        said.extend_from_slice(answer.out.as_slice())?;
+        lines.extend_from_slice(answer.out.as_slice())?;
     }
-    said.extend_from_slice(answer.err.as_slice())
+    lines.extend_from_slice(answer.err.as_slice())?;
+    Ok(lines)
 }

@@ -16,37 +16,27 @@ mod texts;
 
 use anyhow::Result;
 use rows_lines::Table;
-use std::alloc::Global;
-use std::io::{self, BufRead, BufReader, Write};
-use std::thread::Threads;
+use std::io::{self, BufRead, BufReader, BufWriter, Write};
 use subject::Subject;
-
-/// Puts what is shown of the lines.
-fn put_lines<R: Threads + Sync, B: BufRead>(
-    rt: &R,
-    alloc: Global,
-    said: &mut Vec<u8>,
-    lines: B,
-) -> Result<()> {
-    let mut subject = Subject::Commands;
-    let mut table = Table::new(alloc);
-    for line in lines.lines(alloc) {
-        let line = line?;
-        match line.as_str().strip_prefix("= ") {
-            Some(name) => {
-                subject = Subject::of(name)?;
-                table = Table::new(alloc);
-            }
-            None => subject.put(rt, alloc, &mut table, said, line.as_str())?,
-        }
-    }
-    Ok(())
-}
 
 fn main(rt: HostRuntime) -> Result<()> {
     let alloc = rt.alloc();
-    let mut said = Vec::new(alloc);
-    put_lines(&rt, alloc, &mut said, BufReader::new(alloc, rt.stdin())?)?;
-    rt.stdout().write_all(said.as_slice())?;
+    let mut subject = Subject::Commands;
+    let mut table = Table::new(alloc);
+    let mut out = BufWriter::new(alloc, rt.stdout())?;
+    for line in BufReader::new(alloc, rt.stdin())?.lines(alloc) {
+        let line = line?;
+        match line.as_str().strip_prefix("= ") {
+            Some(name) => {
+                subject = Subject::of(name);
+                table = Table::new(alloc);
+            }
+            None => {
+                let said = subject.said_to(&rt, alloc, &mut table, line.as_str())?;
+                out.write_all(said.as_slice())?;
+            }
+        }
+    }
+    out.flush()?;
     Ok(())
 }

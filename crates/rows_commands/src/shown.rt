@@ -1,90 +1,73 @@
 //! What is shown of the text of a stage.
 use std::alloc::{AllocError, Global};
 
-/// Puts what is shown of a text, by a word that says which part.
-pub(crate) fn put_shown(
-    alloc: Global,
-    said: &mut Vec<u8>,
-    part: &str,
-    text: &str,
-) -> Result<(), AllocError> {
+/// What is shown of a text, by a word that says which part.
+pub(crate) fn shown_of(alloc: Global, part: &str, text: &str) -> Result<Vec<u8>, AllocError> {
     match part {
-        "whole" => said.extend_from_slice(text.as_bytes()),
-        "first" => put_line(said, first_of(text)),
-        "top" => put_nameless(said, top_of(text)),
-        "slots" => put_slots(alloc, said, text),
-        "sizes" => put_sizes(said, text),
-        operation => put_lines(said, operation, text),
+        "whole" => text.as_bytes().to_vec(alloc),
+        "first" => match text.split_once('\n') {
+            Some((line, _)) => whole_line(alloc, line),
+            None => b"nothing\n".to_vec(alloc),
+        },
+        "top" => top_of(alloc, text),
+        "slots" => slots_of(alloc, text),
+        "sizes" => sizes_of(alloc, text),
+        operation => lines_of(alloc, operation, text),
     }
 }
 
-/// The first line of the text.
-fn first_of(text: &str) -> &str {
-    match text.split_once('\n') {
-        Some((line, _)) => line,
-        None => "nothing",
+fn whole_line(alloc: Global, line: &str) -> Result<Vec<u8>, AllocError> {
+    let mut whole = line.as_bytes().to_vec(alloc)?;
+    whole.push(b'\n')?;
+    Ok(whole)
+}
+
+/// The first instruction of the text, which is its second line, without the names of its registers.
+fn top_of(alloc: Global, text: &str) -> Result<Vec<u8>, AllocError> {
+    let mut top = Vec::new(alloc);
+    if let Some((_, body)) = text.split_once('\n') {
+        if let Some((line, _)) = body.split_once('\n') {
+            put_nameless(&mut top, line)?;
+        }
     }
+    Ok(top)
 }
 
-/// The first instruction of the text, which is its second line.
-fn top_of(text: &str) -> &str {
-    match text.split_once('\n') {
-        Some((_, body)) => first_of(body),
-        None => "nothing",
-    }
-}
-
-fn put_line(said: &mut Vec<u8>, line: &str) -> Result<(), AllocError> {
-    said.extend_from_slice(line.as_bytes())?;
-    said.push(b'\n')?;
-    Ok(())
-}
-
-/// The slot that a word names.
-fn slot_of(word: &str) -> Option<&str> {
-    match word.split_once("]:") {
-        Some((slot, _)) if slot.starts_with("[") => Some(slot),
-        _ => None,
-    }
-}
-
-/// The different slots that stand in the text.
-fn slots_of(alloc: Global, text: &str) -> Result<Vec<&str>, AllocError> {
+/// How many different slots stand in the text.
+fn slots_of(alloc: Global, text: &str) -> Result<Vec<u8>, AllocError> {
     let mut slots: Vec<&str> = Vec::new(alloc);
     for word in text.split(' ') {
-        match slot_of(word) {
-            Some(slot) if !slots.as_slice().contains(&slot) => slots.push(slot)?,
-            _ => {}
+        if let Some((slot, _)) = word.split_once("]:") {
+            if slot.starts_with("[") && !slots.as_slice().contains(&slot) {
+                slots.push(slot)?;
+            }
         }
     }
-    Ok(slots)
+    let count = slots.as_slice().len();
+    Ok(format!(in alloc; "{count} slots\n")?.into_bytes())
 }
 
-/// Puts how many different slots stand in the text.
-fn put_slots(alloc: Global, said: &mut Vec<u8>, text: &str) -> Result<(), AllocError> {
-    let count = slots_of(alloc, text)?.len();
-    let line = format!(in alloc; "{count} slots")?;
-    put_line(said, line.as_str())
-}
-
-/// Puts the lines without their first word, which is an address.
-fn put_sizes(said: &mut Vec<u8>, text: &str) -> Result<(), AllocError> {
+/// The lines without their first word, which is an address.
+fn sizes_of(alloc: Global, text: &str) -> Result<Vec<u8>, AllocError> {
+    let mut lines = Vec::new(alloc);
     for line in text.split_terminator('\n') {
         if let Some((_, rest)) = line.split_once(' ') {
-            put_line(said, rest)?;
+            lines.extend_from_slice(rest.as_bytes())?;
+            lines.push(b'\n')?;
         }
     }
-    Ok(())
+    Ok(lines)
 }
 
-/// Puts the instructions of an operation, without the names of their registers and labels.
-fn put_lines(said: &mut Vec<u8>, operation: &str, text: &str) -> Result<(), AllocError> {
+/// The instructions of an operation, without the names of their registers and labels.
+fn lines_of(alloc: Global, operation: &str, text: &str) -> Result<Vec<u8>, AllocError> {
+    let mut lines = Vec::new(alloc);
     for line in text.split_terminator('\n') {
         if operation_of(line) == operation {
-            put_nameless(said, line)?;
+            put_nameless(&mut lines, line)?;
         }
     }
-    Ok(())
+    Ok(lines)
 }
 
 /// The word of the operation of a line.
@@ -105,23 +88,24 @@ fn is_label(word: &str) -> bool {
     matches!(bytes.first(), Some(b'L')) && matches!(bytes.get(1), Some(b'0'..=b'9'))
 }
 
-/// What stands for a word, and how much of the word after that: nothing for the name of a register or a label.
-fn nameless(word: &str) -> (&'static str, &str) {
-    match word.split_once(':') {
-        Some((_, kind)) => (" _:", kind),
-        None if is_label(word) && word.ends_with(",") => (" L_,", ""),
-        None if is_label(word) => (" L_", ""),
-        None => (" ", word),
-    }
-}
-
 /// Puts the words of a line, each register and label without its name.
-fn put_nameless(said: &mut Vec<u8>, line: &str) -> Result<(), AllocError> {
+fn put_nameless(lines: &mut Vec<u8>, line: &str) -> Result<(), AllocError> {
     for word in line.trim_start().split(' ') {
-        let (before, rest) = nameless(word);
-        said.extend_from_slice(before.as_bytes())?;
-        said.extend_from_slice(rest.as_bytes())?;
+        match word.split_once(':') {
+            Some((_, kind)) => {
+                lines.extend_from_slice(b" _:")?;
+                lines.extend_from_slice(kind.as_bytes())?;
+            }
+            None if is_label(word) => {
+                let label: &[u8] = if word.ends_with(",") { b" L_," } else { b" L_" };
+                lines.extend_from_slice(label)?;
+            }
+            None => {
+                lines.push(b' ')?;
+                lines.extend_from_slice(word.as_bytes())?;
+            }
+        }
     }
-    said.push(b'\n')?;
+    lines.push(b'\n')?;
     Ok(())
 }

@@ -1,8 +1,8 @@
 //! What the tables are about.
 use crate::{compiled, devices, faults, limits, listings, plans};
-use anyhow::{Result, bail};
+use anyhow::Result;
 use rows_lines::Table;
-use std::alloc::{AllocError, Global};
+use std::alloc::Global;
 use std::thread::Threads;
 
 /// What a table is about, which says how its rows are read and what is shown of the answers. Where no module is named, a
@@ -39,12 +39,14 @@ pub(crate) enum Subject {
     /// functions there: each operation, test and chunk of Linear. What they return, raise, call or ask was counted by
     /// hand.
     Images,
+    /// No table has this name.
+    Unknown,
 }
 
 impl Subject {
     /// The subject with this name.
-    pub(crate) fn of(name: &str) -> Result<Subject> {
-        let subject = match name {
+    pub(crate) fn of(name: &str) -> Subject {
+        match name {
             "commands" => Subject::Commands,
             "checks" => Subject::Checks,
             "faults" => Subject::Faults,
@@ -55,42 +57,29 @@ impl Subject {
             "compiled" => Subject::Compiled,
             "operators" => Subject::Operators,
             "images" => Subject::Images,
-            _ => bail!("no table: {name}"),
-        };
-        Ok(subject)
+            _ => Subject::Unknown,
+        }
     }
 
-    /// Puts what is shown of a row.
-    pub(crate) fn put<R: Threads + Sync>(
+    /// What is shown of a row.
+    pub(crate) fn said_to<R: Threads + Sync>(
         self,
         rt: &R,
         alloc: Global,
         table: &mut Table,
-        said: &mut Vec<u8>,
         row: &str,
-    ) -> Result<()> {
+    ) -> Result<Vec<u8>> {
         match self {
-            Subject::Faults => Ok(faults::put(rt, alloc, said, row)?),
-            Subject::Devices => devices::put(rt, alloc, table, said, row),
-            Subject::Limits => limits::put(rt, alloc, table, said, row),
-            Subject::Listings => listings::put(rt, alloc, table, said, row),
-            Subject::Plans => plans::put(rt, alloc, table, said, row),
-            Subject::Compiled => compiled::put(rt, alloc, table, said, row),
             Subject::Commands | Subject::Checks | Subject::Operators | Subject::Images => {
-                Ok(put_all(rt, alloc, table, said, row)?)
+                Ok(table.said_to(rt, alloc, row)?)
             }
+            Subject::Faults => Ok(faults::said_to(rt, alloc, row)?),
+            Subject::Devices => Ok(devices::said_to(rt, alloc, table, row)?),
+            Subject::Limits => limits::said_to(rt, alloc, table, row),
+            Subject::Listings => listings::said_to(rt, alloc, table, row),
+            Subject::Plans => plans::said_to(rt, alloc, table, row),
+            Subject::Compiled => compiled::said_to(rt, alloc, table, row),
+            Subject::Unknown => Ok(b"no table\n".to_vec(alloc)?),
         }
     }
-}
-
-/// Puts all that `cmmc` says to a row.
-fn put_all<R: Threads + Sync>(
-    rt: &R,
-    alloc: Global,
-    table: &mut Table,
-    said: &mut Vec<u8>,
-    row: &str,
-) -> Result<(), AllocError> {
-    let answer = table.said_to(rt, alloc, row)?;
-    said.extend_from_slice(answer.as_slice())
 }

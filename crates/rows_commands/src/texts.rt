@@ -1,65 +1,154 @@
 //! Texts that are as long as a number says.
-//!
-//! A template is a text with pieces in braces and factors in brackets. A piece stands there as many times as the number
-//! says, each time with how often it stood before for `#`, and with 1000 more for `^`. A factor is there times the number.
-use anyhow::Result;
-use std::alloc::Global;
+use std::alloc::{AllocError, Global};
 
-/// Puts a number in decimal digits.
-fn put_number(alloc: Global, text: &mut String, number: u64) -> Result<()> {
-    let digits = format!(in alloc; "{number}")?;
-    text.push_str(digits.as_str())?;
-    Ok(())
+/// A text that grows.
+#[derive(Drop)]
+struct Text {
+    bytes: Vec<u8>,
 }
 
-/// Puts a piece that stood so often before.
-fn put_piece(alloc: Global, text: &mut String, piece: &str, before: u32) -> Result<()> {
-    for letter in piece.chars() {
-        match letter {
-            '#' => put_number(alloc, text, u64::from(before))?,
-            '^' => put_number(alloc, text, u64::from(before) + 1000)?,
-            _ => text.push(letter)?,
+impl Text {
+    fn new(alloc: Global) -> Text {
+        Text {
+            bytes: Vec::new(alloc),
         }
     }
-    Ok(())
+
+    fn put(&mut self, piece: &str) -> Result<(), AllocError> {
+        self.bytes.extend_from_slice(piece.as_bytes())
+    }
+
+    /// Puts a piece so often.
+    fn put_times(&mut self, piece: &str, times: u32) -> Result<(), AllocError> {
+        for _ in 0..times {
+            self.put(piece)?;
+        }
+        Ok(())
+    }
+
+    fn put_number(&mut self, alloc: Global, number: u64) -> Result<(), AllocError> {
+        let digits = format!(in alloc; "{number}")?;
+        self.put(digits.as_str())
+    }
+
+    /// Puts two pieces so often, with the numbers from 0 on between them.
+    fn put_numbered(
+        &mut self,
+        alloc: Global,
+        before: &str,
+        after: &str,
+        times: u32,
+    ) -> Result<(), AllocError> {
+        for number in 0..times {
+            self.put(before)?;
+            self.put_number(alloc, u64::from(number))?;
+            self.put(after)?;
+        }
+        Ok(())
+    }
 }
 
-/// Puts a piece so often.
-fn put_pieces(alloc: Global, text: &mut String, piece: &str, times: u32) -> Result<()> {
-    for before in 0..times {
-        put_piece(alloc, text, piece, before)?;
+/// The text of a form. One that has no such form is empty.
+pub(crate) fn text_of(alloc: Global, form: &str, number: u32) -> Result<Vec<u8>, AllocError> {
+    let mut text = Text::new(alloc);
+    match form {
+        // The number is how many bytes the text has.
+        "spaces" => text.put_times(" ", number)?,
+        // How many bytes the name of a function has.
+        "name" => around(&mut text, "(function \"", "f", number, "\" () 1)")?,
+        // How many sums nest, or tries.
+        "nest" => nested(&mut text, "(+ x ", number, ")")?,
+        "tries" => nested(&mut text, "(try ", number, " with e e)")?,
+        // How many parameters a function has.
+        "params" => {
+            text.put("(function \"p\" (")?;
+            text.put_numbered(alloc, "a", ":int ", number)?;
+            text.put(") (- a0 a15))")?;
+        }
+        // How many arguments a call has, or an external call.
+        "arguments" => {
+            text.put("(function \"p\" (")?;
+            text.put_numbered(alloc, "a", ":int ", 16)?;
+            text.put(") (- a0 a15)) (function \"q\" (x:int) (app \"p\" ")?;
+            text.put_numbered(alloc, "(+ x ", ") ", number)?;
+            text.put("int))")?;
+        }
+        "outside" => {
+            text.put("(function \"e\" (x:int) (extcall \"see\" ")?;
+            text.put_numbered(alloc, "(+ x ", ") ", number)?;
+            text.put("unit))")?;
+        }
+        _ => put_sized(alloc, &mut text, form, number)?,
+    }
+    Ok(text.bytes)
+}
+
+/// The forms with a number in the text.
+fn put_sized(alloc: Global, text: &mut Text, form: &str, number: u32) -> Result<(), AllocError> {
+    match form {
+        // How many words a block has, the last of which is read.
+        "cells" => {
+            text.put("(function \"b\" (x:int) (let p (alloc ")?;
+            text.put_number(alloc, 1024 * u64::from(number))?;
+            text.put_numbered(alloc, " ", "1", number)?;
+            text.put(") (load int (+a (+a p ")?;
+            text.put_number(alloc, 8 * u64::from(number))?;
+            text.put(") -8))))")
+        }
+        // How many zeros the static data have.
+        "static" => {
+            text.put("(\"s\": skip ")?;
+            text.put_number(alloc, u64::from(number))?;
+            text.put(")")
+        }
+        // The last of so many zeros is written and read.
+        "last" => {
+            text.put("(\"s\": skip ")?;
+            text.put_number(alloc, u64::from(number))?;
+            text.put(" \"t\":) (function \"l\" (x:int) (store unsigned byte (- \"t\" 1) x) ")?;
+            text.put("(load unsigned byte (- \"t\" 1)))")
+        }
+        // How many indexes a switch has, each with a case of its own.
+        "cases" => {
+            text.put("(function \"c\" (x:int) (switch ")?;
+            text.put_number(alloc, u64::from(number))?;
+            text.put(" x")?;
+            put_cases(alloc, text, number)?;
+            text.put("))")
+        }
+        _ => Ok(()),
+    }
+}
+
+/// So many cases, each with a value of its own.
+fn put_cases(alloc: Global, text: &mut Text, cases: u32) -> Result<(), AllocError> {
+    for index in 0..cases {
+        text.put(" case ")?;
+        text.put_number(alloc, u64::from(index))?;
+        text.put(": ")?;
+        text.put_number(alloc, 1000 + u64::from(index))?;
     }
     Ok(())
 }
 
-/// Puts a part without pieces.
-fn put_factors(alloc: Global, text: &mut String, part: &str, number: u32) -> Result<()> {
-    for part in part.split('[') {
-        let rest = match part.split_once(']') {
-            Some((factor, rest)) => {
-                let factor = factor.parse::<u64>()?;
-                put_number(alloc, text, factor.wrapping_mul(u64::from(number)))?;
-                rest
-            }
-            None => part,
-        };
-        text.push_str(rest)?;
-    }
-    Ok(())
+/// A piece so often, between two others.
+fn around(
+    text: &mut Text,
+    head: &str,
+    piece: &str,
+    times: u32,
+    tail: &str,
+) -> Result<(), AllocError> {
+    text.put(head)?;
+    text.put_times(piece, times)?;
+    text.put(tail)
 }
 
-/// The text of a template.
-pub(crate) fn text_of(alloc: Global, template: &str, number: u32) -> Result<String> {
-    let mut text = String::new(alloc);
-    for part in template.split('{') {
-        let rest = match part.split_once('}') {
-            Some((piece, rest)) => {
-                put_pieces(alloc, &mut text, piece, number)?;
-                rest
-            }
-            None => part,
-        };
-        put_factors(alloc, &mut text, rest, number)?;
-    }
-    Ok(text)
+/// A function whose body is so many forms in one another, with x innermost.
+fn nested(text: &mut Text, open: &str, times: u32, close: &str) -> Result<(), AllocError> {
+    text.put("(function \"n\" (x:int) ")?;
+    text.put_times(open, times)?;
+    text.put("x")?;
+    text.put_times(close, times)?;
+    text.put(")")
 }
