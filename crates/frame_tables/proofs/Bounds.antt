@@ -13,6 +13,8 @@ use Rattle.lin_ir.specs.Walks.{at_entry, by_walk}
 use Rattle.lin_ir.specs.declared.descr.Descr.{Descr}
 use Rattle.lin_ir.specs.declared.lin.Lin.{Lin}
 use Rattle.lin_laws.specs.declared.position.Position.{Position}
+use Rattle.lin_flow.specs.Nodes.{AreWalkedTo}
+use Rattle.lin_flow.specs.Sizes.{IsCountable}
 use Rattle.lin_flow.proofs.Searching.{pushed_kept, pushed_here}
 use Rattle.bs_words.proofs.Lists.{got}
 use Rattle.frame_tables.specs.Described.{described, AreDescribed}
@@ -24,6 +26,20 @@ rounded s c f e le = omega (arith, e, le)
 
 pub slots_small : (m : Lin) → IsWithin m → m.slots ≤ 131072
 slots_small m h = rounded m.slots (cond (has_frame_point m.code) 8 0) (frame_bytes m) refl (h.frame m.code [] (by_walk at_entry))
+
+-- so there are numbers for its lines and slots
+pub countable_by : (m : Lin) → IsWithin m → IsCountable m
+countable_by m h = let few = slots_small m h in record { lines = h.lines; slots = omega (arith, few) }
+
+-- and for the traps at each position that walks come to
+pub traps_small : (m : Lin) (all : List Position) → IsWithin m → AreWalkedTo m all → (k : ℕ) (x : Position) → slice_get all k ≡ Some x →
+    length x.tries < 4294967296
+traps_small m all within walked k x at =
+    let le : frame_bytes m + 16 * length x.tries ≤ 1048576 = within.frame (drop x.place m.code) x.tries (by_walk (walked.each k x at)) in
+    by (frame_bytes m) (length x.tries) le
+  where
+    by : (f n : ℕ) → f + 16 * n ≤ 1048576 → n < 4294967296
+    by f n le = omega (arith, le)
 
 pub frame_small : (m : Lin) → IsWithin m → frame_bytes m < 4294967296
 frame_small m h = let le : frame_bytes m + 16 * 0 ≤ 1048576 = h.frame m.code [] (by_walk at_entry) in omega (arith, le)

@@ -45,7 +45,7 @@ module _ (m : Lin) where
   module _ (s2 s3 s4 : Search) (reached : ℕ) (nodes others : List place.Place) (one : IsWalked m s2 nodes)
       (count : reached ≡ length nodes) (roots : HasRoots m s2 s3 reached (length m.code)) where
     pub rooted_ready : IsReady m s3 nodes
-    rooted_ready = still_ready m s2 s3 nodes one.ready one.all roots.kept roots.groups
+    rooted_ready = still_ready m s2 s3 nodes one.ready one.all roots.kept roots.groups roots.countable
 
     pub is_searched : Spread m s3 s4 others → IsSearched m s4 reached others
     is_searched two =

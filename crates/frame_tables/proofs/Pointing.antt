@@ -358,7 +358,7 @@ module _ (s : Search) (nodes : List place.Place) (c : Choice) (aside : Bool) whe
 module _ (m : Lin) where
   pub roots_none : (s : Search) (reached : ℕ) → HasRoots m s s reached 0
   roots_none s reached =
-      record { kept = λ q x e. e; grouped = λ g. g; groups = refl; roots = λ p lt f. absurd (omega (arith, lt)) }
+      record { kept = λ q x e. e; grouped = λ g. g; countable = λ c. c; groups = refl; roots = λ p lt f. absurd (omega (arith, lt)) }
 
   pub first_kept : (s new : Search) (p reached : ℕ) →
       ((q : ℕ) (x : Position) → slice_get (all_of s) q ≡ Some x → slice_get (all_of new) q ≡ Some x) → HasFirst s p reached →
@@ -425,11 +425,11 @@ gathering_done s nodes c aside among group ns ms i e f le h =
 
 pub rooted_none : (s : Search) (op : LinOp) (p reached : ℕ) → (passes_frame op ≡ true → HasFirst s p reached) → IsRooted s s op p reached
 rooted_none s op p reached first =
-    record { kept = λ q x e. e; grouped = λ g. g; groups = refl; root = λ e. inr (first e) }
+    record { kept = λ q x e. e; grouped = λ g. g; countable = λ c. c; groups = refl; root = λ e. inr (first e) }
 
 pub rooted_new : (s new : Search) (op : LinOp) (p reached number : ℕ) → Entered s new (position p []) number → IsRooted s new op p reached
 rooted_new s new op p reached number g =
-    record { kept = g.grown.kept; grouped = g.grown.grouped; groups = g.grown.len; root = λ e. inl (number, g.here) }
+    record { kept = g.grown.kept; grouped = g.grown.grouped; countable = g.grown.countable; groups = g.grown.len; root = λ e. inl (number, g.here) }
 
 pub roots_step : (m : Lin) (old s new : Search) (reached k : ℕ) (line : Line) (code : List Line) → code ≡ m.code → k < length code →
     line ≡ get_or code k line → HasRoots m old s reached k → IsRooted s new line.op k reached → HasRoots m old new reached (k + 1)
@@ -437,6 +437,7 @@ roots_step m old s new reached k line code e lt is h g =
     record {
       kept = λ q x f. g.kept q x (h.kept q x f);
       grouped = λ a. g.grouped (h.grouped a);
+      countable = λ a. g.countable (h.countable a);
       groups = g.groups ∙ h.groups;
       roots = λ p less f.
           ⊎_elim

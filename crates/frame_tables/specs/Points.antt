@@ -11,7 +11,7 @@ use Rattle.lin_ir.specs.declared.lin.Lin.{Lin}
 use Rattle.lin_laws.specs.Graph.{place_of, position, AreNumbered, AreNodes, IsAfter}
 use Rattle.lin_laws.specs.declared.position.Position.{Position}
 use Rattle.lin_laws.specs.Numbers.{written_numbers}
-use Rattle.lin_flow.specs.Search.{all_of, groups_of, members, AreGrouped, HasFirst}
+use Rattle.lin_flow.specs.Search.{all_of, groups_of, members, AreGrouped, AreCountable, HasFirst}
 use Rattle.lin_flow.specs.declared.search.Search.{Search}
 use Rattle.frame_tables.specs.declared.after.Choice.{Choice}
 use Rattle.frame_tables.specs.declared.after.Point.{Point}
@@ -92,6 +92,7 @@ pub record IsRooted (old new : Search) (op : LinOp) (p reached : ℕ) : Type 0 w
   pub kept : (q : ℕ) (x : Position) → slice_get (all_of old) q ≡ Some x →
       slice_get (all_of new) q ≡ Some x
   pub grouped : AreGrouped old → AreGrouped new
+  pub countable : AreCountable old → AreCountable new
   pub groups : length (groups_of new) ≡ length (groups_of old)
   pub root : passes_frame op ≡ true →
       ((q : ℕ) × (slice_get (all_of new) q ≡ Some (position p []))) ⊎ HasFirst new p reached
@@ -101,6 +102,7 @@ pub record HasRoots (m : Lin) (old new : Search) (reached k : ℕ) : Type 0 wher
   pub kept : (q : ℕ) (x : Position) → slice_get (all_of old) q ≡ Some x →
       slice_get (all_of new) q ≡ Some x
   pub grouped : AreGrouped old → AreGrouped new
+  pub countable : AreCountable old → AreCountable new
   pub groups : length (groups_of new) ≡ length (groups_of old)
   pub roots : (p : ℕ) → p < k → IsFramePoint m p →
       ((q : ℕ) × (slice_get (all_of new) q ≡ Some (position p []))) ⊎ HasFirst new p reached

@@ -1,10 +1,11 @@
 //! The places of the flow graph before which is live what is live after a frame point.
-ghost use Rattle.std.specs.Prelude.{◌≡◌, ◌<◌, ◌↔◌, ℕ, suc, Some, length, slice_get, Contains, IfOk, IsTrue};
+ghost use Rattle.std.specs.Prelude.{◌≡◌, ◌+◌, ◌<◌, ◌↔◌, ℕ, suc, Some, length, slice_get, Contains, IfOk, IsTrue};
 ghost use Rattle.bs_words.specs.Contents.{contents};
 ghost use Rattle.lin_ir.specs.Meaning.{passes_frame};
 ghost use Rattle.lin_laws.specs.Numbers.{written_numbers};
 ghost use Rattle.lin_flow.specs.Search.{all_of, groups_of, members};
 ghost use Rattle.lin_flow.specs.Nodes.{IsText};
+ghost use Rattle.lin_flow.specs.Sizes.{IsCountable, HaveSmall};
 ghost use Rattle.frame_tables.specs.Points.{IsAsked, IsChosen, IsChoice, edges_of, IsGathered, Gathers, HasTraps};
 ghost use Rattle.frame_tables.specs.Points.{IsAfterNode, IsSearched, IsRooted, ArePoints, HasRoots};
 
@@ -151,6 +152,7 @@ fn after_node(
     choice: Choice,
     line: &Line,
 ) -> Result<Place, AllocError>
+    requires { HaveSmall line.now.results }
     ensures { IfOk result (λ node. IsAfterNode search.now nodes.now choice line.now node) }
 {
     let next = gather(alloc, search, nodes, choice, false)?;
@@ -214,7 +216,7 @@ pub fn add_points(
     reached: u32,
     nodes: &mut Vec<Place>,
 ) -> Result<Vec<Point>, AllocError>
-    requires lines { length lin.now.code < 4294967296 }
+    requires countable { IsCountable lin.now }
     requires searched { IsSearched lin.now search.now reached nodes.old.items }
     ensures { IfOk result (λ points. ArePoints lin.now (all_of search.now) nodes.new.items
         points.items (length lin.now.code)) }

@@ -1,11 +1,12 @@
 //! How many traps are pushed before each line.
-ghost use Rattle.std.specs.Prelude.{◌≡◌, ◌<◌, length, slice_index, IfOk};
+ghost use Rattle.std.specs.Prelude.{length, slice_index, IfOk};
+ghost use Rattle.lin_ir.specs.Descriptors.{IsWithin};
 ghost use Rattle.lin_ir.specs.Formed.{AreLocated};
 ghost use Rattle.lin_ir.specs.Walks.{OneDepth};
 ghost use Rattle.lin_flow.specs.Nodes.{AreWalkedTo};
 ghost use Rattle.frame_tables.specs.Pushed.{AreTabled, AreCounted};
 
-use lin_flow::{Labels, Walks, number_after, search_walks};
+use lin_flow::{Labels, Walks, search_walks};
 use lin_ir::Lin;
 use lin_laws::Position;
 use std::alloc::{AllocError, Global};
@@ -13,6 +14,7 @@ use std::alloc::{AllocError, Global};
 /// The number of traps at each of these positions, by the number of lines after it.
 fn table_of(alloc: Global, lin: &Lin, positions: &[Position]) -> Result<Vec<u32>, AllocError>
     requires depth { OneDepth lin.now }
+    requires within { IsWithin lin.now }
     requires walked { AreWalkedTo lin.now positions.now }
     ensures { IfOk result (λ traps.
         AreTabled lin.now positions.now (length positions.now) traps.items) }
@@ -20,7 +22,7 @@ fn table_of(alloc: Global, lin: &Lin, positions: &[Position]) -> Result<Vec<u32>
     let lines = lin.code.len();
     let mut traps = vec![in alloc; 0; lines]?;
     for position in positions {
-        let count = number_after(position.tries.len())?;
+        let count = position.tries.len() as u32;
         let place = position.place as usize;
         // After the last line there is none.
         if place < lines {
@@ -34,12 +36,11 @@ fn table_of(alloc: Global, lin: &Lin, positions: &[Position]) -> Result<Vec<u32>
 /// no walk comes to.
 ///
 /// Walks are followed with the traps that are pushed, so that a handler counts only where something
-/// is raised to it. Each location of the function has to be a colour, t0 or one of its slots, and
-/// each place has to have one number of pushed traps.
+/// is raised to it. What is asked of the function is what its descriptors ask too.
 pub fn pushed_traps(alloc: Global, lin: &Lin) -> Result<Vec<u32>, AllocError>
     requires located { AreLocated lin.now }
     requires depth { OneDepth lin.now }
-    requires lines { length lin.now.code < 4294967296 }
+    requires within { IsWithin lin.now }
     ensures { IfOk result (λ traps. AreCounted lin.now (λ left. slice_index traps.items left)) }
 {
     let labels = Labels::of_function(alloc, lin)?;

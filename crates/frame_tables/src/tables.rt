@@ -11,7 +11,7 @@ use crate::entries::describe_all;
 use bs_words::List;
 use dataflow::{Flow, Place, live_in_any_order};
 use lin_flow::lines::REGISTERS;
-use lin_flow::{Labels, Search, Walks, number_after, search_walks, spread};
+use lin_flow::{Labels, Search, Walks, search_walks, spread};
 use lin_ir::{Descr, Lin};
 use mach_ir::Seq;
 use std::alloc::{AllocError, Global};
@@ -34,7 +34,7 @@ fn search_points(alloc: Global, lin: &Lin, labels: &Labels) -> Result<Searched, 
         mut search,
         mut nodes,
     } = search_walks(alloc, lin, labels)?;
-    let reached = number_after(nodes.len())?;
+    let reached = nodes.len() as u32;
     enter_points(alloc, lin, &mut search, reached)?;
     spread(alloc, lin, labels, &mut search, &mut nodes)?;
     Ok(Searched {

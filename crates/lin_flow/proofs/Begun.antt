@@ -63,6 +63,7 @@ module _ (m : Lin) where
   begun_ready s0 s1 number nodes start entry none =
       record {
         groups = entry.grown.len ∙ start.len;
+        countable = entry.grown.countable (let none : length (all_of s0) ≡ 0 = ap length start.positions in omega (arith, none));
         fewer = (let e : length nodes ≡ 0 = ap length none in omega (arith, e));
         are = λ q x node at is. absurd (let f : None ≡ Some node = subst (λ xs. slice_get xs q ≡ Some node) none is in cc);
       }

@@ -70,9 +70,9 @@ pushed_cases (z ∷ zs) y x zero e = inl e
 pushed_cases (z ∷ zs) y x (suc q) e =
     ⊎_elim (λ f. inl f) (λ f. inr (ap suc f.0, f.1)) (pushed_cases zs y x q e)
 
-pub entered_new : (old new : Search) (y : Position) (number : ℕ) → all_of new ≡ all_of old ++ y ∷ [] → number ≡ length (all_of old) →
-    HasMember (groups_of old) (groups_of new) y.place number → Entered old new y number
-entered_new old new y number is at has =
+pub entered_new : (old new : Search) (y : Position) (number : ℕ) → length (all_of old) < 4294967295 → all_of new ≡ all_of old ++ y ∷ [] →
+    number ≡ length (all_of old) → HasMember (groups_of old) (groups_of new) y.place number → Entered old new y number
+entered_new old new y number few is at has =
     record {
       grown = record {
         kept = λ q x e. subst (λ xs. slice_get xs q ≡ Some x) (sym is) (pushed_kept (all_of old) y x q e);
@@ -88,6 +88,7 @@ entered_new old new y number is at has =
               (subst (λ k. Contains (members (groups_of new) y.place) k) (at ∙ sym f.0) has.here))
               (pushed_cases (all_of old) y x q (subst (λ xs. slice_get xs q ≡ Some x) is e));
         };
+        countable = λ c. let len : length (all_of new) ≡ length (all_of old) + 1 = ap length is ∙ length_push (all_of old) y in omega (arith, len, few);
       };
       here = subst (λ xs. slice_get xs number ≡ Some y) (sym is)
           (subst (λ k. slice_get (all_of old ++ y ∷ []) k ≡ Some y) (sym at) (pushed_here (all_of old) y));
@@ -97,7 +98,7 @@ entered_new old new y number is at has =
 pub entered_old : (s : Search) (y : Position) (number : ℕ) → slice_get (all_of s) number ≡ Some y → Entered s s y number
 entered_old s y number e =
     record {
-      grown = record { kept = λ q x f. f; fresh = λ q x f. inl f; len = refl; grouped = λ g. g };
+      grown = record { kept = λ q x f. f; fresh = λ q x f. inl f; len = refl; grouped = λ g. g; countable = λ c. c };
       here = e;
     }
 
@@ -108,7 +109,7 @@ found_at xs q p ts x e f g = e ∙ ap (λ k. Some (position k x.tries)) f ∙ ap
 -- ---- several
 
 pub grown_none : (s : Search) → Grown s s []
-grown_none s = record { kept = λ q x f. f; fresh = λ q x f. inl f; len = refl; grouped = λ g. g }
+grown_none s = record { kept = λ q x f. f; fresh = λ q x f. inl f; len = refl; grouped = λ g. g; countable = λ c. c }
 
 pub grown_then : (a b c : Search) (ys zs : List Position) → Grown a b ys → Grown b c zs → Grown a c (ys ++ zs)
 grown_then a b c ys zs g h =
@@ -120,6 +121,7 @@ grown_then a b c ys zs g h =
           (λ f. inr (Contains-append_right ys zs x f)) (h.fresh q x e);
       len = h.len ∙ g.len;
       grouped = λ k. h.grouped (g.grouped k);
+      countable = λ k. h.countable (g.countable k);
     }
 
 pub numbers_kept : (a b : Search) (ns : List ℕ) (ys zs : List Position) → Grown a b zs → AreNumbersOf (all_of a) ns ys →

@@ -1,7 +1,7 @@
 -- Positions that are visited.
 use Rattle.std.proofs.Common.{◌≡◌, ℕ, zero, suc, ◌+◌, ◌<◌, ◌≤◌, Bool, true, false, ⊎_elim, List, [], ◌∷◌, ◌++◌, Some, None, length, map, drop, get_or, refl, sym, ap, ◌∙◌, subst, arith}
 use Rattle.std.specs.List.{All}
-use Rattle.std.specs.Prelude.{slice_get, slice_index}
+use Rattle.std.specs.Prelude.{slice_get, slice_index, slice_index_or}
 use Rattle.std.proofs.lemmas.List.{drop_all, length_push}
 use Rattle.std.proofs.lemmas.List.Elements.{All-nil, All-cons, All-head, All-drop, Contains-append_cases}
 use Rattle.std.proofs.lemmas.Option.{slice_get_within}
@@ -9,10 +9,12 @@ use Rattle.bs_words.specs.Contents.{contents}
 use Rattle.bs_words.proofs.Lists.{none_in, got, drop_none}
 use Rattle.dataflow.specs.declared.flow.Place as place
 use Rattle.mach_ir.specs.Acts.{Target, On, At}
+use Rattle.mach_ir.specs.Sizes.{number_limit}
 use Rattle.lin_ir.specs.Walks.{targets, may_raise, tries_after, Reached}
+use Rattle.lin_ir.specs.declared.lin.Spot.{Spot}
 use Rattle.lin_ir.specs.declared.lin.Line.{Line}
 use Rattle.lin_ir.specs.declared.lin.Lin.{Lin}
-use Rattle.lin_laws.proofs.Numbers.{are_reads, are_writes}
+use Rattle.lin_laws.proofs.Numbers.{number_below, are_reads, are_writes}
 use Rattle.lin_laws.proofs.Reaching.{steps_reached, raises_reached}
 use Rattle.lin_laws.specs.Graph.{place_at, position, steps, steps_at, raise_steps, raises_at, landing, HaveNumbers, AreNumbered, AreNumbersOf, AreReads, AreWrites, IsNode, AreNodes}
 use Rattle.lin_laws.specs.Numbers.{val_numbers, written_numbers}
@@ -21,7 +23,8 @@ use Rattle.lin_flow.proofs.Searching.{grown_then, grown_none, numbers_kept, push
 use Rattle.lin_flow.specs.Labels.{place_in, AreLabelsOf}
 use Rattle.mach_ir.specs.Labels.{place_to}
 use Rattle.lin_flow.specs.Nodes.{landing_to, steps_to, Landed, IsText, IsNodeOfLine, Visited, IsReady, AreWalkedTo, Spreads}
-use Rattle.lin_flow.specs.Search.{all_of, groups_of, Grown}
+use Rattle.lin_flow.specs.Search.{all_of, groups_of, Grown, AreCountable}
+use Rattle.lin_flow.specs.Sizes.{IsCountable, HaveSmall}
 use Rattle.lin_flow.specs.declared.labels.Labels.{Labels}
 use Rattle.lin_flow.specs.declared.search.Search.{Search}
 
@@ -119,6 +122,18 @@ module _ (m : Lin) (numbered : AreNumbered m) where
   results_numbered p i next e =
       let P : Line → Type 0 = λ i. HaveNumbers m.slots i.results in
       All-head P i next (subst (All P) e (All-drop P p m.code numbered.results))
+
+small_spots : (slots : ℕ) (ss : List Spot) → HaveNumbers slots ss → slots + 32 < number_limit → HaveSmall ss
+small_spots slots ss h lt = λ k d within.
+    let below = number_below slots (slice_index_or ss k d).loc (h k d within) in omega (arith, below, lt)
+
+-- the numbers of locations that a line names fit
+module _ (m : Lin) (numbered : AreNumbered m) (countable : IsCountable m) where
+  pub args_small : (p : ℕ) (i : Line) → slice_get m.code p ≡ Some i → HaveSmall i.args
+  args_small p i e = small_spots m.slots i.args (args_numbered m numbered p i (drop (suc p) m.code) (drop_at m.code p i e)) countable.slots
+
+  pub results_small : (p : ℕ) (i : Line) → slice_get m.code p ≡ Some i → HaveSmall i.results
+  results_small p i e = small_spots m.slots i.results (results_numbered m numbered p i (drop (suc p) m.code) (drop_at m.code p i e)) countable.slots
 
 module _ (m : Lin) (labels : Labels) (text : IsText m labels) where
   abbrev bound : ℕ
@@ -262,6 +277,7 @@ module _ (m : Lin) where
         grouped = λ g. v.grown.grouped (h.grouped g);
         ready = record {
           groups = v.grown.len ∙ h.ready.groups;
+          countable = v.grown.countable h.ready.countable;
           fewer = omega (arith, lt, e, grows, len);
           are = subst (AreNodes m (m.slots + 32) (all_of new)) (sym is) (nodes_more s new nodes node h.ready v');
         };
@@ -269,11 +285,12 @@ module _ (m : Lin) where
 
   -- more positions, none of them visited
   pub still_ready : (s new : Search) (nodes : List place.Place) → IsReady m s nodes → length nodes ≡ length (all_of s) →
-      AreKept (all_of s) (all_of new) → length (groups_of new) ≡ length (groups_of s) → IsReady m new nodes
-  still_ready s new nodes h len kept groups =
+      AreKept (all_of s) (all_of new) → length (groups_of new) ≡ length (groups_of s) → (AreCountable s → AreCountable new) → IsReady m new nodes
+  still_ready s new nodes h len kept groups countable =
       let grows : length (all_of s) ≤ length (all_of new) = kept_length (all_of s) (all_of new) kept in
       record {
         groups = groups ∙ h.groups;
+        countable = countable h.countable;
         fewer = omega (arith, len, grows);
         are = λ q x node at is.
             let lt : q < length nodes = slice_get_within nodes q node is in

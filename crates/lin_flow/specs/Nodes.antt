@@ -10,7 +10,8 @@ use Rattle.lin_laws.specs.declared.position.Position.{Position}
 use Rattle.lin_flow.specs.Labels.{AreLabelsOf, place_in}
 use Rattle.mach_ir.specs.Labels.{place_to}
 use Rattle.lin_laws.specs.Numbers.{val_numbers, written_numbers}
-use Rattle.lin_flow.specs.Search.{all_of, groups_of, Grown, AreGrouped}
+use Rattle.lin_flow.specs.Search.{all_of, groups_of, Grown, AreGrouped, AreCountable}
+use Rattle.lin_flow.specs.Sizes.{IsCountable}
 use Rattle.lin_flow.specs.declared.labels.Labels.{Labels}
 use Rattle.lin_flow.specs.declared.search.Search.{Search}
 
@@ -30,11 +31,11 @@ pub record Landed (old new : Search) (ys : List Position) (ns : List ℕ) : Type
   pub grown : Grown old new ys
   pub numbers : AreNumbersOf (all_of new) ns ys
 
--- a function whose locations have numbers, and the table of its labels
+-- a function whose locations and lines have numbers, and the table of its labels
 pub record IsText (m : Lin) (labels : Labels) : Type 0 where
   pub numbered : AreNumbered m
   pub table : AreLabelsOf m labels
-  pub lines : length m.code < 4294967296
+  pub countable : IsCountable m
 
 -- the place of the graph for a line, and the positions after it
 pub record IsNodeOfLine (labels : Labels) (old new : Search) (i : Line) (p : ℕ) (tries : List ℕ)
@@ -56,6 +57,7 @@ pub record Visited (m : Lin) (old new : Search) (number : ℕ) (node : place.Pla
 -- the first positions were visited
 pub record IsReady (m : Lin) (s : Search) (nodes : List place.Place) : Type 0 where
   pub groups : length (groups_of s) ≡ suc (length m.code)
+  pub countable : AreCountable s
   pub fewer : length nodes ≤ length (all_of s)
   pub are : AreNodes m (m.slots + 32) (all_of s) nodes
 

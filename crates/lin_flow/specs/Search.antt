@@ -1,5 +1,6 @@
 -- Positions with their numbers, and which of them are at each place of the text.
 use Rattle.std.specs.Prelude.{◌≡◌, ◌⊎◌, ℕ, suc, ◌<◌, List, [], ◌∷◌, Some, map, length, slice_get, slice_index_or, Contains}
+use Rattle.mach_ir.specs.Sizes.{number_limit}
 use Rattle.lin_laws.specs.declared.position.Position.{Position}
 use Rattle.lin_flow.specs.declared.search.Group as group
 use Rattle.lin_flow.specs.declared.search.Search.{Search}
@@ -25,6 +26,10 @@ pub record AreGrouped (s : Search) : Type 0 where
   pub grouped : (q : ℕ) (x : Position) → slice_get (all_of s) q ≡ Some x →
       Contains (members (groups_of s) x.place) q
 
+-- a number counts the positions
+abbrev pub AreCountable : Search → Type 0
+AreCountable s = length (all_of s) < number_limit
+
 -- Positions have come in, all of them among these. The others keep their numbers.
 pub record Grown (old new : Search) (ys : List Position) : Type 0 where
   pub kept : (q : ℕ) (x : Position) → slice_get (all_of old) q ≡ Some x →
@@ -33,6 +38,7 @@ pub record Grown (old new : Search) (ys : List Position) : Type 0 where
       (slice_get (all_of old) q ≡ Some x) ⊎ Contains ys x
   pub len : length (groups_of new) ≡ length (groups_of old)
   pub grouped : AreGrouped old → AreGrouped new
+  pub countable : AreCountable old → AreCountable new
 
 -- a position has this number
 pub record Entered (old new : Search) (y : Position) (number : ℕ) : Type 0 where

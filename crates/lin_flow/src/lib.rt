@@ -17,5 +17,5 @@ pub mod walks;
 pub use labels::Labels;
 pub use live::{LiveWalks, live_walks};
 pub use nodes::spread;
-pub use search::{Search, number_after};
+pub use search::Search;
 pub use walks::{Walks, search_walks};

@@ -4,6 +4,7 @@ ghost use Rattle.bs_words.specs.Contents.{contents};
 ghost use Rattle.mach_ir.specs.Meaning.{destroyed};
 ghost use Rattle.lin_ir.specs.Meaning.{destroyed_by};
 ghost use Rattle.lin_laws.specs.Numbers.{number_in, is_val, val_numbers, run, destroyed_numbers, written_numbers};
+ghost use Rattle.lin_flow.specs.Sizes.{HaveSmall};
 
 use bs_words::{Comp, List, Loc};
 use lin_ir::{Flow, LinOp, Line, Spot};
@@ -24,45 +25,47 @@ fn is_val(comp: Comp) -> bool
     }
 }
 
-/// The number of a location. That a slot has none counts as want of memory: no frame holds it.
-pub fn number_of(loc: Loc) -> Result<u32, AllocError>
-    ensures { IfOk result (λ n. n ≡ number_in loc) }
+/// The number of a location, which has to fit.
+pub fn number_of(loc: Loc) -> u32
+    requires { number_in loc < 2 ^ 32 }
+    ensures { result ≡ number_in loc }
 {
     match loc {
-        Loc::Unset => Ok(0),
-        Loc::Machine(register) => Ok(u32::from(register)),
-        Loc::Slot(slot) => slot.checked_add(REGISTERS).ok_or(AllocError),
+        Loc::Unset => 0,
+        Loc::Machine(register) => u32::from(register),
+        Loc::Slot(slot) => slot + REGISTERS,
     }
 }
 
-/// The number above those of all locations. That there is none counts as want of memory.
-pub fn bound_of(slots: u32) -> Result<u32, AllocError>
-    ensures { IfOk result (λ n. n ≡ slots + 32) }
+/// The number above those of all locations, where there are so many slots.
+pub fn bound_of(slots: u32) -> u32
+    requires { slots + 32 < 2 ^ 32 }
+    ensures { result ≡ slots + 32 }
 {
-    slots.checked_add(REGISTERS).ok_or(AllocError)
+    slots + REGISTERS
 }
 
 /// The numbers of the locations that are read as val.
 pub fn reads_of(alloc: Global, args: &[Spot]) -> Result<List<u32>, AllocError>
+    requires { HaveSmall args.now }
     ensures { IfOk result (λ ns. contents ns ≡ val_numbers args.now) }
 {
     let mut numbers = Vec::new(alloc);
     for spot in args {
         if is_val(spot.comp) {
-            let number = number_of(spot.loc)?;
-            numbers.push(number)?;
+            numbers.push(number_of(spot.loc))?;
         }
     }
     Ok(List::from_vec(numbers))
 }
 
 fn push_all(numbers: &mut Vec<u32>, spots: &[Spot]) -> Result<(), AllocError>
+    requires { HaveSmall spots.now }
     ensures { IfOk result (λ _.
         numbers.new.items ≡ numbers.old.items ++ map (λ s. number_in s.loc) spots.now) }
 {
     for spot in spots {
-        let number = number_of(spot.loc)?;
-        numbers.push(number)?;
+        numbers.push(number_of(spot.loc))?;
     }
     Ok(())
 }
@@ -147,6 +150,7 @@ fn push_destroyed(numbers: &mut Vec<u32>, op: &LinOp) -> Result<(), AllocError>
 /// The numbers of the locations that a line writes: those of its results, and the registers that it
 /// destroys.
 pub fn writes_of(alloc: Global, line: &Line) -> Result<List<u32>, AllocError>
+    requires { HaveSmall line.now.results }
     ensures { IfOk result (λ ns. contents ns ≡ written_numbers line.now) }
 {
     let mut numbers = Vec::new(alloc);

@@ -3,12 +3,13 @@ ghost use Rattle.std.specs.Prelude.{◌<◌, ◌↔◌, length, IfOk, IsTrue};
 ghost use Rattle.lin_ir.specs.declared.lin.Lin.{Lin};
 ghost use Rattle.lin_laws.specs.Graph.{AreNumbered, loc_of};
 ghost use Rattle.lin_flow.specs.Live.{ReadsOnFrom, ReadsOnAmong};
+ghost use Rattle.lin_flow.specs.Sizes.{IsCountable};
 ghost use Rattle.lin_flow.specs.Walked.{AreLive, IsReachedAt, IsReadAfter};
 
 use crate::labels::Labels;
 use crate::lines::bound_of;
 use crate::nodes::node_numbered;
-use crate::search::{Search, number_after};
+use crate::search::Search;
 use crate::walks::{Walks, search_walks};
 use bs_words::List;
 use dataflow::{Flow, Rows, live_in_any_order};
@@ -30,16 +31,16 @@ pub struct LiveWalks {
 
 /// Searches where walks from the entry come, and what is live there as val.
 ///
-/// A function with more lines or slots than a number can count is want of memory.
+/// That walks come to more positions than there are numbers is want of memory.
 pub fn live_walks(alloc: Global, lin: &Lin) -> Result<LiveWalks, AllocError>
-    requires { AreNumbered lin.now }
+    requires numbered { AreNumbered lin.now }
+    requires countable { IsCountable lin.now }
     ensures { IfOk result (AreLive lin.now) }
 {
-    let _last = number_after(lin.code.len())?;
-    let bound = bound_of(lin.slots)?;
+    let bound = bound_of(lin.slots);
     let labels = Labels::of_function(alloc, lin)?;
     let Walks { search, nodes } = search_walks(alloc, lin, &labels)?;
-    let reached = number_after(nodes.len())?;
+    let reached = nodes.len() as u32;
     let flow = Flow {
         places: List::from_vec(nodes),
         bound,

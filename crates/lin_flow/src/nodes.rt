@@ -2,6 +2,7 @@
 ghost use Rattle.std.specs.Prelude.{◌≡◌, ◌<◌, ◌≤◌, ℕ, suc, true, option_copied, Some, length, slice_get, IfOk};
 ghost use Rattle.lin_flow.specs.Labels.{place_in};
 ghost use Rattle.lin_flow.specs.Search.{all_of, groups_of};
+ghost use Rattle.lin_flow.specs.Sizes.{HaveSmall};
 ghost use Rattle.lin_flow.specs.Nodes.{landing_to, Landed, IsText, IsNodeOfLine, Visited, IsReady, Spread};
 
 use crate::control::{may_raise, places_after};
@@ -76,6 +77,8 @@ fn node_of_line(
     requires labels { (l : ℕ) → place_in labels.now l < length (groups_of search.old) }
     requires next { suc place < length (groups_of search.old) }
     requires small { length (groups_of search.old) ≤ 4294967296 }
+    requires args { HaveSmall line.now.args }
+    requires results { HaveSmall line.now.results }
     ensures { IfOk result (λ node.
         IsNodeOfLine labels.now search.old search.new line.now place tries.now node) }
 {
@@ -143,8 +146,8 @@ fn visit(
 
 /// The places of the graph that are positions, and every position to which control goes from one.
 ///
-/// Most functions have one position for each place. That there are more than a number can count is
-/// want of memory.
+/// Most functions have one position for each place. That one is left without a number is want of
+/// memory.
 pub fn spread(
     alloc: Global,
     lin: &Lin,
@@ -164,5 +167,6 @@ pub fn spread(
         let node = visit(alloc, lin, labels, search, number)?;
         nodes.push(node)?;
     }
-    Err(AllocError)
+    // As many were visited as there are numbers, so these are all.
+    Ok(())
 }

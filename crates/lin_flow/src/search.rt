@@ -20,16 +20,6 @@ pub struct Search {
     pub groups: Vec<Group>,
 }
 
-/// The number of a position that comes after so many. That there is none counts as want of memory.
-pub fn number_after(count: usize) -> Result<u32, AllocError>
-    ensures { IfOk result (λ number. number ≡ count) }
-{
-    if count > u32::MAX as usize {
-        return Err(AllocError);
-    }
-    Ok(count as u32)
-}
-
 fn same_tries(one: &[u32], other: &[u32]) -> bool
     ensures { result ≡ bytes_eq one.now other.now }
 {
@@ -113,14 +103,17 @@ impl Search {
         None
     }
 
-    /// Gives the position a number of its own.
+    /// Gives the position a number of its own. That none is left counts as want of memory.
     fn add(&mut self, alloc: Global, place: u32, tries: &[u32]) -> Result<u32, AllocError>
         requires { place < length (groups_of self.old) }
         ensures { IfOk result (λ number.
             Entered self.old self.new (position place tries.now) number) }
     {
         let count = self.positions.len();
-        let number = number_after(count)?;
+        if count >= u32::MAX as usize {
+            return Err(AllocError);
+        }
+        let number = count as u32;
         let tries = copy_of(alloc, tries)?;
         self.positions.push(Position { place, tries })?;
         add_member(&mut self.groups, place, number)?;

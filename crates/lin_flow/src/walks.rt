@@ -19,7 +19,7 @@ pub struct Walks {
 
 /// Searches where walks from the entry come.
 ///
-/// Each position is visited once. That there are more than a number can count is want of memory.
+/// Each position is visited once. That there are more than numbers is want of memory.
 pub fn search_walks(alloc: Global, lin: &Lin, labels: &Labels) -> Result<Walks, AllocError>
     requires { IsText lin.now labels.now }
     ensures { IfOk result (λ walks. IsWalked lin.now walks.search walks.nodes.items) }

@@ -3,10 +3,11 @@ ghost use Rattle.std.specs.Prelude.{◌≡◌, ◌+◌, ◌*◌, ◌≤◌, ◌<
 ghost use Rattle.lin_ir.specs.Descriptors.{IsWithin};
 ghost use Rattle.lin_ir.specs.Formed.{AreLocated};
 ghost use Rattle.lin_ir.specs.Walks.{OneDepth};
+ghost use Rattle.lin_flow.specs.Sizes.{IsCountable};
 ghost use Rattle.lin_laws.specs.Graph.{AreNumbered};
 ghost use Rattle.lin_tests.specs.Positions.{Agree, AreAgreed, Fits, ArePositions};
 
-use lin_flow::{Labels, Walks, number_after, search_walks};
+use lin_flow::{Labels, Walks, search_walks};
 use lin_ir::Lin;
 use lin_laws::Position;
 use std::alloc::{AllocError, Global};
@@ -58,12 +59,12 @@ fn all_fit(frame: u32, positions: &[Position]) -> bool
 
 /// The positions to which walks from the entry come.
 ///
-/// More lines than a number can count are want of memory.
+/// More positions than a number can count are want of memory.
 fn positions_of(alloc: Global, lin: &Lin) -> Result<Vec<Position>, AllocError>
-    requires { AreNumbered lin.now }
+    requires numbered { AreNumbered lin.now }
+    requires countable { IsCountable lin.now }
     ensures { IfOk result (λ positions. ArePositions lin.now positions.items) }
 {
-    let _last = number_after(lin.code.len())?;
     let labels = Labels::of_function(alloc, lin)?;
     let Walks { search, nodes: _ } = search_walks(alloc, lin, &labels)?;
     Ok(search.positions)
@@ -71,9 +72,10 @@ fn positions_of(alloc: Global, lin: &Lin) -> Result<Vec<Position>, AllocError>
 
 /// Whether each place has one number of pushed traps, with which every walk comes to it.
 ///
-/// More lines or positions than a number can count are want of memory.
+/// More positions than a number can count are want of memory.
 pub fn has_one_depth(alloc: Global, lin: &Lin) -> Result<bool, AllocError>
-    requires { AreLocated lin.now }
+    requires located { AreLocated lin.now }
+    requires countable { IsCountable lin.now }
     ensures { IfOk result (λ yes. IsTrue yes ↔ OneDepth lin.now) }
 {
     let positions = positions_of(alloc, lin)?;
@@ -82,12 +84,15 @@ pub fn has_one_depth(alloc: Global, lin: &Lin) -> Result<bool, AllocError>
 
 /// Whether descriptors can say the bytes of frame and traps at each place, and number the lines.
 ///
-/// More lines or positions than a number can count are want of memory.
+/// More positions than a number can count are want of memory.
 pub fn is_within(alloc: Global, lin: &Lin) -> Result<bool, AllocError>
     requires { AreLocated lin.now }
     ensures { IfOk result (λ yes. IsTrue yes ↔ IsWithin lin.now) }
 {
     if lin.slots > SLOTS {
+        return Ok(false);
+    }
+    if lin.code.len() > u32::MAX as usize {
         return Ok(false);
     }
     let positions = positions_of(alloc, lin)?;

@@ -1,3 +1,4 @@
 pub mod Named
 pub mod Promised
+pub mod Room
 pub mod Once

@@ -3,6 +3,7 @@ ghost use Rattle.std.specs.Prelude.{IfOk};
 ghost use Rattle.mach_ir.specs.Formed.{WellFormed};
 ghost use Rattle.mach_ir.specs.Placed.{FullyPlaced};
 ghost use Rattle.mach_ir.specs.Seats.{Seated};
+ghost use Rattle.linear_rules.specs.Sizes.{HasLineRoom};
 ghost use Rattle.linear_pass.specs.Linear.{IsLinearOf};
 
 use lin_ir::Lin;
@@ -16,11 +17,12 @@ use std::alloc::{AllocError, Global};
 /// `asmcomp/linearize.ml`); then loops are turned round, their tests again at their ends, and what
 /// has no use is left out.
 ///
-/// The only error is want of memory, which more lines or slots than a number can count are too.
+/// The only error is want of memory, which more positions of walks than a number can count are too.
 pub fn linear(alloc: Global, mach: &Mach) -> Result<Lin, AllocError>
     requires well_formed { WellFormed mach.now }
     requires placed { FullyPlaced mach.now }
     requires seated { Seated mach.now }
+    requires room { HasLineRoom mach.now }
     ensures { IfOk result (IsLinearOf mach.now) }
 {
     let lowered = lower(alloc, mach)?;

@@ -1,5 +1,5 @@
 -- What holds of the lowered function: the laws of linearisation.
-use Rattle.std.proofs.Common.{◌≡◌, ◌≢◌, ℕ, ◌+◌, ◌*◌, ◌<◌, ◌≤◌, true, List, [], ◌∷◌, map, length, All, refl, sym, ap, ◌∙◌, subst}
+use Rattle.std.proofs.Common.{◌≡◌, ◌≢◌, ℕ, ◌+◌, ◌*◌, ◌<◌, ◌≤◌, true, List, [], ◌∷◌, map, length, All, refl, sym, ap, ◌∙◌, subst, arith}
 use Rattle.std.specs.List.{Contains}
 use Rattle.bs_words.specs.declared.types.Comp.TheVariants as comp
 use Rattle.bs_words.specs.declared.types.Loc.{Loc}
@@ -26,10 +26,10 @@ use Rattle.lin_laws.proofs.Forms.{same_slot, not_slot}
 use Rattle.linear_rules.specs.Forward.{GoesForward}
 use Rattle.linear_rules.specs.Keeps.{NoAddrReached, OneTraps, KeepsReached}
 use Rattle.linear_rules.specs.Kept.{Does}
-use Rattle.linear_rules.specs.Lowered.{home, is_among, slots_of, slot_number, slot_count, lowered}
+use Rattle.linear_rules.specs.Lowered.{home, is_among, slots_of, limit_of, slot_number, slot_count, lowered}
 use Rattle.linear_rules.specs.Sizes.{tries_ended}
 use Rattle.linear_rules.proofs.Homes.{IsIn, is_first, is_later, in_of, in_map}
-use Rattle.linear_rules.proofs.Slots.{slot_occurs_in_code, slot_occurs_in_params, numbers_apart, numbers_below, slots_few}
+use Rattle.linear_rules.proofs.Slots.{slot_occurs_in_code, slot_occurs_in_params, numbers_apart, numbers_below, count_within, slots_low}
 use Rattle.linear_rules.proofs.Lines.{source, params_seated, source_operands, source_results, named_from, labels_same, lines_few}
 use Rattle.linear_rules.proofs.Does.{begins}
 use Rattle.linear_rules.proofs.Moves.{changes}
@@ -130,13 +130,20 @@ no_addr_live m reached h = record { none = λ i next s frame l v. by (reached i 
 
 -- ---- sizes
 
--- every slot is below the bound on origins, and so are their numbers
-pub lowered_slots : (p : Mach) → FullyPlaced p → (s : Size) → HasSize p s → slot_count p ≤ s.registers
-lowered_slots p full s size = slots_few p s.registers (λ k r ri e. by k r (full.places r ri) e (size.origins r ri))
+-- every slot is below the bound on origins
+pub slots_below : (p : Mach) → FullyPlaced p → (s : Size) → HasSize p s → limit_of (slots_of p) ≤ s.registers
+slots_below p full s size = slots_low p s.registers (λ k r ri e. by k r (full.places r ri) e (size.origins r ri))
   where
     by : (k : ℕ) (r : Reg) → IsPlaced r → r.loc ≡ loc.Slot k → r.origin < s.registers → k < s.registers
     by k r (in_colour n c e) u lt = absurd (not_slot n k (sym e ∙ u))
     by k r (in_slot e) u lt = subst (λ n. n < s.registers) (same_slot r.origin k (sym e ∙ u)) lt
+
+-- and so are their numbers
+pub lowered_slots : (p : Mach) → FullyPlaced p → (s : Size) → HasSize p s → slot_count p ≤ s.registers
+lowered_slots p full s size =
+    let a = count_within p in
+    let b = slots_below p full s size in
+    omega (arith, a, b)
 
 pub lowered_lines : (p : Mach) → length (lowered p).code ≤ 2 * length p.code + tries_ended p.code
 lowered_lines p = lines_few (slot_number p) p.code

@@ -159,12 +159,14 @@ module _ (m : Mach) where
       ⊎_elim (λ y. (y.reg, inl y.among, y.stands)) (λ u. let y = code_split k m.code u in (y.0, inr y.1, y.2))
       (regs_split k m.params (slots_of_code m.code) e)
 
-  -- where each register's slot is below a number, so is the count
-  pub slots_few : (n : ℕ) → ((k : ℕ) (r : Reg) → IsRegister m r → r.loc ≡ loc.Slot k → k < n) → slot_count m ≤ n
-  slots_few n h =
-      let a = count_least (slots_of m) (limit_of (slots_of m)) in
-      let b = limit_few (slots_of m) n (λ k e. ⊎_elim (λ y. h k y.reg (is_param y.among) y.stands) (λ u. let y = code_split k m.code u in h k y.0 (is_in_code y.1) y.2) (regs_split k m.params (slots_of_code m.code) e)) in
-      omega (arith, a, b)
+  -- there are no more slots than the number above them all
+  pub count_within : slot_count m ≤ limit_of (slots_of m)
+  count_within = count_least (slots_of m) (limit_of (slots_of m))
+
+  -- where each register's slot is below a number, so are all
+  pub slots_low : (n : ℕ) → ((k : ℕ) (r : Reg) → IsRegister m r → r.loc ≡ loc.Slot k → k < n) → limit_of (slots_of m) ≤ n
+  slots_low n h =
+      limit_few (slots_of m) n (λ k e. ⊎_elim (λ y. h k y.reg (is_param y.among) y.stands) (λ u. let y = code_split k m.code u in h k y.0 (is_in_code y.1) y.2) (regs_split k m.params (slots_of_code m.code) e))
 
   pub slot_occurs_in_code : (k : ℕ) (r : Reg) → InCode r m.code → r.loc ≡ loc.Slot k → is_among k (slots_of m) ≡ true
   slot_occurs_in_code k r c e = regs_pass k m.params (slots_of_code m.code) (code_has k r m.code c e)

@@ -8,6 +8,7 @@ use Rattle.lin_ir.specs.Walks.{Stands, here, below, Reached}
 use Rattle.lin_ir.specs.declared.lin.Line.{Line}
 use Rattle.lin_ir.specs.declared.lin.Lin.{Lin}
 use Rattle.lin_laws.specs.Graph.{HaveNumbers, AreNumbered}
+use Rattle.lin_flow.specs.Sizes.{IsCountable}
 use Rattle.linear_rules.proofs.Lines.{all_of}
 use Rattle.linear_rules.proofs.Marks.{all_in}
 use Rattle.tidy_rules.specs.Leaving.{IsUseless, without, with_code, LeavesOut, LeavesOften, not_once, once_more}
@@ -20,7 +21,9 @@ use Rattle.bs_words.proofs.Lists.{head_same}
 use Rattle.linear_tidy.proofs.Between.{drop_line}
 use Rattle.linear_tidy.specs.Forms.{IsNoSelfMove}
 use Rattle.linear_tidy.specs.Flags.{TellsUse, AreFlags, AllReached, AreRead, NoMoveGoes, goes_by, kept, unless_gone}
+use Rattle.linear_tidy.specs.Sizes.{HasRoom}
 use Rattle.linear_tidy.proofs.Loops.{turned_numbered}
+use Rattle.linear_tidy.proofs.Sizes.{turned_countable}
 use Rattle.linear_tidy.proofs.Left.{line_left, read_left, was}
 use Rattle.linear_tidy.proofs.Useful.{all_map}
 
@@ -251,6 +254,7 @@ fewer_left m r flags len some is =
 pub record Round (m now : Lin) (flags : List Bool) : Type 0 where
   pub leaves : LeavesOften (turned_all (redirected_all m)) now
   pub numbered : AreNumbered now
+  pub countable : IsCountable now
   pub told : AreFlags now flags
 
 pub redirected_numbered : (m r : Lin) → r ≡ redirected_all m → AreNumbered m → AreNumbered r
@@ -268,16 +272,23 @@ first_numbered m turned now redirects turns numbered =
     subst AreNumbered (sym turns) (turned_numbered turned (redirected_numbered m turned redirects numbered))
 
 pub first_round : (m turned now : Lin) (flags : List Bool) → turned ≡ redirected_all m → now ≡ turned_all turned → AreNumbered m →
-    AreFlags now flags → Round m now flags
-first_round m turned now flags redirects turns numbered f =
+    HasRoom m → AreFlags now flags → Round m now flags
+first_round m turned now flags redirects turns numbered room f =
     record {
       leaves = subst (LeavesOften (turned_all (redirected_all m))) (sym (turns ∙ ap turned_all redirects)) not_once;
       numbered = first_numbered m turned now redirects turns numbered;
+      countable = turned_countable m turned now redirects turns room;
       told = f;
     }
 
 pub next_numbered : (m now r : Lin) (flags : List Bool) → Round m now flags → r ≡ with_code now (without (goes_by flags) now.code) → AreNumbered r
 next_numbered m now r flags h is = subst AreNumbered (sym is) (left_numbered now flags h.told h.numbered)
+
+pub next_countable : (m now r : Lin) (flags : List Bool) → Round m now flags → r ≡ with_code now (without (goes_by flags) now.code) → IsCountable r
+next_countable m now r flags h is =
+    let fewer = without_fewer (goes_by flags) now.code in
+    let lines = h.countable.lines in
+    subst IsCountable (sym is) (record { lines = omega (arith, fewer, lines); slots = h.countable.slots })
 
 pub next_reached : (m now r : Lin) (flags : List Bool) → Round m now flags → r ≡ with_code now (without (goes_by flags) now.code) → AllReached r
 next_reached m now r flags h is = subst AllReached (sym is) (left_reached now flags h.told)
@@ -295,6 +306,7 @@ next_round m now r flags others h is f =
     record {
       leaves = once_more h.leaves (leaves_flagged now flags h.told r is);
       numbered = next_numbered m now r flags h is;
+      countable = next_countable m now r flags h is;
       told = f;
     }
 

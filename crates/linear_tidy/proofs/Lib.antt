@@ -3,5 +3,6 @@ pub mod Between
 pub mod Useful
 pub mod Left
 pub mod Loops
+pub mod Sizes
 pub mod Flagged
 pub mod Leading

@@ -1,5 +1,5 @@
 -- Code whose loops are turned round.
-use Rattle.std.proofs.Common.{◌≡◌, ◌↔◌, ℕ, zero, suc, ◌+◌, ◌-◌, ◌<◌, ◌≤◌, cond, max, Bool, true, false, ◌||◌, nat_eq, nat_le, List, [], ◌∷◌, ◌++◌, reverse, Option, Some, None, Result, Ok, Err, IfOk, drop, length, get_or, refl, sym, ap, ◌∙◌, subst, arith, append_assoc}
+use Rattle.std.proofs.Common.{◌≡◌, ◌↔◌, ℕ, zero, suc, ◌+◌, ◌*◌, ◌-◌, ◌<◌, ◌≤◌, cond, max, Bool, true, false, ◌||◌, nat_eq, nat_le, List, [], ◌∷◌, ◌++◌, reverse, Option, Some, None, Result, Ok, Err, IfOk, drop, length, get_or, refl, sym, ap, ◌∙◌, subst, arith, append_assoc}
 use Rattle.std.proofs.lemmas.Bool.{leb-true, leb-false, le-leb, lt-leb, eqb-true, eq-eqb}
 use Rattle.std.proofs.lemmas.List.{append-nil, length-drop, length-map, length-reverse}
 use Rattle.std.proofs.lemmas.List.Elements.{All-nil, All-cons, All-head, All-tail, All-append}
@@ -54,6 +54,16 @@ lines_left code k i next e =
     let a = length-drop k code in
     let b : length (drop k code) ≡ suc (length next) = ap length e in
     omega (arith, a, b)
+
+-- there are numbers for two labels of a line with so many lines after it
+pub after_room : (code : List Line) (free k after : ℕ) → k < length code → free + 2 * length code < 4294967296 →
+    ((i : Line) (next : List Line) → drop k code ≡ i ∷ next → after ≡ length next) → suc (free + 2 * after) < 4294967296
+after_room code free k after lt room h = by (drop k code) (length-drop k code) h
+  where
+    by : (rest : List Line) → length rest ≡ length code - k → ((i : Line) (next : List Line) → rest ≡ i ∷ next → after ≡ length next) →
+        suc (free + 2 * after) < 4294967296
+    by [] len h = absurd (omega (arith, len, lt))
+    by (i ∷ next) len h = let same = h i next refl in omega (arith, same, len, lt, room)
 
 pub if_ok : {T E : Type 0} (P Q : T → Type 0) (r : Result T E) → ((t : T) → P t → Q t) → IfOk r P → IfOk r Q
 if_ok P Q (Ok t) f h = f t h
@@ -231,6 +241,17 @@ same_labels opens others turns [] same = refl
 same_labels opens others turns (i ∷ next) same =
     ap (λ o. turned_line (first_of turns) o i ++ turned_by opens (others_of turns) next) (same (length (others_of turns)))
     ∙ ap (λ is. turned_line (first_of turns) (others (length (others_of turns))) i ++ is) (same_labels opens others (others_of turns) next same)
+
+turns_count : (m : Lin) (free : ℕ) (code : List Line) → length (turns_of m free code) ≡ length code
+turns_count m free [] = refl
+turns_count m free (i ∷ next) = ap suc (turns_count m free next)
+
+-- there are numbers for the labels of all lines
+pub change_room : (m : Lin) (free : ℕ) (c : Changes) → free ≡ next_free (labels_in m.code) → AreChanges m free m.code c →
+    suc (next_free (labels_in m.code) + 2 * length m.code) < 4294967296 → suc (free + 2 * length (turns_in c)) < 4294967296
+change_room m free c is are room =
+    let len : length (turns_in c) ≡ length m.code = ap length are.turns ∙ turns_count m free m.code in
+    omega (arith, is, len, room)
 
 pub all_changed : (m : Lin) (free : ℕ) (c : Changes) (code : List Line) → free ≡ next_free (labels_in m.code) → AreChanges m free m.code c →
     code ≡ turned_by (opened_in c free) (turns_in c) m.code → with_code m code ≡ turned_all m

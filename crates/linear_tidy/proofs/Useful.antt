@@ -1,9 +1,9 @@
 -- What lines are for, by what walks of the function as vals read.
-use Rattle.std.proofs.Common.{◌≡◌, ◌↔◌, ℕ, zero, suc, ◌+◌, ◌<◌, ◌≤◌, Bool, true, false, not, List, [], ◌∷◌, Result, Ok, Err, map, length, drop, get_or, refl, sym, ap, ◌∙◌, subst, arith}
+use Rattle.std.proofs.Common.{◌≡◌, ◌↔◌, ℕ, zero, suc, ◌+◌, ◌<◌, ◌≤◌, Bool, true, false, not, List, [], ◌∷◌, map, length, drop, get_or, refl, sym, ap, ◌∙◌, subst, arith}
 use Rattle.std.proofs.lemmas.Bool.{true≢false}
 use Rattle.std.proofs.lemmas.Option.{slice_get_within}
 use Rattle.std.specs.List.{All}
-use Rattle.std.specs.Prelude.{IsTrue, IfOk}
+use Rattle.std.specs.Prelude.{IsTrue}
 use Rattle.bs_words.specs.declared.types.Comp.{Comp}
 use Rattle.bs_words.specs.declared.types.Comp.TheVariants as comp
 use Rattle.bs_words.specs.declared.types.Loc.{Loc}
@@ -19,12 +19,14 @@ use Rattle.lin_ir.specs.declared.lin.LinOp.TheVariants as lin
 use Rattle.lin_ir.specs.declared.lin.Line.{Line}
 use Rattle.lin_ir.specs.declared.lin.Lin.{Lin}
 use Rattle.lin_ir.specs.declared.lin.Spot.{Spot}
-use Rattle.lin_laws.proofs.Numbers.{loc_of_number}
+use Rattle.lin_laws.proofs.Numbers.{loc_of_number, number_below}
 use Rattle.lin_laws.proofs.Places.{drop_is, ends_label, place_is, place_drop}
 use Rattle.lin_laws.specs.Graph.{loc_of, place_of, position, HasNumber, HaveNumbers, AreNumbered}
 use Rattle.lin_laws.specs.declared.position.Position.{Position}
 use Rattle.lin_laws.specs.Numbers.{number_in}
 use Rattle.lin_flow.specs.Walked.{AreLive, IsReachedAt, IsReadAfter}
+use Rattle.lin_flow.specs.Sizes.{IsCountable}
+use Rattle.lin_flow.proofs.Visiting.{results_numbered}
 use Rattle.lin_flow.specs.Search as search
 use Rattle.lin_flow.specs.Search.{HasFirst}
 use Rattle.lin_flow.specs.declared.live.LiveWalks.{LiveWalks}
@@ -89,6 +91,13 @@ vals_numbered m h =
           (λ i z. vals_spots m.slots i.results (all_in (λ (i : Line). HaveNumbers m.slots i.results) h.results z));
     }
 
+-- and as many lines and slots
+pub vals_countable : (m : Lin) → IsCountable m → IsCountable (as_vals m)
+vals_countable m h =
+    let same = vals_length m.code in
+    let lines = h.lines in
+    record { lines = omega (arith, same, lines); slots = h.slots }
+
 -- ---- moves of a location to itself
 
 first_spot : (s t : Spot) (ss ts : List Spot) → s ∷ ss ≡ t ∷ ts → s ≡ t
@@ -124,6 +133,15 @@ pub line_at : (m : Lin) (p : ℕ) (i : Line) (slice : List Line) → p < length 
     (j : Line) (next : List Line) → drop p m.code ≡ j ∷ next → i ≡ j
 line_at m p i slice lt same e j next d =
     head_same (sym (drop_line m.code p i lt (e ∙ ap (λ xs. get_or xs p i) same)) ∙ d)
+
+-- the number of a location that the line at a place moves to itself fits
+pub moved_small : (m : Lin) (p : ℕ) (i : Line) (slice : List Line) → AreNumbered m → IsCountable m → p < length m.code → slice ≡ m.code →
+    i ≡ get_or slice p i → (l : Loc) → MovesItself i l → number_in l < 4294967296
+moved_small m p i slice numbered countable lt same e l moves =
+    let here = drop_line m.code p i lt (e ∙ ap (λ xs. get_or xs p i) same) in
+    let below = number_below m.slots moves.to.loc (self_numbered m.slots moves.is (results_numbered m numbered p i (drop (p + 1) m.code) here)) in
+    let slots = countable.slots in
+    subst (λ l. number_in l < 4294967296) moves.at (omega (arith, below, slots))
 
 not_false : (b : Bool) → not b ≡ true → b ≡ false
 not_false false e = refl
@@ -360,8 +378,3 @@ module _ (m : Lin) (numbered : AreNumbered m) (p : ℕ) where
       useless : (i : Line) (next : List Line) → drop p m.code ≡ i ∷ next → IsIdle m V p i next → IsUseless m i next
       useless i next d (not_read z dead) = unread z (λ tries r t v. dead (read_vals i next d z tries r t v))
       useless i next d (not_needed e q) = skipped e q
-
-  pub use_idle_ok : {E : Type 0} (w : LiveWalks) (o : Result Bool E) → AreLive V w → IsReachedAt V p →
-      ((i : Line) (next : List Line) → drop p m.code ≡ i ∷ next → is_landing i.op ≡ false) → IfOk o (λ b. TellsIdle m w p b) → IfOk o (λ b. TellsUse m p b)
-  use_idle_ok w (Ok b) live r low tells = use_idle w b live r low tells
-  use_idle_ok w (Err e) live r low tells = tells

@@ -1,4 +1,5 @@
 pub mod Flags
+pub mod Sizes
 pub mod Forms
 pub mod Targets
 pub mod Loops

@@ -10,9 +10,11 @@
 mod forms;
 mod leaving;
 mod redirecting;
+mod room;
 mod tidying;
 mod turning;
 mod use_of_lines;
 mod vals;
 
+pub use room::has_room;
 pub use tidying::tidy;

@@ -7,7 +7,7 @@ ghost use Rattle.tidy_rules.specs.Redirecting.{goes_by, redirected, redirect, le
 ghost use Rattle.linear_tidy.specs.Targets.{first_line, target_in, exit_in, AreTargets};
 
 use crate::forms::{exit_of, is_label, jump_of};
-use lin_flow::{Labels, number_after};
+use lin_flow::Labels;
 use lin_ir::{Flow, Lin, LinOp, Line};
 use mach_ir::{Label, Seq};
 use std::alloc::{AllocError, Global};
@@ -224,9 +224,9 @@ impl Targets {
 /// A jump that leads to an exit is an exit itself: so a turn of a loop that ended in such a jump has one
 /// instruction less.
 pub fn redirect_jumps(alloc: Global, lin: Lin) -> Result<Lin, AllocError>
+    requires { length lin.code < 2 ^ 32 }
     ensures { IfOk result (λ redirected. redirected ≡ redirected_all lin) }
 {
-    let _count = number_after(lin.code.len())?;
     let targets = Targets::of_function(alloc, &lin)?;
     let Lin {
         name,

@@ -2,6 +2,7 @@
 ghost use Rattle.std.specs.Prelude.{IfOk};
 ghost use Rattle.lin_laws.specs.Graph.{AreNumbered};
 ghost use Rattle.tidy_rules.specs.Tidied.{IsTidied};
+ghost use Rattle.linear_tidy.specs.Sizes.{HasRoom};
 
 use crate::leaving::{leave_out, no_move_goes, none_set};
 use crate::redirecting::redirect_jumps;
@@ -15,12 +16,14 @@ use std::alloc::{AllocError, Global};
 /// to itself is read later, and no jump leads to where control comes without it. Labels and the
 /// entries of handlers stay.
 ///
-/// Each location has to be a register of the machine or one of the function's slots. Walks are
-/// searched once. When lines went, walks still come to the others, so they are searched again only
-/// where a move of a location to itself went, which may have read what another moved. The only
-/// error is want of memory, which more lines or slots than a number can count are too.
+/// Each location has to be a register of the machine or one of the function's slots, and there have
+/// to be numbers for labels, lines and slots (`has_room`). Walks are searched once. When lines went,
+/// walks still come to the others, so they are searched again only where a move of a location to
+/// itself went, which may have read what another moved. The only error is want of memory, which more
+/// positions of walks than there are numbers are too.
 pub fn tidy(alloc: Global, lin: Lin) -> Result<Lin, AllocError>
-    requires { AreNumbered lin }
+    requires numbered { AreNumbered lin }
+    requires room { HasRoom lin }
     ensures { IfOk result (IsTidied lin) }
 {
     let redirected = redirect_jumps(alloc, lin)?;

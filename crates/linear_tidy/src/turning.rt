@@ -1,15 +1,16 @@
 //! Loops turned round.
 ghost use Rattle.std.specs.Option.{option_map};
-ghost use Rattle.std.specs.Prelude.{◌≡◌, ◌++◌, ◌<◌, ◌^◌, ℕ, List, drop, length, max, [], ◌∷◌, ◌||◌, Option, Some, false, IfOk};
+ghost use Rattle.std.specs.Prelude.{◌≡◌, ◌+◌, ◌*◌, ◌++◌, ◌<◌, ◌^◌, ℕ, suc, List, drop, length, max, [], ◌∷◌, ◌||◌, Option, Some, false, IfOk};
 ghost use Rattle.lin_ir.specs.Formed.{label_of, labels_in};
 ghost use Rattle.lin_ir.specs.declared.lin.Line.{Line};
 ghost use Rattle.lin_flow.specs.Labels.{AreLabelsOf};
 ghost use Rattle.tidy_rules.specs.Turning.{next_free, label_here, label_on, head_by, head_at, comes_first, stands_first, exit_head};
 ghost use Rattle.tidy_rules.specs.Turning.{is_on, line_turn, branch_line, tested_again, label_put, turned_line, turned_all};
+ghost use Rattle.linear_tidy.specs.Sizes.{HasLabels};
 ghost use Rattle.linear_tidy.specs.Loops.{head_view, turn_view, turns_in, is_opened, opened_in, first_of, others_of, turned_by, AreChanges};
 
 use crate::forms::{exit_of, goes_away, own_label};
-use lin_flow::{Labels, number_after};
+use lin_flow::Labels;
 use lin_ir::{Flow, Lin, LinOp, Line, Spot};
 use linearise::{bare, opposite_test};
 use mach_ir::{Label, Seq, Test};
@@ -17,46 +18,47 @@ use std::alloc::{AllocError, Global};
 use std::collections::BTreeSet;
 
 /// What is free above these labels and that of one more line.
-fn free_above(free: u32, op: &LinOp) -> Result<u32, AllocError>
-    ensures { IfOk result (λ above. (ls : List ℕ) →
-        max above (next_free ls) ≡ max free (next_free (label_of op.now ++ ls))) }
+fn free_above(free: usize, op: &LinOp) -> usize
+    ensures { (ls : List ℕ) →
+        max result (next_free ls) ≡ max free (next_free (label_of op.now ++ ls)) }
 {
     match own_label(op) {
-        None => Ok(free),
+        None => free,
         Some(label) => {
-            if label.0 < free {
-                return Ok(free);
+            let label = label.0 as usize;
+            if label < free {
+                return free;
             }
-            label.0.checked_add(1).ok_or(AllocError)
+            label + 1
         }
     }
 }
 
 /// The first number above all labels of the code.
-fn first_free(code: &[Line]) -> Result<u32, AllocError>
-    ensures { IfOk result (λ free. free ≡ next_free (labels_in code.now)) }
+pub fn first_free(code: &[Line]) -> usize
+    ensures { result ≡ next_free (labels_in code.now) }
 {
     let mut free = 0;
     for line in code {
-        free = free_above(free, &line.op)?;
+        free = free_above(free, &line.op);
     }
-    Ok(free)
+    free
 }
 
 /// The label that an exit goes to which is turned, by the number of lines after it.
-fn label_here(free: u32, after: u32) -> Result<Label, AllocError>
-    ensures { IfOk result (λ label. label ≡ label_here free after) }
+fn label_here(free: u32, after: u32) -> Label
+    requires { free + 2 * after < 2 ^ 32 }
+    ensures { result ≡ label_here free after }
 {
-    let number = number_after(free as usize + 2 * after as usize)?;
-    Ok(Label(number))
+    Label(free + 2 * after)
 }
 
 /// The label that is put after a branch, by the number of lines after it.
-fn label_on(free: u32, after: u32) -> Result<Label, AllocError>
-    ensures { IfOk result (λ label. label ≡ label_on free after) }
+fn label_on(free: u32, after: u32) -> Label
+    requires { suc (free + 2 * after) < 2 ^ 32 }
+    ensures { result ≡ label_on free after }
 {
-    let number = number_after(free as usize + 2 * after as usize + 1)?;
-    Ok(Label(number))
+    Label(free + 2 * after + 1)
 }
 
 /// A branch to a label, and the label that is put right after it.
@@ -121,14 +123,14 @@ fn lines_after(lin: &Lin, place: u32) -> u32
 
 /// The branch at the place, if one stands there.
 fn head_at(lin: &Lin, free: u32, place: u32) -> Result<Option<Head>, AllocError>
-    requires { length lin.now.code < 2 ^ 32 }
+    requires { free + 2 * length lin.now.code < 2 ^ 32 }
     ensures { IfOk result (λ head.
         option_map head_view head ≡ head_at free (drop place lin.now.code)) }
 {
     if place as usize >= lin.code.len() {
         return Ok(None);
     }
-    let on = label_on(free, lines_after(lin, place))?;
+    let on = label_on(free, lines_after(lin, place));
     head_by(&lin.code.as_slice()[place as usize], on)
 }
 
@@ -163,7 +165,7 @@ fn stands_first(label: Label, code: &[Line], place: u32) -> bool
 /// there already.
 fn exit_head(lin: &Lin, labels: &Labels, free: u32, place: u32) -> Result<Option<Head>, AllocError>
     requires place { place < length lin.now.code }
-    requires small { length lin.now.code < 2 ^ 32 }
+    requires room { free + 2 * length lin.now.code < 2 ^ 32 }
     requires labels { AreLabelsOf lin.now labels.now }
     ensures { IfOk result (λ head. (i : Line) (next : List Line) →
         drop place lin.now.code ≡ i ∷ next →
@@ -185,7 +187,7 @@ fn exit_head(lin: &Lin, labels: &Labels, free: u32, place: u32) -> Result<Option
 /// kept where it stands before the exit.
 fn line_turn(lin: &Lin, labels: &Labels, free: u32, place: u32) -> Result<Option<Turn>, AllocError>
     requires place { place < length lin.now.code }
-    requires small { length lin.now.code < 2 ^ 32 }
+    requires room { free + 2 * length lin.now.code < 2 ^ 32 }
     requires labels { AreLabelsOf lin.now labels.now }
     ensures { IfOk result (λ turn. (i : Line) (next : List Line) →
         drop place lin.now.code ≡ i ∷ next →
@@ -194,7 +196,7 @@ fn line_turn(lin: &Lin, labels: &Labels, free: u32, place: u32) -> Result<Option
     match exit_head(lin, labels, free, place)? {
         None => Ok(None),
         Some(head) => {
-            let here = label_here(free, lines_after(lin, place))?;
+            let here = label_here(free, lines_after(lin, place));
             let keeps = labels.place_of(head.to) <= place + 1;
             Ok(Some(Turn { here, head, keeps }))
         }
@@ -259,7 +261,7 @@ impl Changes {
 
     /// What becomes of the lines of a function.
     fn of_function(alloc: Global, lin: &Lin, free: u32) -> Result<Changes, AllocError>
-        requires { length lin.now.code < 2 ^ 32 }
+        requires { free + 2 * length lin.now.code < 2 ^ 32 }
         ensures { IfOk result (AreChanges lin.now free lin.now.code) }
     {
         let labels = Labels::of_function(alloc, lin)?;
@@ -292,28 +294,28 @@ impl Changes {
     }
 
     /// The label that is put after the line before all others.
-    fn label_put(&self, free: u32) -> Result<Option<Label>, AllocError>
-        ensures { IfOk result (λ label.
-            label ≡ opened_in self.now free (length (turns_in self.now))) }
+    fn label_put(&self, free: u32) -> Option<Label>
+        requires { suc (free + 2 * length (turns_in self.now)) < 2 ^ 32 }
+        ensures { result ≡ opened_in self.now free (length (turns_in self.now)) }
     {
-        let after = number_after(self.turns.len())?;
-        let label = label_on(free, after)?;
+        let label = label_on(free, self.turns.len() as u32);
         if self.is_opened(label) {
-            Ok(Some(label))
+            Some(label)
         } else {
-            Ok(None)
+            None
         }
     }
 
     /// The lines of the function, changed.
     fn change(mut self, alloc: Global, free: u32, code: Seq<Line>) -> Result<Seq<Line>, AllocError>
+        requires { suc (free + 2 * length (turns_in self)) < 2 ^ 32 }
         ensures { IfOk result (λ turned.
             turned ≡ turned_by (opened_in self free) (turns_in self) code) }
     {
         let mut turned = Vec::with_capacity(alloc, code.len().saturating_add(self.new_lines))?;
         for line in code.into_vec() {
             let turn = self.take();
-            let label = self.label_put(free)?;
+            let label = self.label_put(free);
             push_turned(alloc, &mut turned, line, turn, label)?;
         }
         Ok(Seq::from_vec(turned))
@@ -392,12 +394,12 @@ fn push_turned(
 /// that branch stands again. So a turn of a loop ends with its test, and not with a jump to it.
 /// An exit that stands right before its branch is left as it is.
 ///
-/// Labels and lines that a number cannot count are want of memory.
+/// There have to be two labels for each line that are free. The only error is want of memory.
 pub fn turn_loops(alloc: Global, lin: Lin) -> Result<Lin, AllocError>
+    requires { HasLabels lin }
     ensures { IfOk result (λ turned. turned ≡ turned_all lin) }
 {
-    let _count = number_after(lin.code.len())?;
-    let free = first_free(lin.code.as_slice())?;
+    let free = first_free(lin.code.as_slice()) as u32;
     let changes = Changes::of_function(alloc, &lin, free)?;
     let Lin {
         name,

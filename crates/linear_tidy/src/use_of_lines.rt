@@ -2,6 +2,7 @@
 ghost use Rattle.std.specs.Prelude.{◌≡◌, ◌<◌, ◌≤◌, ◌↔◌, ◌^◌, All, drop, length, IfOk, IsTrue};
 ghost use Rattle.lin_laws.specs.Graph.{AreNumbered};
 ghost use Rattle.lin_flow.specs.Labels.{AreLabelsOf};
+ghost use Rattle.lin_flow.specs.Sizes.{IsCountable};
 ghost use Rattle.lin_flow.specs.Walked.{AreLive};
 ghost use Rattle.tidy_rules.specs.Leaving.{LabelsBetween};
 ghost use Rattle.tidy_rules.specs.Vals.{as_vals};
@@ -11,7 +12,7 @@ ghost use Rattle.linear_tidy.specs.Forms.{IsNoSelfMove};
 use crate::forms::{is_label, is_landing, jump_of, no_self_moves, self_move};
 use crate::vals::as_vals;
 use lin_flow::lines::number_of;
-use lin_flow::{Labels, LiveWalks, Walks, live_walks, number_after, search_walks};
+use lin_flow::{Labels, LiveWalks, Walks, live_walks, search_walks};
 use lin_ir::{Lin, Line};
 use std::alloc::{AllocError, Global};
 
@@ -51,52 +52,51 @@ fn is_skipped(lin: &Lin, labels: &Labels, place: u32) -> bool
 
 /// Whether the line at a place that walks come to has no use: it moves a location to itself that is
 /// not read, or jumps to where control comes without it.
-fn is_idle(lin: &Lin, walks: &LiveWalks, labels: &Labels, place: u32) -> Result<bool, AllocError>
+fn is_idle(lin: &Lin, walks: &LiveWalks, labels: &Labels, place: u32) -> bool
     requires place { place < length lin.now.code }
-    requires small { length lin.now.code < 2 ^ 32 }
+    requires countable { IsCountable lin.now }
+    requires numbered { AreNumbered lin.now }
     requires labels { AreLabelsOf lin.now labels.now }
-    ensures { IfOk result (λ idle. TellsIdle lin.now walks.now place idle) }
+    ensures { TellsIdle lin.now walks.now place result }
 {
     match self_move(&lin.code.as_slice()[place as usize]) {
-        None => Ok(is_skipped(lin, labels, place)),
-        Some(loc) => {
-            let number = number_of(loc)?;
-            Ok(!walks.is_live_after(place, number))
-        }
+        None => is_skipped(lin, labels, place),
+        Some(loc) => !walks.is_live_after(place, number_of(loc)),
     }
 }
 
 /// Whether the line at the place has no use. What walks come to, and what they read, is that of the
 /// function as vals.
-fn is_useless(lin: &Lin, walks: &LiveWalks, labels: &Labels, place: u32) -> Result<bool, AllocError>
+fn is_useless(lin: &Lin, walks: &LiveWalks, labels: &Labels, place: u32) -> bool
     requires place { place < length lin.now.code }
-    requires small { length lin.now.code < 2 ^ 32 }
+    requires countable { IsCountable lin.now }
     requires numbered { AreNumbered lin.now }
     requires walks { AreLive (as_vals lin.now) walks.now }
     requires labels { AreLabelsOf lin.now labels.now }
-    ensures { IfOk result (λ useless. TellsUse lin.now place useless) }
+    ensures { TellsUse lin.now place result }
 {
     if is_landing(&lin.code.as_slice()[place as usize].op) {
-        return Ok(false);
+        return false;
     }
     if !walks.is_reached(place) {
-        return Ok(true);
+        return true;
     }
     is_idle(lin, walks, labels, place)
 }
 
 /// For each line, whether it has no use, by what walks read.
 fn by_reads(alloc: Global, lin: &Lin) -> Result<Vec<bool>, AllocError>
-    requires { AreNumbered lin.now }
+    requires countable { IsCountable lin.now }
+    requires numbered { AreNumbered lin.now }
     ensures { IfOk result (λ flags. AreFlags lin.now flags.items) }
 {
-    let count = number_after(lin.code.len())?;
+    let count = lin.code.len() as u32;
     let vals = as_vals(alloc, lin)?;
     let walks = live_walks(alloc, &vals)?;
     let labels = Labels::of_function(alloc, lin)?;
     let mut flags = Vec::with_capacity(alloc, lin.code.len())?;
     for place in 0..count {
-        flags.push(is_useless(lin, &walks, &labels, place)?)?;
+        flags.push(is_useless(lin, &walks, &labels, place))?;
     }
     Ok(flags)
 }
@@ -121,14 +121,15 @@ fn is_passed_over(lin: &Lin, walks: &Walks, reached: u32, labels: &Labels, place
 
 /// For each line, whether it has no use, by where walks come.
 fn by_walks(alloc: Global, lin: &Lin) -> Result<Vec<bool>, AllocError>
+    requires countable { IsCountable lin.now }
     requires numbered { AreNumbered lin.now }
     requires still { All IsNoSelfMove lin.now.code }
     ensures { IfOk result (λ flags. AreFlags lin.now flags.items) }
 {
-    let count = number_after(lin.code.len())?;
+    let count = lin.code.len() as u32;
     let labels = Labels::of_function(alloc, lin)?;
     let walks = search_walks(alloc, lin, &labels)?;
-    let reached = number_after(walks.nodes.len())?;
+    let reached = walks.nodes.len() as u32;
     let mut flags = Vec::with_capacity(alloc, lin.code.len())?;
     for place in 0..count {
         flags.push(is_passed_over(lin, &walks, reached, &labels, place))?;
@@ -139,11 +140,12 @@ fn by_walks(alloc: Global, lin: &Lin) -> Result<Vec<bool>, AllocError>
 /// For each line, whether it has no use, where walks come to all but landings, and moves of a
 /// location to itself are read.
 fn by_labels(alloc: Global, lin: &Lin) -> Result<Vec<bool>, AllocError>
+    requires small { length lin.now.code < 2 ^ 32 }
     requires reached { AllReached lin.now }
     requires read { AreRead lin.now }
     ensures { IfOk result (λ flags. AreFlags lin.now flags.items) }
 {
-    let count = number_after(lin.code.len())?;
+    let count = lin.code.len() as u32;
     let labels = Labels::of_function(alloc, lin)?;
     let mut flags = Vec::with_capacity(alloc, lin.code.len())?;
     for place in 0..count {
@@ -154,7 +156,8 @@ fn by_labels(alloc: Global, lin: &Lin) -> Result<Vec<bool>, AllocError>
 
 /// For each line, whether it has no use. What is read counts only for moves of a location to itself.
 pub fn useless_lines(alloc: Global, lin: &Lin) -> Result<Vec<bool>, AllocError>
-    requires { AreNumbered lin.now }
+    requires countable { IsCountable lin.now }
+    requires numbered { AreNumbered lin.now }
     ensures { IfOk result (λ flags. AreFlags lin.now flags.items) }
 {
     if no_self_moves(lin.code.as_slice()) {
@@ -171,6 +174,7 @@ pub fn useless_lines_left(
     lin: &Lin,
     no_move_went: bool,
 ) -> Result<Vec<bool>, AllocError>
+    requires countable { IsCountable lin.now }
     requires numbered { AreNumbered lin.now }
     requires reached { AllReached lin.now }
     requires read { IsTrue no_move_went → AreRead lin.now }

@@ -14,5 +14,6 @@ mod spots;
 mod tests;
 
 pub use lowering::lower;
+pub use slots::has_room;
 pub use spots::bare;
 pub use tests::opposite_test;

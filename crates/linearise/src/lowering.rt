@@ -1,6 +1,6 @@
 //! The lines of a function.
-ghost use Rattle.std.specs.Prelude.{◌≡◌, IfOk};
-ghost use Rattle.linear_rules.specs.Lowered.{lowered_code, lowered};
+ghost use Rattle.std.specs.Prelude.{◌≡◌, ◌<◌, ◌^◌, IfOk};
+ghost use Rattle.linear_rules.specs.Lowered.{slots_of, limit_of, lowered_code, lowered};
 ghost use Rattle.linearise.specs.Numbers.{number_in};
 
 use crate::backward::Backward;
@@ -39,8 +39,9 @@ fn entry(numbers: &[u32], index: usize) -> u32
 /// jumps and branches, tries as traps. The slots that occur are numbered from 0, in their order.
 ///
 /// A register with no place has no place there either. The time is linear in the function and in its
-/// greatest slot. The only error is want of memory, which more slots than a number can count are too.
+/// greatest slot. The only error is want of memory.
 pub fn lower(alloc: Global, mach: &Mach) -> Result<Lin, AllocError>
+    requires { limit_of (slots_of mach.now) < 2 ^ 32 }
     ensures { IfOk result (λ lin. lin ≡ lowered mach.now) }
 {
     let slots = gather(alloc, mach)?;

@@ -1,5 +1,5 @@
 //! Which slots occur in a function, and the numbers that they get.
-ghost use Rattle.std.specs.Prelude.{◌≡◌, ◌++◌, suc, [], IfOk};
+ghost use Rattle.std.specs.Prelude.{◌≡◌, ◌<◌, ◌↔◌, ◌^◌, ◌++◌, suc, [], length, IfOk, IsTrue};
 ghost use Rattle.linear_rules.specs.Lowered.{slots_of_regs, slots_of, limit_of};
 ghost use Rattle.linearise.specs.Numbers.{AreFlags, IsTable, running};
 
@@ -60,15 +60,17 @@ fn flags(alloc: Global, slots: &[u32], limit: usize) -> Result<Vec<bool>, AllocE
     Ok(flags)
 }
 
-/// One more. That no number is counts as want of memory.
-fn count_one_more(count: u32) -> Result<u32, AllocError>
-    ensures { IfOk result (λ more. more ≡ suc count) }
+/// One more.
+fn one_more(count: u32) -> u32
+    requires { suc count < 2 ^ 32 }
+    ensures { result ≡ suc count }
 {
-    count.checked_add(1).ok_or(AllocError)
+    count + 1
 }
 
 /// Before each flag and after the last, how many are set before it.
 fn counts(alloc: Global, flags: &[bool]) -> Result<Vec<u32>, AllocError>
+    requires { length flags.now < 2 ^ 32 }
     ensures { IfOk result (λ numbers. numbers.items ≡ running 0 flags.now) }
 {
     let mut numbers = Vec::with_capacity(alloc, flags.len() + 1)?;
@@ -76,16 +78,25 @@ fn counts(alloc: Global, flags: &[bool]) -> Result<Vec<u32>, AllocError>
     for flag in flags {
         numbers.push(count)?;
         if *flag {
-            count = count_one_more(count)?;
+            count = one_more(count);
         }
     }
     numbers.push(count)?;
     Ok(numbers)
 }
 
+/// Whether the slots of a function, counted up to the greatest, have numbers.
+pub fn has_room(alloc: Global, mach: &Mach) -> Result<bool, AllocError>
+    ensures { IfOk result (λ yes. IsTrue yes ↔ limit_of (slots_of mach.now) < 2 ^ 32) }
+{
+    let slots = gather(alloc, mach)?;
+    Ok(limit(slots.as_slice()) <= u32::MAX as usize)
+}
+
 /// How many of the slots, each counted once, are below each number up to their limit.
 pub fn table(alloc: Global, slots: &[u32], limit: usize) -> Result<Vec<u32>, AllocError>
-    requires { limit ≡ limit_of slots.now }
+    requires limit { limit ≡ limit_of slots.now }
+    requires small { limit < 2 ^ 32 }
     ensures { IfOk result (λ numbers. IsTable slots.now numbers.items) }
 {
     let flags = flags(alloc, slots, limit)?;

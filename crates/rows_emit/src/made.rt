@@ -12,7 +12,7 @@ use anyhow::Result;
 use bs_words::{Name, Ret};
 use frame_tables::descriptors;
 use lin_ir::{Lin, Line};
-use lin_tests::{has_one_depth, is_located, is_within};
+use lin_tests::{has_one_depth, is_countable, is_located, is_within};
 use mach_ir::Seq;
 use rows_reading::apart;
 use rv_emit::emit;
@@ -42,6 +42,10 @@ pub(crate) fn take(alloc: Global, lines: &mut Vec<Line>, line: &str) -> Result<(
 fn put_located<W: Write>(alloc: Global, out: &mut W, lin: &Lin, entry: u32) -> Result<()>
     requires { AreLocated lin.now }
 {
+    if !is_countable(lin) {
+        out.write_all(b"some line or slot has no number\n")?;
+        return Ok(());
+    }
     if !has_one_depth(alloc, lin)? {
         out.write_all(b"some place has two numbers of traps\n")?;
         return Ok(());

@@ -22,7 +22,7 @@ use Rattle.tidy_rules.specs.Leaving.{LeavesOften, not_once, once_more}
 use Rattle.tidy_rules.specs.Redirecting.{goes_by, redirected, redirect, Redirects, redirected_all}
 use Rattle.tidy_rules.specs.Regular.{IsRegular}
 use Rattle.tidy_rules.specs.Tidied.{IsTidied}
-use Rattle.tidy_rules.specs.Turning.{Turn, tested_again, turned_line, Turns}
+use Rattle.tidy_rules.specs.Turning.{Turn, tested_again, turned_line, Turns, turned_all}
 use Rattle.tidy_rules.proofs.Following.{redirects_all}
 use Rattle.tidy_rules.proofs.Shape.{SameShape, leaving_shape}
 use Rattle.tidy_rules.proofs.Tidied.{redirecting_regular, redirecting_shape}
@@ -167,12 +167,17 @@ often_shape : {m q r : Lin} → KeepsShape m q → LeavesOften q r → KeepsShap
 often_shape x not_once = x
 often_shape x (once_more way l) = then_same (often_shape x way) (leaving_shape l)
 
--- It has the same slots and parameters, its labels and at most so many more, and at most so many lines more.
-pub tidied_shape : {m r : Lin} → IsTidied m r → IsRegular m → KeepsShape m r
-tidied_shape {m} h regular =
+-- It has the same slots and parameters, its labels and at most so many more, and at most so many lines more:
+-- before lines are left out,
+pub turned_shape : {m : Lin} → IsRegular m → KeepsShape m (turned_all (redirected_all m))
+turned_shape {m} regular =
     let jumps : Redirects m (redirected_all m) = redirects_all m in
     let second : IsRegular (redirected_all m) = redirecting_regular jumps regular in
-    often_shape (after_same (redirecting_shape jumps regular) (redirecting_ways jumps) (turning_shape (turns_all second.well) second)) h.leaves
+    after_same (redirecting_shape jumps regular) (redirecting_ways jumps) (turning_shape (turns_all second.well) second)
+
+-- and when it is tidy.
+pub tidied_shape : {m r : Lin} → IsTidied m r → IsRegular m → KeepsShape m r
+tidied_shape h regular = often_shape (turned_shape regular) h.leaves
 
 -- ---- lowered code
 

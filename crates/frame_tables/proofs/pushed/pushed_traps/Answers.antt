@@ -3,6 +3,7 @@ use Rattle.lin_flow.proofs.Begun.{are_numbered}
 use Rattle.lin_flow.specs.Nodes.{AreWalkedTo}
 use Rattle.lin_flow.specs.Search.{all_of}
 use Rattle.frame_tables.specs.Pushed.{AreTabled}
+use Rattle.frame_tables.proofs.Bounds.{countable_by}
 use Rattle.frame_tables.proofs.Pushing.{counted_by}
 use Rattle.frame_tables.proofs.pushed.pushed_traps.Goals as goal
 
@@ -11,7 +12,7 @@ search_walks-requires c =
     record {
       numbered = are_numbered c.args.lin.now c.requires.located;
       table = c.in_ok-labels.ensures;
-      lines = c.requires.lines;
+      countable = countable_by c.args.lin.now c.requires.within;
     }
 
 pub table_of-requires-clause-walked : goal.table_of-requires-clause-walked

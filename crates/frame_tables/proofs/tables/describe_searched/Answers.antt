@@ -1,11 +1,14 @@
 use Rattle.std.proofs.Common.{◌≡◌, ◌+◌, length, arith, refl}
-use Rattle.frame_tables.proofs.Bounds.{slots_small, frame_small}
+use Rattle.frame_tables.proofs.Bounds.{slots_small, countable_by, frame_small}
 use Rattle.frame_tables.proofs.Composing.{well_formed_by, exact_by, count_by, sizes_by, small_by}
 use Rattle.lin_flow.specs.Search.{all_of}
 use Rattle.frame_tables.proofs.tables.describe_searched.Goals as goal
 
 pub overflow_add-flow : goal.overflow_add-flow
 overflow_add-flow c = omega (arith, slots_small c.args.lin.now c.requires.within)
+
+pub add_points-requires-clause-countable : goal.add_points-requires-clause-countable
+add_points-requires-clause-countable c = countable_by c.args.lin.now c.requires.within
 
 pub live_in_any_order-requires : goal.live_in_any_order-requires
 live_in_any_order-requires c =

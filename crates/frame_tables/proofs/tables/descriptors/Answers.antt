@@ -1,4 +1,5 @@
 use Rattle.lin_flow.proofs.Begun.{are_numbered}
+use Rattle.frame_tables.proofs.Bounds.{countable_by}
 use Rattle.frame_tables.proofs.tables.descriptors.Goals as goal
 
 pub search_points-requires : goal.search_points-requires
@@ -6,5 +7,5 @@ search_points-requires c =
     record {
       numbered = are_numbered c.args.lin.now c.requires.located;
       table = c.in_ok-labels.ensures;
-      lines = c.requires.within.lines;
+      countable = countable_by c.args.lin.now c.requires.within;
     }

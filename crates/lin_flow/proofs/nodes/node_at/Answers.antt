@@ -1,17 +1,22 @@
 use Rattle.std.proofs.Common.{◌<◌, length, sym, subst, arith, List, ℕ}
 use Rattle.std.proofs.lemmas.Option.{slice_get_within}
-use Rattle.lin_flow.proofs.Visiting.{labels_within, visited_line, visited_end, place_past}
+use Rattle.lin_flow.proofs.Visiting.{labels_within, args_small, results_small, visited_line, visited_end, place_past}
 use Rattle.lin_flow.specs.Nodes.{IsNodeOfLine}
 use Rattle.lin_flow.proofs.nodes.node_at.Goals as goal
 
 pub node_of_line-requires : goal.node_of_line-requires
 node_of_line-requires c =
+    let m = c.args.lin.now in
+    let place = c.args.position.now.place in
+    let line = c.in-Some.line.now in
     let lt : c.args.position.now.place < length c.args.lin.now.code =
     slice_get_within c.args.lin.now.code c.args.position.now.place c.in-Some.line.now (sym c.in-Some.ensures) in
     record {
       labels = labels_within c.args.lin.now c.args.labels.now _ c.requires.text.table c.requires.groups;
       next = omega (arith, lt, c.requires.groups);
-      small = omega (arith, c.requires.text.lines, c.requires.groups);
+      small = omega (arith, c.requires.text.countable.lines, c.requires.groups);
+      args = args_small m c.requires.text.numbered c.requires.text.countable place line (sym c.in-Some.ensures);
+      results = results_small m c.requires.text.numbered c.requires.text.countable place line (sym c.in-Some.ensures);
     }
 
 pub returns-in-None : goal.returns-in-None

@@ -14,4 +14,5 @@ returns c =
     )
 
 pub positions_of-requires : goal.positions_of-requires
-positions_of-requires c = are_numbered c.args.lin.now c.requires
+positions_of-requires c =
+    record { numbered = are_numbered c.args.lin.now c.requires.located; countable = c.requires.countable }

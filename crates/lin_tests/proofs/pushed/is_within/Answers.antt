@@ -22,4 +22,8 @@ returns c =
     )
 
 pub positions_of-requires : goal.positions_of-requires
-positions_of-requires c = are_numbered c.args.lin.now c.requires
+positions_of-requires c =
+    record {
+      numbered = are_numbered c.args.lin.now c.requires;
+      countable = record { lines = omega (arith, c.len.ensures, c.if-len.false); slots = omega (arith, c.if-lin-gt-SLOTS.false) };
+    }

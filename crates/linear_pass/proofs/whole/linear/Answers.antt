@@ -1,11 +1,21 @@
 use Rattle.std.proofs.Common.{sym, subst}
 use Rattle.lin_laws.specs.Graph.{AreNumbered}
+use Rattle.linear_tidy.specs.Sizes.{HasRoom}
 use Rattle.linear_pass.proofs.Promised.{lowered_numbered, linear_ok}
+use Rattle.linear_pass.proofs.Room.{slots_room, tidy_room}
 use Rattle.linear_pass.proofs.whole.linear.Goals as goal
+
+pub lower-requires : goal.lower-requires
+lower-requires c = slots_room c.args.mach.now c.requires.room
 
 pub tidy-requires : goal.tidy-requires
 tidy-requires c =
-    subst AreNumbered (sym c.in_ok-lowered.ensures) (lowered_numbered c.args.mach.now c.requires.well_formed c.requires.placed)
+    let p = c.args.mach.now in
+    let same = sym c.in_ok-lowered.ensures in
+    record {
+      numbered = subst AreNumbered same (lowered_numbered p c.requires.well_formed c.requires.placed);
+      room = subst HasRoom same (tidy_room p c.requires.room c.requires.well_formed c.requires.placed c.requires.seated);
+    }
 
 pub returns : goal.returns
 returns c =

@@ -4,8 +4,17 @@ use Rattle.lin_ir.specs.declared.lin.Line.{Line}
 use Rattle.tidy_rules.specs.Turning.{label_on, head_by, head_at}
 use Rattle.linear_tidy.specs.Loops.{head_view}
 use Rattle.linear_tidy.proofs.Between.{drop_line}
-use Rattle.linear_tidy.proofs.Loops.{if_ok}
+use Rattle.linear_tidy.proofs.Loops.{if_ok, after_room}
 use Rattle.linear_tidy.proofs.turning.head_at.Goals as goal
+
+pub label_on-on-requires : goal.label_on-on-requires
+label_on-on-requires c =
+    let code = c.args.lin.now.code in
+    let k = c.args.place in
+    let all = c.len.ensures in
+    let out = c.if-place-len.false in
+    let lt : k < length code = omega (arith, all, out) in
+    after_room code c.args.free k c.lines_after.result lt c.requires c.lines_after.ensures
 
 pub returns : goal.returns
 returns c =
@@ -18,8 +27,8 @@ returns c =
     let at : i ≡ get_or code k i = c.index-as_slice-place.is ∙ ap (λ (xs : List Line). get_or xs k i) c.as_slice.ensures in
     let here = drop_line code k i lt at in
     if_ok (λ head. (free : ℕ) (next : List Line) →
-    c.in_ok-on.on ≡ label_on free (length next) → option_map head_view head ≡ head_by free i.op i.args i.results next)
+    c.label_on-on.result ≡ label_on free (length next) → option_map head_view head ≡ head_by free i.op i.args i.results next)
     (λ head. option_map head_view head ≡ head_at c.args.free (drop k code)) c.head_by.result
     (λ head h.
-    h c.args.free (drop (k + 1) code) (c.in_ok-on.ensures ∙ ap (label_on c.args.free) (c.lines_after.ensures i (drop (k + 1) code) here))
+    h c.args.free (drop (k + 1) code) (c.label_on-on.ensures ∙ ap (label_on c.args.free) (c.lines_after.ensures i (drop (k + 1) code) here))
     ∙ sym (ap (head_at c.args.free) here)) c.head_by.ensures

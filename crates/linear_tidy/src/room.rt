@@ -1,0 +1,28 @@
+//! Whether there are numbers for a function that is made tidy.
+ghost use Rattle.std.specs.Prelude.{IsTrue};
+ghost use Rattle.linear_tidy.specs.Sizes.{HasRoom};
+
+use crate::turning::first_free;
+use lin_flow::lines::REGISTERS;
+use lin_ir::Lin;
+
+/// So many lines, each of which may become four, have no numbers.
+const LINES: usize = 1073741824;
+
+/// Whether there are numbers for the function's labels and slots, and for what its lines become.
+pub fn has_room(lin: &Lin) -> bool
+    ensures { IsTrue result → HasRoom lin.now }
+{
+    let lines = lin.code.len();
+    if lines >= LINES {
+        return false;
+    }
+    let free = first_free(lin.code.as_slice());
+    if free > u32::MAX as usize {
+        return false;
+    }
+    if free + 2 * lines >= u32::MAX as usize {
+        return false;
+    }
+    lin.slots <= u32::MAX - REGISTERS
+}
