@@ -4,7 +4,7 @@ ghost use Rattle.lin_ir.specs.Formed.{AreLocated};
 use anyhow::{Result, bail};
 use frame_tables::descriptors;
 use lin_ir::{Descr, Lin};
-use lin_tests::{has_one_depth, is_located, is_within};
+use lin_tests::{has_one_depth, is_countable, is_located, is_within};
 use mach_ir::page::Page;
 use std::alloc::Global;
 
@@ -41,6 +41,9 @@ fn put_descriptor(page: &mut Page, descriptor: &Descr) -> Result<()> {
 fn put_located(alloc: Global, page: &mut Page, lin: &Lin) -> Result<()>
     requires { AreLocated lin.now }
 {
+    if !is_countable(lin) {
+        bail!("some line or slot has no number");
+    }
     if !has_one_depth(alloc, lin)? {
         bail!("some place has two numbers of traps");
     }

@@ -22,10 +22,16 @@ fn put_described(alloc: Global, page: &mut Page, word: &[u8], lin: &Lin) -> Resu
 
 /// The lines and frame descriptors of the function as it is lowered, and as it is tidy.
 pub(crate) fn put(alloc: Global, page: &mut Page, mach: &Mach) -> Result<()> {
+    if !linearise::has_room(alloc, mach)? {
+        bail!("no room for slots");
+    }
     let lowered = lower(alloc, mach)?;
     put_described(alloc, page, b"", &lowered)?;
     if !is_numbered(&lowered) {
         bail!("some location has no number");
+    }
+    if !linear_tidy::has_room(&lowered) {
+        bail!("no room for lines");
     }
     let tidied = tidy(alloc, lowered)?;
     put_described(alloc, page, b"tidy ", &tidied)
