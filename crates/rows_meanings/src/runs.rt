@@ -9,7 +9,7 @@ use cmm_tree::File;
 use cmm_values::Memory;
 use lin_ir::{Lin, Line};
 use mach_ir::{Instr, Mach, Reg, Seq};
-use rows_reading::{apart, register, spots, value, words_of};
+use rows_reading::{apart, registers, spots, value, words_of};
 use std::alloc::Global;
 use std::fmt::Write;
 
@@ -36,16 +36,6 @@ pub(crate) struct Rows<'a> {
     file: &'a File,
     function: Function,
     said: String,
-}
-
-fn registers(alloc: Global, text: &str) -> Result<Vec<Reg>> {
-    let mut regs = Vec::new(alloc);
-    for word in words_of(alloc, text)? {
-        if let Some(reg) = register(word) {
-            regs.push(reg)?;
-        }
-    }
-    Ok(regs)
 }
 
 fn doing(text: &str) -> Option<Doing> {

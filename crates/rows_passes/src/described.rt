@@ -1,13 +1,12 @@
 //! The lines of frame descriptors.
 ghost use Rattle.lin_ir.specs.Formed.{AreLocated};
 
-use anyhow::Result;
+use anyhow::{Result, bail};
 use frame_tables::descriptors;
 use lin_ir::{Descr, Lin};
-use lin_tests::{has_one_depth, is_located, is_within};
+use lin_tests::{has_one_depth, is_countable, is_located, is_within};
 use mach_ir::page::Page;
 use std::alloc::Global;
-use std::io::Write;
 
 /// A register by its name, or a slot by its offset from sp.
 fn put_entry(page: &mut Page, entry: u32) -> Result<()> {
@@ -39,31 +38,29 @@ fn put_descriptor(page: &mut Page, descriptor: &Descr) -> Result<()> {
 }
 
 /// A line for each frame descriptor of a function whose locations are colours, t0 and its slots.
-fn put_located<W: Write>(alloc: Global, out: &mut W, lin: &Lin) -> Result<()>
+fn put_located(alloc: Global, page: &mut Page, lin: &Lin) -> Result<()>
     requires { AreLocated lin.now }
 {
+    if !is_countable(lin) {
+        bail!("some line or slot has no number");
+    }
     if !has_one_depth(alloc, lin)? {
-        out.write_all(b"some place has two numbers of traps\n")?;
-        return Ok(());
+        bail!("some place has two numbers of traps");
     }
     if !is_within(alloc, lin)? {
-        out.write_all(b"some frame is too large\n")?;
-        return Ok(());
+        bail!("some frame is too large");
     }
-    let mut page = Page::new(alloc);
     for descriptor in descriptors(alloc, lin)?.as_slice() {
-        put_descriptor(&mut page, descriptor)?;
+        put_descriptor(page, descriptor)?;
     }
-    out.write_all(page.bytes.as_slice())?;
     Ok(())
 }
 
 /// A line for each frame descriptor of the function.
-pub(crate) fn put_descriptors<W: Write>(alloc: Global, out: &mut W, lin: &Lin) -> Result<()> {
+pub(crate) fn put_descriptors(alloc: Global, page: &mut Page, lin: &Lin) -> Result<()> {
     if is_located(lin) {
-        put_located(alloc, out, lin)
+        put_located(alloc, page, lin)
     } else {
-        out.write_all(b"some location is no colour, t0 or slot\n")?;
-        Ok(())
+        bail!("some location is no colour, t0 or slot")
     }
 }

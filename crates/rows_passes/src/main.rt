@@ -1,23 +1,28 @@
 //! Mach functions made by hand, and what passes make of them: splitting and spilling (`webs`), then linearisation, tidying
-//! and frame descriptors (`lines`). `stdout` was not made by this program: each of the two files says how it was.
+//! and frame descriptors (`lines`). `rows` says how `stdin` writes them. `stdout` was not made by this program: `webs` and
+//! `lines` say how it was.
 #![tactic(auto)]
 
-mod code;
 mod described;
-mod line_functions;
 mod lines;
 mod numbered;
-mod web_functions;
+mod rows;
 mod webs;
 
-use anyhow::Result;
-use std::io::{self, BufWriter, Write};
+use anyhow::{Result, ensure};
+use mach_ir::page::Page;
+use rows::Rows;
+use std::io::{self, BufRead, BufReader, Write};
 
 fn main(rt: HostRuntime) -> Result<()> {
     let alloc = rt.alloc();
-    let mut out = BufWriter::new(alloc, rt.stdout())?;
-    webs::put_all(alloc, &mut out)?;
-    lines::put_all(alloc, &mut out)?;
-    out.flush()?;
+    let mut rows = Rows::new(alloc);
+    let mut page = Page::new(alloc);
+    for line in BufReader::new(alloc, rt.stdin())?.lines(alloc) {
+        let line = line?;
+        rows.take(&mut page, line.as_str())?;
+    }
+    ensure!(rows.is_done(), "the last function has no end");
+    rt.stdout().write_all(page.bytes.as_slice())?;
     Ok(())
 }

@@ -4,7 +4,10 @@
 //! What is wanted is by a reading of its own of what the terms mean: what is live by the least sets that the edges allow,
 //! webs by the writes that come to each operand and their numbers by the first of them, reloads by the calls that lead to a
 //! read, and stores by the reloads that a write comes to.
-use crate::web_functions;
+ghost use Rattle.std.specs.Prelude.{length};
+ghost use Rattle.mach_ir.specs.Sizes.{HasRoom};
+ghost use Rattle.mach_tests.specs.Room.{wide};
+
 use anyhow::Result;
 use liveness::{first_free, live};
 use mach_ir::page::Page;
@@ -12,7 +15,6 @@ use mach_ir::{LiveMap, Mach, text};
 use spill::spill;
 use split::split;
 use std::alloc::Global;
-use std::io::Write;
 
 /// The numbers of the registers that are live at the place.
 fn put_place(page: &mut Page, live: &LiveMap, place: usize, free: u32) -> Result<()> {
@@ -29,49 +31,33 @@ fn put_place(page: &mut Page, live: &LiveMap, place: usize, free: u32) -> Result
     Ok(())
 }
 
+/// The text of a function, after a word.
+fn put_text(alloc: Global, page: &mut Page, word: &[u8], mach: &Mach) -> Result<()> {
+    page.put(word)?;
+    page.put(text(alloc, mach)?.as_slice())?;
+    Ok(())
+}
+
 /// The function, what is live before each of its instructions and after the last, and the split
 /// function.
-fn put<W: Write>(alloc: Global, out: &mut W, mach: Mach) -> Result<()> {
-    out.write_all(text(alloc, &mach)?.as_slice())?;
+pub(crate) fn put_split(alloc: Global, page: &mut Page, mach: Mach) -> Result<()>
+    requires { HasRoom (wide (length mach.params)) mach }
+{
+    put_text(alloc, page, b"", &mach)?;
     let free = first_free(&mach)?;
     let live = live(alloc, &mach)?;
-    let mut page = Page::new(alloc);
-    for (place, _instr) in mach.code.as_slice().iter().enumerate() {
-        put_place(&mut page, &live, place, free)?;
+    for place in 0..=mach.code.len() {
+        put_place(page, &live, place, free)?;
     }
-    put_place(&mut page, &live, mach.code.len(), free)?;
-    out.write_all(page.bytes.as_slice())?;
     let made = split(alloc, mach)?;
-    out.write_all(b"split ")?;
-    out.write_all(text(alloc, &made)?.as_slice())?;
-    Ok(())
+    put_text(alloc, page, b"split ", &made)
 }
 
 /// The function, what spilling makes of it, and what splitting makes of that.
-fn put_spilled<W: Write>(alloc: Global, out: &mut W, mach: Mach) -> Result<()> {
-    out.write_all(text(alloc, &mach)?.as_slice())?;
+pub(crate) fn put_spilled(alloc: Global, page: &mut Page, mach: Mach) -> Result<()> {
+    put_text(alloc, page, b"", &mach)?;
     let made = spill(alloc, mach)?;
-    out.write_all(b"spilled ")?;
-    out.write_all(text(alloc, &made)?.as_slice())?;
+    put_text(alloc, page, b"spilled ", &made)?;
     let made = split(alloc, made)?;
-    out.write_all(b"spilled and split ")?;
-    out.write_all(text(alloc, &made)?.as_slice())?;
-    Ok(())
-}
-
-/// Puts what is made of each function.
-pub(crate) fn put_all<W: Write>(alloc: Global, out: &mut W) -> Result<()> {
-    put(alloc, out, web_functions::reloads(alloc)?)?;
-    put(alloc, out, web_functions::loops(alloc)?)?;
-    put(alloc, out, web_functions::handled(alloc)?)?;
-    put(alloc, out, web_functions::branches(alloc)?)?;
-    put(alloc, out, web_functions::webs(alloc)?)?;
-    put_spilled(alloc, out, web_functions::calls(alloc)?)?;
-    put_spilled(alloc, out, web_functions::one_call(alloc)?)?;
-    put_spilled(alloc, out, web_functions::rounds(alloc)?)?;
-    put_spilled(alloc, out, web_functions::handled(alloc)?)?;
-    put_spilled(alloc, out, web_functions::twice(alloc)?)?;
-    put_spilled(alloc, out, web_functions::many(alloc)?)?;
-    put_spilled(alloc, out, web_functions::outside(alloc)?)?;
-    put_spilled(alloc, out, web_functions::short(alloc)?)
+    put_text(alloc, page, b"spilled and split ", &made)
 }

@@ -1,8 +1,9 @@
 //! The lines in which programs of the gate write instructions of Mach and of Linear.
 #![tactic(auto)]
 
+mod forms;
 mod line;
 mod words;
 
-pub use line::{Parts, apart, spots, words_of};
-pub use words::{register, value};
+pub use line::{Parts, apart, registers, spots, words_of};
+pub use words::{given, value};

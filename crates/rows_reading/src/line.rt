@@ -1,11 +1,13 @@
 //! From the lines of a row to an instruction of Mach or of Linear.
 //!
-//! A line is `RESULTS = NAME WORDS` or `NAME WORDS`: the words that are registers are the operands, in their order.
+//! A line is `RESULTS = NAME WORDS` or `NAME WORDS`: the words that are registers are the operands, in their order, and the
+//! others those that its name takes (`forms`).
 
 ghost use Rattle.std.specs.Prelude.{◌≤◌, IfSome};
 
-use crate::words::{chunk, number, operator, register, ret, right, test};
-use anyhow::Result;
+use crate::forms::{FLOWS, Form, MARKS, form_of};
+use crate::words::{chunk, given, number, operator, register, right, test};
+use anyhow::{Result, bail};
 use bs_words::{Loc, Name, Ret};
 use lin_ir::{Flow, LinOp, Line, Spot};
 use mach_ir::{
@@ -35,19 +37,23 @@ pub fn words_of<'a>(alloc: Global, line: &'a str) -> Result<Vec<&'a str>> {
     Ok(words)
 }
 
-/// The line taken apart, whose first word after the results is its name.
-pub fn apart<'a>(alloc: Global, line: &'a str) -> Result<Parts<'a>> {
-    let mut results = Vec::new(alloc);
-    let body = match line.split_once(" = ") {
-        Some((before, body)) => {
-            for word in words_of(alloc, before)? {
-                if let Some(reg) = register(word) {
-                    results.push(reg)?;
-                }
-            }
-            body
+/// The registers whose words the text has, or the error that a word is none.
+pub fn registers(alloc: Global, text: &str) -> Result<Vec<Reg>> {
+    let mut regs = Vec::new(alloc);
+    for word in words_of(alloc, text)? {
+        match register(word) {
+            Some(reg) => regs.push(reg)?,
+            None => bail!("no register: {word}"),
         }
-        None => line,
+    }
+    Ok(regs)
+}
+
+/// The line taken apart, whose first word after the results is its name. The error is a result that is no register.
+pub fn apart<'a>(alloc: Global, line: &'a str) -> Result<Parts<'a>> {
+    let (results, body) = match line.split_once(" = ") {
+        Some((before, body)) => (registers(alloc, before)?, body),
+        None => (Vec::new(alloc), line),
     };
     let (name, rest) = match body.split_once(" ") {
         Some(split) => split,
@@ -101,9 +107,26 @@ impl<'a> Parts<'a> {
 
     fn result(&self) -> Ret {
         match self.words.as_slice().last() {
-            Some(word) => ret(word),
+            Some(word) => given(word).unwrap_or(Ret::Unit),
             None => Ret::Unit,
         }
+    }
+
+    /// Whether its words are those of its name, which is one of the marks or an operation.
+    fn is_whole(&self, marks: &[(&'static str, Form)]) -> bool {
+        match form_of(marks, self.name) {
+            Some(form) => form.fits(self.words.as_slice()),
+            None => false,
+        }
+    }
+
+    /// The indexes of a case, which come after its labels.
+    fn indexes(&self) -> Result<Seq<u32>> {
+        let mut indexes = Vec::new(self.alloc);
+        for word in self.words.as_slice().iter().skip(2) {
+            indexes.push(word.parse::<u32>().unwrap_or(0))?;
+        }
+        Ok(Seq::from_vec(indexes))
     }
 
     /// The labels whose numbers the words are.
@@ -125,9 +148,10 @@ impl<'a> Parts<'a> {
             blocks = match blocks {
                 None => Some(Blocks::one(self.alloc, block)?),
                 Some(mut blocks) => {
-                    if blocks.bytes() < 4096 {
-                        blocks.push(block)?;
+                    if blocks.bytes() >= 4096 {
+                        return Ok(None);
                     }
+                    blocks.push(block)?;
                     Some(blocks)
                 }
             };
@@ -174,7 +198,10 @@ impl<'a> Parts<'a> {
             "move" => Ok(Some(Pure::Copy(CopyKind::Move))),
             "spill" => Ok(Some(Pure::Copy(CopyKind::Spill))),
             "reload" => Ok(Some(Pure::Copy(CopyKind::Reload))),
-            "const" => Ok(number(self.word(0)).map(Pure::Constant)),
+            "const" => match number(self.word(0)) {
+                Some(word) => Ok(Some(Pure::Constant(word))),
+                None => Ok(None),
+            },
             "symbol" => Ok(Some(Pure::Symbol(self.called()?))),
             name => match operator(name) {
                 Some(op) => Ok(Some(Pure::Operator(op, self.right()))),
@@ -244,7 +271,7 @@ impl<'a> Parts<'a> {
             "else" => Ok(Some(Mark::Else { label, end })),
             "switch" => Ok(Some(Mark::Switch(self.labels()?))),
             "case" => Ok(Some(Mark::Case {
-                indexes: Seq::new(self.alloc),
+                indexes: self.indexes()?,
                 label,
                 end,
             })),
@@ -283,6 +310,9 @@ impl<'a> Parts<'a> {
 
     /// The instruction of Mach, if it is one.
     pub fn instr(self) -> Result<Option<Instr>> {
+        if !self.is_whole(&MARKS) {
+            return Ok(None);
+        }
         let op = match self.mark()? {
             Some(mark) => MachOp::Mark(mark),
             None => match self.op()? {
@@ -299,6 +329,9 @@ impl<'a> Parts<'a> {
 
     /// The line of Linear, if it is one.
     pub fn line(self) -> Result<Option<Line>> {
+        if !self.is_whole(&FLOWS) {
+            return Ok(None);
+        }
         let op = match self.flow()? {
             Some(flow) => LinOp::Flow(flow),
             None => match self.op()? {

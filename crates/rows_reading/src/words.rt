@@ -44,8 +44,15 @@ const CHUNKS: [(&str, Chunk); 8] = [
     ("val", Chunk::Val),
 ];
 
+const RESULTS: [(&str, Ret); 4] = [
+    ("int", Ret::Comp(Comp::Int)),
+    ("val", Ret::Comp(Comp::Val)),
+    ("addr", Ret::Comp(Comp::Addr)),
+    ("unit", Ret::Unit),
+];
+
 /// What a word stands for in a table.
-fn entry<T: Copy>(table: &[(&'static str, T)], word: &str) -> Option<T> {
+pub fn entry<T: Copy>(table: &[(&'static str, T)], word: &str) -> Option<T> {
     for row in table {
         if row.0 == word {
             return Some(row.1);
@@ -57,7 +64,7 @@ fn entry<T: Copy>(table: &[(&'static str, T)], word: &str) -> Option<T> {
 /// The integer operator of that name, if there is one.
 pub fn operator(word: &str) -> Option<IntOp> {
     match word.strip_prefix("u") {
-        Some(compare) => entry(&COMPARISONS, compare).map(IntOp::CmpU),
+        Some(compare) => Some(IntOp::CmpU(entry(&COMPARISONS, compare)?)),
         None => match entry(&COMPARISONS, word) {
             Some(compare) => Some(IntOp::Cmp(compare)),
             None => entry(&OPERATORS, word),
@@ -93,28 +100,23 @@ pub fn test(word: &str, right: Right) -> Option<Test> {
 /// A word of 64 bits, in decimal digits, a minus before it where it is negative.
 pub fn number(word: &str) -> Option<u64> {
     match word.strip_prefix("-") {
-        Some(digits) => digits.parse::<u64>().ok().map(|n| 0u64.wrapping_sub(n)),
+        Some(digits) => Some(0u64.wrapping_sub(digits.parse::<u64>().ok()?)),
         None => word.parse::<u64>().ok(),
     }
 }
 
-/// What a function of that result's name gives.
-pub fn ret(word: &str) -> Ret {
-    match word {
-        "int" => Ret::Comp(Comp::Int),
-        "val" => Ret::Comp(Comp::Val),
-        "addr" => Ret::Comp(Comp::Addr),
-        _ => Ret::Unit,
-    }
+/// What a function gives whose result has that name, if it is one.
+pub fn given(word: &str) -> Option<Ret> {
+    entry(&RESULTS, word)
 }
 
 /// A word; `b` and a block's serial, with an offset after `+`; or `f` and a function's number.
 pub fn value(word: &str) -> Option<Value> {
     if let Some(function) = word.strip_prefix("f") {
-        return function.parse::<u32>().ok().map(Value::Function);
+        return Some(Value::Function(function.parse::<u32>().ok()?));
     }
     let Some(block) = word.strip_prefix("b") else {
-        return number(word).map(Value::Word);
+        return Some(Value::Word(number(word)?));
     };
     let (serial, offset) = match block.split_once("+") {
         Some((serial, offset)) => (serial, number(offset)?),
@@ -139,8 +141,8 @@ fn typed(word: &str) -> Option<(Comp, &str)> {
 
 fn loc(word: &str) -> Option<Loc> {
     match word.strip_prefix("s") {
-        Some(slot) => slot.parse::<u32>().ok().map(Loc::Slot),
-        None => word.parse::<u8>().ok().map(Loc::Machine),
+        Some(slot) => Some(Loc::Slot(slot.parse::<u32>().ok()?)),
+        None => Some(Loc::Machine(word.parse::<u8>().ok()?)),
     }
 }
 
@@ -155,9 +157,10 @@ pub fn register(word: &str) -> Option<Reg> {
         Some((number, place)) => (number, loc(place)?),
         None => (rest, Loc::Unset),
     };
-    let number = match loc {
-        Loc::Unset => number.parse::<u32>().ok()?,
-        _ => number.parse::<u32>().unwrap_or(0),
+    let number = if number.is_empty() && loc != Loc::Unset {
+        0
+    } else {
+        number.parse::<u32>().ok()?
     };
     Some(Reg {
         number,
