@@ -235,9 +235,12 @@ fn doings(alloc: Global, text: &str) -> Result<Vec<Doing>> {
     Ok(doings)
 }
 
-/// What stands round a run, where the text's data has no fault.
+/// What stands round a run, where the text's data has no fault and its items have numbers.
 fn world_of<'a>(alloc: Global, file: &'a File, text: &str) -> Result<Option<World<'a>>> {
     if data_fault(file).is_some() {
+        return Ok(None);
+    }
+    if file.items.len() > u32::MAX as usize {
         return Ok(None);
     }
     let doings = doings(alloc, text)?;

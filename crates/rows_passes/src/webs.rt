@@ -8,10 +8,11 @@ ghost use Rattle.std.specs.Prelude.{length};
 ghost use Rattle.mach_ir.specs.Sizes.{HasRoom};
 ghost use Rattle.mach_tests.specs.Room.{wide};
 
-use anyhow::Result;
+use anyhow::{Result, bail};
 use liveness::{first_free, live};
 use mach_ir::page::Page;
 use mach_ir::{LiveMap, Mach, text};
+use mach_tests::has_room;
 use spill::spill;
 use split::split;
 use std::alloc::Global;
@@ -44,7 +45,7 @@ pub(crate) fn put_split(alloc: Global, page: &mut Page, mach: Mach) -> Result<()
     requires { HasRoom (wide (length mach.params)) mach }
 {
     put_text(alloc, page, b"", &mach)?;
-    let free = first_free(&mach)?;
+    let free = first_free(&mach);
     let live = live(alloc, &mach)?;
     for place in 0..=mach.code.len() {
         put_place(page, &live, place, free)?;
@@ -53,11 +54,24 @@ pub(crate) fn put_split(alloc: Global, page: &mut Page, mach: Mach) -> Result<()
     put_text(alloc, page, b"split ", &made)
 }
 
-/// The function, what spilling makes of it, and what splitting makes of that.
-pub(crate) fn put_spilled(alloc: Global, page: &mut Page, mach: Mach) -> Result<()> {
-    put_text(alloc, page, b"", &mach)?;
-    let made = spill(alloc, mach)?;
-    put_text(alloc, page, b"spilled ", &made)?;
-    let made = split(alloc, made)?;
+/// What splitting makes of a spilled function.
+fn put_both(alloc: Global, page: &mut Page, spilled: Mach) -> Result<()>
+    requires { HasRoom (wide (length spilled.params)) spilled }
+{
+    let made = split(alloc, spilled)?;
     put_text(alloc, page, b"spilled and split ", &made)
+}
+
+/// The function, what spilling makes of it, and what splitting makes of that.
+pub(crate) fn put_spilled(alloc: Global, page: &mut Page, mach: Mach) -> Result<()>
+    requires { HasRoom (wide (length mach.params)) mach }
+{
+    put_text(alloc, page, b"", &mach)?;
+    let spilled = spill(alloc, mach)?;
+    put_text(alloc, page, b"spilled ", &spilled)?;
+    if has_room(&spilled) {
+        put_both(alloc, page, spilled)
+    } else {
+        bail!("no room for what splitting makes")
+    }
 }
