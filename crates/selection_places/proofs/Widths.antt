@@ -12,4 +12,9 @@ pub size_is_small : (f : FunctionTree) → 18 + 9 * length f.params + nodes_in f
     12 + 6 * length f.params + (values_in f.body + 2 * all_tries f.body) < 2 * f.tokens → f.tokens ≤ most_tokens → IsSmall (size_of f)
 size_is_small f nodes values few =
     let x = few_numbers f.body in
-    record { instrs = omega (arith, x, nodes, values, few); registers = omega (arith, x, nodes, values, few); labels = omega (arith, x, nodes, values, few) }
+    record {
+      places = omega (arith, x, nodes, values, few);
+      operands = omega (arith, x, nodes, values, few);
+      registers = omega (arith, x, nodes, values, few);
+      labels = omega (arith, x, nodes, values, few);
+    }
