@@ -10,6 +10,7 @@ use Rattle.combine_rules.specs.Kept.{IsCombinable, holds_block}
 use Rattle.correctness.specs.Measures.{tries}
 use Rattle.mach_ir.specs.Sizes.{operand_count, HasRoom}
 use Rattle.mach_ir.specs.declared.mach.Mach.{Mach}
+use Rattle.mach_ir.specs.declared.reg.Reg.{Reg}
 use Rattle.mach_ir.proofs.Keeping.{keeps_then}
 use Rattle.mach_passes.specs.Prepared.{IsPreparable, IsPrepared, prepared_size}
 use Rattle.mach_passes.specs.Prepared as prepared
