@@ -53,7 +53,7 @@ use Rattle.chained_functions.proofs.Carried.{lowered_shallow, tidied_shallow, ti
 -- ---- how many lines
 
 -- an exit ends at most so many tries
-ended_few : (k : ℕ) (code : List Instr) → ((i : Instr) (next : List Instr) → mach_walks.Stands i next code → (l n : ℕ) → i.op ≡ mach.Mark (mark.Exit l n) → n ≤ k) → tries_ended code ≤ exits code * k
+pub ended_few : (k : ℕ) (code : List Instr) → ((i : Instr) (next : List Instr) → mach_walks.Stands i next code → (l n : ℕ) → i.op ≡ mach.Mark (mark.Exit l n) → n ≤ k) → tries_ended code ≤ exits code * k
 ended_few k [] h = omega arith
 ended_few k (i ∷ is) h = by i.op i.args i.results (λ l n e. h i is mach_walks.here l n e) (ended_few k is (λ j next s l n e. h j next (mach_walks.below s) l n e))
   where
