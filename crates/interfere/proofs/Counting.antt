@@ -2,7 +2,7 @@
 use Rattle.std.proofs.Common.{◌≡◌, ℕ, ◌+◌, ◌<◌, ◌≤◌, Bool, true, false, cond, List, [], ◌∷◌, length, drop, get_or, refl, sym, ap, ◌∙◌, arith}
 use Rattle.std.specs.Prelude.{nat_eq, slice_index}
 use Rattle.std.proofs.lemmas.Bool.{eq-eqb}
-use Rattle.std.proofs.lemmas.List.{drop_more}
+use Rattle.std.proofs.lemmas.List.{drop_more, get_or_read}
 use Rattle.mach_ir.specs.Graph.{times_among, uses_of}
 use Rattle.mach_ir.specs.Sizes.{operand_count, number_limit}
 use Rattle.mach_ir.specs.declared.reg.Reg.{Reg}
@@ -25,17 +25,21 @@ uses_few n (i ∷ is) =
     omega (arith, args, results, rest)
 
 -- the next of these can be counted, where all can
-pub one_fits : (now first : List ℕ) (regs : List Reg) (k : ℕ) (r : Reg) → k < length regs → r ≡ get_or regs k r →
+pub one_fits : (now first : List ℕ) (regs : List Reg) (k : ℕ) (d : Reg) (count : ℕ) → k < length regs →
+    length now ≡ length first → (get_or regs k d).number < length first →
+    count ≡ get_or now (get_or regs k d).number count →
     ((n : ℕ) → slice_index now n + times_among n (drop k regs) ≡ slice_index first n + times_among n regs) →
-    ((n : ℕ) → slice_index first n + times_among n regs < number_limit) → slice_index now r.number + 1 < number_limit
-one_fits now first regs k r lt at more fits =
+    ((n : ℕ) → slice_index first n + times_among n regs < number_limit) → count + 1 < number_limit
+one_fits now first regs k d count lt len within read more fits =
+    let r : Reg = get_or regs k d in
     let here : times_among r.number (drop k regs) ≡ times_among r.number (r ∷ drop (k + 1) regs) =
-    ap (times_among r.number) (drop_more regs k r lt ∙ ap (λ x. x ∷ drop (k + 1) regs) (sym at)) in
+    ap (times_among r.number) (drop_more regs k d lt) in
     let one : times_among r.number (r ∷ drop (k + 1) regs) ≡ 1 + times_among r.number (drop (k + 1) regs) =
     ap (λ b. cond b 1 0 + times_among r.number (drop (k + 1) regs)) (eq-eqb r.number r.number refl) in
+    let counted : count ≡ slice_index now r.number = get_or_read now r.number count (omega (arith, within, len)) read 0 in
     let all = more r.number in
     let most = fits r.number in
-    omega (arith, here, one, all, most)
+    omega (arith, here, one, counted, all, most)
 
 module _ (uses : List ℕ) (code : List Instr) (k : ℕ) (i : Instr) (lt : k < length code) (at : i ≡ get_or code k i)
     (more : (n : ℕ) → slice_index uses n + uses_of n (drop k code) ≡ uses_of n code) (few : operand_count code < number_limit) where

@@ -15,15 +15,15 @@ count-requires-clause-countable c =
     args_fit _ c.args.code.now c.loop-instr.instr-index c.instr-item.result c.loop-instr-test.true c.instr-item.is
     c.loop-instr.invariant.uses c.requires.countable c.as_slice.result.now c.as_slice.ensures
 
-pub count-2-requires-clause-numbers : goal.count-2-requires-clause-numbers
-count-2-requires-clause-numbers c =
+pub count-requires-in-loop-instr-clause-numbers : goal.count-requires-in-loop-instr-clause-numbers
+count-requires-in-loop-instr-clause-numbers c =
     let i = c.instr-item.result in
     let at = read_in c.args.code.now c.loop-instr.instr-index i c.loop-instr-test.true c.instr-item.is in
-    regs_small c.args.size _ i.results c.as_slice-2.result.now c.as_slice-2.ensures
+    regs_small c.args.size _ i.results c.as_slice-in-loop-instr.result.now c.as_slice-in-loop-instr.ensures
     (λ r a. c.requires.numbers r (results_in c.args.code.now i r at a)) (c.count.ensures.len ∙ c.loop-instr.invariant.len)
 
-pub count-2-requires-clause-countable : goal.count-2-requires-clause-countable
-count-2-requires-clause-countable c =
+pub count-requires-in-loop-instr-clause-countable : goal.count-requires-in-loop-instr-clause-countable
+count-requires-in-loop-instr-clause-countable c =
     results_fit _ c.args.code.now c.loop-instr.instr-index c.instr-item.result c.loop-instr-test.true c.instr-item.is
-    c.loop-instr.invariant.uses c.requires.countable c.as_slice.result.now c.as_slice-2.result.now _ c.as_slice.ensures c.as_slice-2.ensures
+    c.loop-instr.invariant.uses c.requires.countable c.as_slice.result.now c.as_slice-in-loop-instr.result.now _ c.as_slice.ensures c.as_slice-in-loop-instr.ensures
     c.count.ensures.more
