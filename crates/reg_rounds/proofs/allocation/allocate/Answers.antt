@@ -6,8 +6,12 @@ use Rattle.reload_rules.proofs.Room.{room_counts}
 use Rattle.reg_rounds.proofs.Turns.{next_asked, no_other, given_up}
 use Rattle.reg_rounds.proofs.allocation.allocate.Goals as goal
 
-pub first_free-requires : goal.first_free-requires
-first_free-requires c = room_counts (most_rounds * ((c.requires.room).size).operands) (record { size = (c.requires.room).size; within = (c.requires.room).within; small = (c.requires.room).small })
+pub first_free-fresh-requires : goal.first_free-fresh-requires
+first_free-fresh-requires c =
+    let room = c.requires.room in
+    record {
+      countable = room_counts (most_rounds * (room.size).operands) (record { size = room.size; within = room.within; small = room.small });
+    }
 
 pub loop-rounds-init : goal.loop-rounds-init
 loop-rounds-init c = none_yet
@@ -28,11 +32,11 @@ loop-rounds-preserved c =
 
 pub returns-then-not-asks : goal.returns-then-not-asks
 returns-then-not-asks c =
-    no_other c.loop-rounds.rounds (record { above = c.first_free.ensures.above; least = c.first_free.ensures.least })
+    no_other c.loop-rounds.rounds (record { above = c.first_free-fresh.ensures.above; least = c.first_free-fresh.ensures.least })
     c.loop-rounds.invariant c.loop-rounds-test.true c.in_ok-made.ensures c.if-not-asks.true
 
 pub returns : goal.returns
 returns c =
     subst (λ q. IsAllocatedIn c.args.mach q 50 true) (sym (c.in_ok-rest_in_slots.ensures ∙ ap rest_in_slots c.in_ok-first.ensures))
-    (given_up c.loop-rounds.rounds (record { above = c.first_free.ensures.above; least = c.first_free.ensures.least })
+    (given_up c.loop-rounds.rounds (record { above = c.first_free-fresh.ensures.above; least = c.first_free-fresh.ensures.least })
     c.loop-rounds.invariant c.loop-rounds.auto.rounds-end c.loop-rounds-test.false)
