@@ -1,11 +1,14 @@
 use Rattle.std.proofs.lemmas.Result.{IfOk-weaker}
 use Rattle.cmm_tree.specs.View.{function_view}
 use Rattle.mach_passes.specs.Stages.{IsCleaned}
-use Rattle.file_compile.proofs.Passing.{preparable, of_selected_text}
+use Rattle.file_compile.proofs.Passing.{preparable, room, of_selected_text}
 use Rattle.file_compile.proofs.listing.dead_text.Goals as goal
 
-pub without_dead-requires : goal.without_dead-requires
-without_dead-requires c = preparable (function_view c.args.function.now) c.requires.accepted c.in_ok-mach.mach c.in_ok-mach.ensures
+pub without_dead-requires-clause-preparable : goal.without_dead-requires-clause-preparable
+without_dead-requires-clause-preparable c = preparable (function_view c.args.function.now) c.requires.accepted c.in_ok-mach.mach c.in_ok-mach.ensures
+
+pub without_dead-requires-clause-room : goal.without_dead-requires-clause-room
+without_dead-requires-clause-room c = room (function_view c.args.function.now) c.requires.accepted c.in_ok-mach.mach c.in_ok-mach.ensures
 
 pub returns : goal.returns
 returns c =

@@ -1,11 +1,14 @@
 use Rattle.std.proofs.lemmas.Result.{IfOk-weaker}
 use Rattle.cmm_tree.specs.View.{function_view}
 use Rattle.mach_passes.specs.Stages.{HasSlots}
-use Rattle.file_compile.proofs.Passing.{preparable, of_selected_text}
+use Rattle.file_compile.proofs.Passing.{preparable, room, of_selected_text}
 use Rattle.file_compile.proofs.listing.slots_text.Goals as goal
 
-pub with_slots-requires : goal.with_slots-requires
-with_slots-requires c = preparable (function_view c.args.function.now) c.requires.accepted c.in_ok-mach.mach c.in_ok-mach.ensures
+pub with_slots-requires-clause-preparable : goal.with_slots-requires-clause-preparable
+with_slots-requires-clause-preparable c = preparable (function_view c.args.function.now) c.requires.accepted c.in_ok-mach.mach c.in_ok-mach.ensures
+
+pub with_slots-requires-clause-room : goal.with_slots-requires-clause-room
+with_slots-requires-clause-room c = room (function_view c.args.function.now) c.requires.accepted c.in_ok-mach.mach c.in_ok-mach.ensures
 
 pub returns : goal.returns
 returns c =

@@ -1,11 +1,14 @@
 use Rattle.std.proofs.lemmas.Result.{IfOk-weaker}
 use Rattle.cmm_tree.specs.View.{function_view}
 use Rattle.mach_passes.specs.Prepared.{IsPrepared}
-use Rattle.file_compile.proofs.Passing.{preparable, of_selected_text}
+use Rattle.file_compile.proofs.Passing.{preparable, room, of_selected_text}
 use Rattle.file_compile.proofs.listing.webs_text.Goals as goal
 
-pub prepared-requires : goal.prepared-requires
-prepared-requires c = preparable (function_view c.args.function.now) c.requires.accepted c.in_ok-mach.mach c.in_ok-mach.ensures
+pub prepared-requires-clause-preparable : goal.prepared-requires-clause-preparable
+prepared-requires-clause-preparable c = preparable (function_view c.args.function.now) c.requires.accepted c.in_ok-mach.mach c.in_ok-mach.ensures
+
+pub prepared-requires-clause-room : goal.prepared-requires-clause-room
+prepared-requires-clause-room c = room (function_view c.args.function.now) c.requires.accepted c.in_ok-mach.mach c.in_ok-mach.ensures
 
 pub returns : goal.returns
 returns c =

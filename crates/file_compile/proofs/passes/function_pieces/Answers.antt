@@ -5,8 +5,8 @@ use Rattle.lin_ir.specs.Descriptors.{AreExact}
 use Rattle.file_compile.proofs.Passing.{preparable, room, prepared_has_room, prepared_formed, prepared_placed, prepared_low, is_placed, has_line_room, lines_within, function_made}
 use Rattle.file_compile.proofs.passes.function_pieces.Goals as goal
 
-pub prepared-requires : goal.prepared-requires
-prepared-requires c = preparable (function_view c.args.function.now) c.requires.accepted c.in_ok-mach.mach c.in_ok-mach.ensures
+pub prepared-requires-clause-preparable : goal.prepared-requires-clause-preparable
+prepared-requires-clause-preparable c = preparable (function_view c.args.function.now) c.requires.accepted c.in_ok-mach.mach c.in_ok-mach.ensures
 
 pub prepared-requires-clause-room : goal.prepared-requires-clause-room
 prepared-requires-clause-room c = room (function_view c.args.function.now) c.requires.accepted c.in_ok-mach.mach c.in_ok-mach.ensures
