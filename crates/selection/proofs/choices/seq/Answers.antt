@@ -20,15 +20,15 @@ dropped-requires-clause-typed g c =
 
 pub returns-in_ok-one-in-Some-clause-code : goal.returns-in_ok-one-in-Some-clause-code
 returns-in_ok-one-in-Some-clause-code g c =
-    let first : c.in_ok-first.first ≡ suc c.args.node.place.base = omega (arith, c.in_ok-first.ensures) in
-    let base : c.in_ok-base-in-Some.base ≡ suc (suc c.args.node.place.base + width_row (row_of c.in-Some.others.now)) =
-    omega (arith, first, c.in_ok-base-in-Some.ensures, c.in_ok-behind_row-in-Some.ensures) in
+    let first : c.args.node.place.base + 1 ≡ suc c.args.node.place.base = omega arith in
+    let base : c.behind_row.result + 1 ≡ suc (suc c.args.node.place.base + width_row (row_of c.in-Some.others.now)) =
+    omega (arith, c.behind_row.ensures) in
     let s = c.args.scope.now in
     let new = c.dropped.new.code in
     let left = c.one.new.scope in
-    let step : new ≡ select_dropped left.names left.labels c.in_ok-first.first (row_of c.in-Some.others.now) c.one.new.code
+    let step : new ≡ select_dropped left.names left.labels (c.args.node.place.base + 1) (row_of c.in-Some.others.now) c.one.new.code
     → (at : ℕ) → new ≡ node_code s c.args.node.place (Sequence at (row_of c.args.elements.now)) c.args.code.now =
     λ made at.
-    seq-code s left c.args.node at c.in_ok-first.first c.in_ok-base-in-Some.base c.args.elements.now c.in-Some.others.now c.in-Some.last.now c.part.result c.args.code.now c.one.new.code new
+    seq-code s left c.args.node at (c.args.node.place.base + 1) (c.behind_row.result + 1) c.args.elements.now c.in-Some.others.now c.in-Some.last.now c.part.result c.args.code.now c.one.new.code new
     c.in-Some.ensures.cases.0 c.in_ok-one-in-Some.ensures.scope (c.requires.ty at) first base c.part.ensures c.in_ok-one-in-Some.ensures.code made in
     on_ok_weaker c.dropped.result step c.dropped.ensures.code

@@ -1,3 +1,4 @@
+use Rattle.std.proofs.Common.{◌+◌, refl}
 use Rattle.std.proofs.lemmas.Result.{on_ok_weaker}
 use Rattle.selection.proofs.Accesses.{store-is}
 use Rattle.selection_scope.specs.Scoping.{names_in}
@@ -7,8 +8,8 @@ pub returns-clause-code : goal.returns-clause-code
 returns-clause-code g c =
     on_ok_weaker c.both.result
     (λ h. λ at.
-    store-is c.args.scope.now c.args.node.place c.args.chunk c.args.address.now c.address_of-at.result.base.now c.args.value.now c.address_of-at.result.offset c.in_ok-first.first c.in_ok-second.second c.fresh.result c.fresh-2.result c.is_left_first-left_first.result
+    store-is c.args.scope.now c.args.node.place c.args.chunk c.args.address.now c.address_of-at.result.base.now c.args.value.now c.address_of-at.result.offset (c.args.node.place.base + 3) c.behind-second.result c.fresh.result c.fresh-2.result c.is_left_first-left_first.result
     c.args.code.now c.store.new.self c.both.new.code at
-    c.in_ok-first.ensures c.in_ok-second.ensures c.address_of-at.ensures.base c.address_of-at.ensures.offset (c.address_of-at.ensures.typed (names_in c.args.scope.now) c.requires.address_typed) c.requires.value_typed
+    refl c.behind-second.ensures c.address_of-at.ensures.base c.address_of-at.ensures.offset (c.address_of-at.ensures.typed (names_in c.args.scope.now) c.requires.address_typed) c.requires.value_typed
     c.fresh.ensures c.fresh-2.ensures c.is_left_first-left_first.ensures c.in_ok-store.ensures h)
     c.both.ensures.code
