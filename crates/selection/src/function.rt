@@ -1,5 +1,5 @@
 //! The function of a file by its number, and its Mach function.
-ghost use Rattle.std.specs.Prelude.{◌≡◌, ◌+◌, ◌<◌, [], length, map, All, Some, slice_get, ⊤, IfOk, OnOk, MatchOption, option_map, option_copied};
+ghost use Rattle.std.specs.Prelude.{◌≡◌, ◌+◌, ◌<◌, ◌≤◌, [], length, map, All, Some, slice_get, ⊤, IfOk, OnOk, MatchOption, option_map, option_copied};
 ghost use Rattle.cmm_tree.specs.Tree.{functions, functions_among};
 ghost use Rattle.cmm_tree.specs.View.{function_view, item_view, file_view, params_view};
 ghost use Rattle.cmm_types.specs.Typing.{AreItemsAnnotated, IsFunctionAnnotated};
@@ -113,7 +113,8 @@ fn put_params(
     moved: u32,
     code: &mut Backwards,
 ) -> Result<Seq<Reg>, AllocError>
-    requires { moved + length params.now < most_numbers }
+    requires after { first ≤ moved }
+    requires room { moved + length params.now < most_numbers }
     ensures params { IfOk result (λ given. given ≡ seats 0 first (params_from moved
         (params_view params.now))) }
     ensures code { IfOk result (λ _. code.new ≡ moves_all (seats 0 first (params_from moved

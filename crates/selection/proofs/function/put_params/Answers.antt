@@ -8,4 +8,4 @@ pub seats-requires : goal.seats-requires
 seats-requires c =
     let params = c.args.params.now in
     let count = ap length c.in_ok-own.ensures ∙ length-params c.args.moved (params_view params) ∙ length-map params param_view in
-    omega (arith, count, c.requires)
+    omega (arith, count, c.requires.after, c.requires.room)

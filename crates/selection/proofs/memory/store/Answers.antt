@@ -1,6 +1,9 @@
-use Rattle.std.proofs.Common.{◌+◌, refl}
+use Rattle.std.proofs.Common.{◌+◌, refl, sym, subst, arith}
 use Rattle.std.proofs.lemmas.Result.{on_ok_weaker}
+use Rattle.cmm_tree.specs.View.{expr_view}
+use Rattle.selection.proofs.Addresses.{base_room}
 use Rattle.selection.proofs.Accesses.{store-is}
+use Rattle.selection_scope.specs.Room.{HasRoom}
 use Rattle.selection_scope.specs.Scoping.{names_in}
 use Rattle.selection.proofs.memory.store.Goals as goal
 
@@ -13,3 +16,9 @@ returns-clause-code g c =
     refl c.behind-second.ensures c.address_of-at.ensures.base c.address_of-at.ensures.offset (c.address_of-at.ensures.typed (names_in c.args.scope.now) c.requires.address_typed) c.requires.value_typed
     c.fresh.ensures c.fresh-2.ensures c.is_left_first-left_first.ensures c.in_ok-store.ensures h)
     c.both.ensures.code
+
+pub both-requires-clause-left_room : goal.both-requires-clause-left_room
+both-requires-clause-left_room g c =
+    let first = c.args.node.place.base + 3 in
+    let whole : HasRoom first (expr_view c.args.address.now) = omega (arith, c.requires.room) in
+    subst (HasRoom first) (sym c.address_of-at.ensures.base) (base_room first (expr_view c.args.address.now) whole)

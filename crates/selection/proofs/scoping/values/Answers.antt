@@ -106,4 +106,4 @@ unreachable-requires g c =
     let outer = drop (length c.args.bindings.now) c.args.scope.now.names in
     let names = names-last c.loop-last.scope.names outer c.args.number rest others last c.in-Some.ensures.cases.0 c.loop-last.invariant.names in
     let given = (c.unbind.ensures _ _ names).0 in
-    ?
+    grind (arith, given)
