@@ -1,5 +1,5 @@
 -- The base and the offset of an address.
-use Rattle.std.proofs.Common.{◌≡◌, ℕ, Bool, true, false, cond, List, Option, Some, None, refl, ap, sym, ◌∙◌}
+use Rattle.std.proofs.Common.{◌≡◌, ℕ, Bool, true, false, cond, List, Option, Some, None, refl, ap, sym, ◌∙◌, subst, arith}
 use Rattle.bs_words.specs.declared.operators.IntOp.{IntOp}
 use Rattle.cmm_tree.specs.Tree.{Expression, Integer, Pointer, Symbol, Name, Nothing, Float, Let, Assign, Operator, Load, Store, Alloc, App, Extcall, Checkbound, Raise, Seq, If, Switch, Catch, Exit, Try}
 use Rattle.cmm_types.specs.Types.{type_of}
@@ -7,6 +7,7 @@ use Rattle.mach_ir.specs.declared.mach.Instr.{Instr}
 use Rattle.selection_rules.specs.Select.{Named, Label, Code, scopes, fresh, base_of, offset_of, is_based, select, select_base}
 use Rattle.selection_code.specs.Shapes.{integer_of}
 use Rattle.selection_code.proofs.Integers.{told}
+use Rattle.selection_scope.specs.Room.{HasRoom}
 
 pub base_told : (at : ℕ) (op : IntOp) (base e : Expression) → base_of (Operator at op base e) ≡ told (Operator at op base e) (λ w. cond (is_based op w) base (Operator at op base e)) (integer_of e)
 base_told at' op base (Integer at w) = refl
@@ -129,3 +130,39 @@ based env labels t b (Switch at size_at size selector cases) next = refl
 based env labels t b (Catch at body handlers) next = refl
 based env labels t b (Exit at label_at label arguments) next = refl
 based env labels t b (Try at body name_at name handler) next = refl
+
+-- ---- room
+
+room_by_test : (b at : ℕ) (op : IntOp) (base e : Expression) (based : Bool) → HasRoom b (Operator at op base e) → HasRoom b (cond based base (Operator at op base e))
+room_by_test b at op base e true room = omega (arith, room)
+room_by_test b at op base e false room = room
+
+room_by_word : (b at : ℕ) (op : IntOp) (base e : Expression) (word : Option ℕ) → HasRoom b (Operator at op base e)
+    → HasRoom b (told (Operator at op base e) (λ w. cond (is_based op w) base (Operator at op base e)) word)
+room_by_word b at op base e None room = room
+room_by_word b at op base e (Some w) room = room_by_test b at op base e (is_based op w) room
+
+-- where an address has room, its base has
+pub base_room : (b : ℕ) (e : Expression) → HasRoom b e → HasRoom b (base_of e)
+base_room b (Operator at op base e) room = subst (HasRoom b) (sym (base_told at op base e)) (room_by_word b at op base e (integer_of e) room)
+base_room b (Integer at w) room = room
+base_room b (Pointer at w) room = room
+base_room b (Symbol at name) room = room
+base_room b (Name at name) room = room
+base_room b (Nothing at) room = room
+base_room b (Float at word_at operands) room = room
+base_room b (Let at bindings body) room = room
+base_room b (Assign at name_at name value) room = room
+base_room b (Load at chunk address) room = room
+base_room b (Store at chunk address value) room = room
+base_room b (Alloc at header_at header operands) room = room
+base_room b (App at callee arguments result result_at) room = room
+base_room b (Extcall at frame name arguments result result_at) room = room
+base_room b (Checkbound at bound index) room = room
+base_room b (Raise at value) room = room
+base_room b (Seq at elements) room = room
+base_room b (If at condition on_true on_false) room = room
+base_room b (Switch at size_at size selector cases) room = room
+base_room b (Catch at body handlers) room = room
+base_room b (Exit at label_at label arguments) room = room
+base_room b (Try at body name_at name handler) room = room

@@ -1,5 +1,6 @@
 pub mod Addresses
 pub mod Ends
+pub mod Rooms
 pub mod Bindings
 pub mod Nodes
 pub mod Ordered

@@ -1,5 +1,5 @@
 -- A node and the form that it holds.
-use Rattle.std.proofs.Common.{◌≡◌, List, sym, ap, ◌∙◌, subst}
+use Rattle.std.proofs.Common.{◌≡◌, ℕ, List, sym, ap, ◌∙◌, subst}
 use Rattle.cmm_tree.specs.Tree.{Expression}
 use Rattle.cmm_tree.specs.View.{expr_view, form_view}
 use Rattle.cmm_tree.specs.declared.expr.Expr.{Expr}
@@ -9,6 +9,7 @@ use Rattle.cmm_types.specs.Types.{Scoped, type_of}
 use Rattle.cmm_walks.proofs.Shapes.{Shape}
 use Rattle.mach_ir.specs.declared.mach.Instr.{Instr}
 use Rattle.selection.specs.Below.{code_at, node_code}
+use Rattle.selection_scope.specs.Room.{HasRoom}
 use Rattle.selection_scope.specs.Scoping.{Visible}
 use Rattle.selection_scope.specs.declared.place.Place.{Place}
 
@@ -27,3 +28,6 @@ type-of ns e f t Parts is shape typed = typed.type ∙ ap (type_of ns) (tree-is 
 pub code-of : (ns : List Scoped) (scope : Visible) (place : Place) (e : Expr) (f : Form) (t : Expression) (Parts : Type 0) (next made : List Instr)
     → e.form ≡ f → Shape ns e.at f t Parts → made ≡ node_code scope place t next → made ≡ code_at scope place e next
 code-of ns scope place e f t Parts next made is shape m = m ∙ ap (λ x. node_code scope place x next) (sym (tree-is ns e f t Parts is shape))
+
+pub room-of : (ns : List Scoped) (e : Expr) (f : Form) (t : Expression) (Parts : Type 0) → e.form ≡ f → Shape ns e.at f t Parts → (base : ℕ) → HasRoom base (expr_view e) → HasRoom base t
+room-of ns e f t Parts is shape base room = subst (HasRoom base) (tree-is ns e f t Parts is shape) room

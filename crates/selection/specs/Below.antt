@@ -1,5 +1,5 @@
 -- What a form needs of the function that selects an expression one level deeper.
-use Rattle.std.specs.Prelude.{◌≡◌, List, OnOk, Result}
+use Rattle.std.specs.Prelude.{◌≡◌, ℕ, ◌≤◌, List, OnOk, Result}
 use Rattle.std.specs.Borrow.{Bor, MutBor}
 use Rattle.std.specs.declared.alloc.AllocError.{AllocError}
 use Rattle.cmm_tree.specs.Tree.{Expression}
@@ -8,6 +8,7 @@ use Rattle.cmm_tree.specs.declared.expr.Expr.{Expr}
 use Rattle.cmm_types.specs.Annotated.{IsAnnotated}
 use Rattle.mach_ir.specs.declared.mach.Instr.{Instr}
 use Rattle.selection_rules.specs.Select.{Code, select}
+use Rattle.selection_scope.specs.Room.{HasRoom, most_tries}
 use Rattle.selection_scope.specs.Scoping.{Visible, names_in}
 use Rattle.selection_scope.specs.declared.place.Place.{Place}
 
@@ -16,19 +17,26 @@ abbrev pub code_at : Visible → Place → Expr → Code
 code_at scope place e =
     select scope.names scope.labels place.valued place.tail place.dest place.base (expr_view e)
 
--- it may be called of an expression that holds its types
-abbrev pub MayCall : (MutBor Visible → MutBor (List Instr) → Place → Bor Expr → Type 0) → Type 0
-MayCall may_call =
+-- it may be called of an expression that holds its types, and that has room after the numbers before
+-- `first`, which are no fewer than the tries round it
+abbrev pub MayCall : (MutBor Visible → MutBor (List Instr) → Place → Bor Expr → Type 0) → ℕ → Type 0
+MayCall may_call first =
     (scope : MutBor Visible) (code : MutBor (List Instr)) (place : Place) (expr : Bor Expr)
+    → most_tries scope.now.labels ≤ first
+    → first ≤ place.base
+    → HasRoom place.base (expr_view expr.now)
     → IsAnnotated (names_in scope.now) expr.now
     → may_call scope code place expr
 
 -- it then puts the code of the expression before what there is, and leaves the scope as it was
 abbrev pub Selects : (MutBor Visible → MutBor (List Instr) → Place → Bor Expr
-    → Result Unit AllocError → MutBor Visible → MutBor (List Instr) → Type 0) → Type 0
-Selects returns =
+    → Result Unit AllocError → MutBor Visible → MutBor (List Instr) → Type 0) → ℕ → Type 0
+Selects returns first =
     (scope : MutBor Visible) (code : MutBor (List Instr)) (place : Place) (expr : Bor Expr)
     (result : Result Unit AllocError) (left : MutBor Visible) (made : MutBor (List Instr))
+    → most_tries scope.now.labels ≤ first
+    → first ≤ place.base
+    → HasRoom place.base (expr_view expr.now)
     → IsAnnotated (names_in scope.now) expr.now
     → returns scope code place expr result left made
     → OnOk result

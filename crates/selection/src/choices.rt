@@ -1,5 +1,5 @@
 //! Choices and sequences.
-ghost use Rattle.std.specs.Prelude.{◌≡◌, ℕ, ◌∷◌, [], false, map, List, Some, IfOk, OnOk};
+ghost use Rattle.std.specs.Prelude.{◌≡◌, ℕ, ◌+◌, ◌<◌, ◌≤◌, ◌∷◌, [], false, length, map, List, Some, IfOk, OnOk};
 ghost use Rattle.bs_words.specs.declared.operators.IntOp.{IntOp};
 ghost use Rattle.cmm_meaning.specs.Choices.{is_named};
 ghost use Rattle.cmm_tree.specs.Rows.{row_of, cases_of};
@@ -12,21 +12,21 @@ ghost use Rattle.mach_ir.specs.Formed.{indexes_of};
 ghost use Rattle.mach_ir.specs.declared.mach.Test.TheVariants as test;
 ghost use Rattle.selection_rules.specs.Instructions as emit;
 ghost use Rattle.selection_rules.specs.Select.{select, select_cases, select_test, comparison, shape_of, shape_op, shape_right, last_label};
-ghost use Rattle.selection_rules.specs.Select.{switch_labels};
+ghost use Rattle.selection_rules.specs.Select.{switch_labels, width, width_row, width_cases};
 ghost use Rattle.selection.specs.Below.{node_code, MayCall, Selects};
 ghost use Rattle.mach_ir.specs.declared.mach.Instr.{Instr};
 ghost use Rattle.selection.specs.Rows.{select_dropped};
 ghost use Rattle.selection_code.specs.Shapes.{shape_view};
+ghost use Rattle.selection_scope.specs.Room.{HasRoom, indexes_in, indexes_in_row, indexes_in_cases, most_numbers, most_tries};
 ghost use Rattle.selection_scope.specs.Scoping.{names_in};
 
-use crate::operands::{Operand, both, one};
+use crate::operands::{Below, Operand, both, one};
 use bs_words::IntOp;
 use cmm_tree::{Case, CaseIndex, Expr};
 use mach_ir::{Label, Mark, Reg, Seq, Test};
 use selection_code::backwards::Backwards;
 use selection_code::shape::{Shape, comparison, shape_of};
 use selection_scope::light::is_left_first;
-use selection_scope::numbers::{number_of, plus};
 use selection_scope::outline::{Outline, outline_of};
 use selection_scope::place::{Node, Place, fresh, operand_at};
 use selection_scope::scope::Scope;
@@ -35,7 +35,7 @@ use std::alloc::{AllocError, Global};
 
 /// An operator on two operands.
 pub fn operator<F: Fn(&mut Scope, &mut Backwards, Place, &Expr) -> Result<(), AllocError>>(
-    below: &F,
+    below: &Below<'_, F>,
     scope: &mut Scope,
     code: &mut Backwards,
     node: Node,
@@ -43,8 +43,11 @@ pub fn operator<F: Fn(&mut Scope, &mut Backwards, Place, &Expr) -> Result<(), Al
     left: &Expr,
     right: &Expr,
 ) -> Result<(), AllocError>
-    requires callable { MayCall (F.pre below.now) }
-    requires selects { Selects (F.post below.now) }
+    requires callable { MayCall (F.pre below.now.select.now) below.now.first }
+    requires selects { Selects (F.post below.now.select.now) below.now.first }
+    requires tries { most_tries scope.old.labels ≤ node.place.base }
+    requires begins { below.now.first ≡ node.place.base + 1 }
+    requires room { HasRoom node.place.base (Operator 0 op (expr_view left.now) (expr_view right.now)) }
     requires left_typed { IsAnnotated (names_in scope.old) left.now }
     requires right_typed { IsAnnotated (names_in scope.old) right.now }
     requires ty { (at : ℕ) → node.ty ≡ type_of (names_in scope.old) (Operator at op (expr_view
@@ -53,8 +56,8 @@ pub fn operator<F: Fn(&mut Scope, &mut Backwards, Place, &Expr) -> Result<(), Al
         (Operator at op (expr_view left.now) (expr_view right.now)) code.old) }
     ensures scope { OnOk result (scope.new ≡ scope.old) }
 {
-    let first = plus(node.place.base, 3)?;
-    let second = behind(first, left)?;
+    let first = node.place.base + 3;
+    let second = behind(first, left);
     let shape = shape_of(op, left, right);
     let first_operand = Operand {
         expr: left,
@@ -98,15 +101,19 @@ pub struct Branch {
 
 /// A comparison that is a test of its own.
 fn fused<F: Fn(&mut Scope, &mut Backwards, Place, &Expr) -> Result<(), AllocError>>(
-    below: &F,
+    below: &Below<'_, F>,
     scope: &mut Scope,
     code: &mut Backwards,
     branch: Branch,
     left: &Expr,
     right: &Expr,
 ) -> Result<(), AllocError>
-    requires callable { MayCall (F.pre below.now) }
-    requires selects { Selects (F.post below.now) }
+    requires callable { MayCall (F.pre below.now.select.now) below.now.first }
+    requires selects { Selects (F.post below.now.select.now) below.now.first }
+    requires tries { most_tries scope.old.labels ≤ below.now.first }
+    requires begins { below.now.first ≤ branch.base }
+    requires room { branch.base + (3 + (width (expr_view left.now) + width (expr_view right.now))
+        + (indexes_in (expr_view left.now) + indexes_in (expr_view right.now))) < most_numbers }
     requires left_typed { IsAnnotated (names_in scope.old) left.now }
     requires right_typed { IsAnnotated (names_in scope.old) right.now }
     ensures code { OnOk result ((at : ℕ) (op : IntOp) (value : List Instr) →
@@ -117,8 +124,8 @@ fn fused<F: Fn(&mut Scope, &mut Backwards, Place, &Expr) -> Result<(), AllocErro
         (Operator at op (expr_view left.now) (expr_view right.now)) value code.old) }
     ensures scope { OnOk result (scope.new ≡ scope.old) }
 {
-    let first = plus(branch.base, 3)?;
-    let second = behind(first, left)?;
+    let first = branch.base + 3;
+    let second = behind(first, left);
     let first_operand = Operand {
         expr: left,
         reg: fresh(first - 2, left.ty),
@@ -151,15 +158,18 @@ fn fused<F: Fn(&mut Scope, &mut Backwards, Place, &Expr) -> Result<(), AllocErro
 
 /// A condition whose value is tested.
 fn tested<F: Fn(&mut Scope, &mut Backwards, Place, &Expr) -> Result<(), AllocError>>(
-    below: &F,
+    below: &Below<'_, F>,
     scope: &mut Scope,
     code: &mut Backwards,
     otherwise: Label,
     place: Place,
     condition: &Expr,
 ) -> Result<(), AllocError>
-    requires callable { MayCall (F.pre below.now) }
-    requires selects { Selects (F.post below.now) }
+    requires callable { MayCall (F.pre below.now.select.now) below.now.first }
+    requires selects { Selects (F.post below.now.select.now) below.now.first }
+    requires tries { most_tries scope.old.labels ≤ below.now.first }
+    requires begins { below.now.first ≤ place.base }
+    requires room { HasRoom place.base (expr_view condition.now) }
     requires typed { IsAnnotated (names_in scope.old) condition.now }
     requires valued { place.valued ≡ false }
     requires tail { place.tail ≡ false }
@@ -175,15 +185,18 @@ fn tested<F: Fn(&mut Scope, &mut Backwards, Place, &Expr) -> Result<(), AllocErr
 /// What an `if` tests: where it fails the code goes on at the label `otherwise`.
 #[tactic(auto, using(crate::proofs::Outlines::other_test))]
 fn condition<F: Fn(&mut Scope, &mut Backwards, Place, &Expr) -> Result<(), AllocError>>(
-    below: &F,
+    below: &Below<'_, F>,
     scope: &mut Scope,
     code: &mut Backwards,
     otherwise: Label,
     place: Place,
     condition: &Expr,
 ) -> Result<(), AllocError>
-    requires callable { MayCall (F.pre below.now) }
-    requires selects { Selects (F.post below.now) }
+    requires callable { MayCall (F.pre below.now.select.now) below.now.first }
+    requires selects { Selects (F.post below.now.select.now) below.now.first }
+    requires tries { most_tries scope.old.labels ≤ below.now.first }
+    requires begins { below.now.first ≤ place.base }
+    requires room { HasRoom place.base (expr_view condition.now) }
     requires typed { IsAnnotated (names_in scope.old) condition.now }
     requires valued { place.valued ≡ false }
     requires tail { place.tail ≡ false }
@@ -217,7 +230,7 @@ fn condition<F: Fn(&mut Scope, &mut Backwards, Place, &Expr) -> Result<(), Alloc
 
 /// A choice of two.
 pub fn if_else<F: Fn(&mut Scope, &mut Backwards, Place, &Expr) -> Result<(), AllocError>>(
-    below: &F,
+    below: &Below<'_, F>,
     scope: &mut Scope,
     code: &mut Backwards,
     node: Node,
@@ -225,8 +238,12 @@ pub fn if_else<F: Fn(&mut Scope, &mut Backwards, Place, &Expr) -> Result<(), All
     on_true: &Expr,
     on_false: &Expr,
 ) -> Result<(), AllocError>
-    requires callable { MayCall (F.pre below.now) }
-    requires selects { Selects (F.post below.now) }
+    requires callable { MayCall (F.pre below.now.select.now) below.now.first }
+    requires selects { Selects (F.post below.now.select.now) below.now.first }
+    requires tries { most_tries scope.old.labels ≤ node.place.base }
+    requires begins { below.now.first ≡ node.place.base + 1 }
+    requires room { HasRoom node.place.base (If 0 (expr_view condition_of.now) (expr_view on_true.now)
+        (expr_view on_false.now)) }
     requires condition_typed { IsAnnotated (names_in scope.old) condition_of.now }
     requires true_typed { IsAnnotated (names_in scope.old) on_true.now }
     requires false_typed { IsAnnotated (names_in scope.old) on_false.now }
@@ -238,11 +255,11 @@ pub fn if_else<F: Fn(&mut Scope, &mut Backwards, Place, &Expr) -> Result<(), All
         (expr_view on_false.now)) code.old) }
     ensures scope { OnOk result (scope.new ≡ scope.old) }
 {
-    let base = plus(node.place.base, 4)?;
+    let base = node.place.base + 4;
     let label = Label(base - 2);
     let end = Label(base - 1);
-    let true_base = behind(base, condition_of)?;
-    let false_base = behind(true_base, on_true)?;
+    let true_base = behind(base, condition_of);
+    let false_base = behind(true_base, on_true);
     code.bare(Mark::End { label: end })?;
     one(below, scope, code, node.part(false_base), on_false)?;
     code.bare(Mark::Else { label, end })?;
@@ -253,23 +270,27 @@ pub fn if_else<F: Fn(&mut Scope, &mut Backwards, Place, &Expr) -> Result<(), All
 
 /// Expressions whose values are dropped. Each has a register, and after it its own numbers.
 fn dropped<F: Fn(&mut Scope, &mut Backwards, Place, &Expr) -> Result<(), AllocError>>(
-    below: &F,
+    below: &Below<'_, F>,
     scope: &mut Scope,
     code: &mut Backwards,
     number: u32,
     exprs: &[Expr],
 ) -> Result<(), AllocError>
-    requires callable { MayCall (F.pre below.now) }
-    requires selects { Selects (F.post below.now) }
+    requires callable { MayCall (F.pre below.now.select.now) below.now.first }
+    requires selects { Selects (F.post below.now.select.now) below.now.first }
+    requires tries { most_tries scope.old.labels ≤ below.now.first }
+    requires begins { below.now.first ≤ number }
+    requires room { number + (width_row (row_of exprs.now) + indexes_in_row (row_of exprs.now))
+        < most_numbers }
     requires typed { AreAnnotated (names_in scope.old) exprs.now }
     ensures code { OnOk result (code.new ≡ select_dropped scope.old.names scope.old.labels number
         (row_of exprs.now) code.old) }
     ensures scope { OnOk result (scope.new ≡ scope.old) }
 {
-    let mut end = behind_row(number, exprs)?;
+    let mut end = behind_row(number, exprs);
     let mut rest = exprs;
     while let Some((last, others)) = rest.split_last() {
-        end = end - width_of(last)? - 1;
+        end = end - width_of(last) - 1;
         let place = operand_at(fresh(end, last.ty), end + 1);
         one(below, scope, code, place, last)?;
         rest = others;
@@ -279,14 +300,17 @@ fn dropped<F: Fn(&mut Scope, &mut Backwards, Place, &Expr) -> Result<(), AllocEr
 
 /// Expressions, one after the other.
 pub fn seq<F: Fn(&mut Scope, &mut Backwards, Place, &Expr) -> Result<(), AllocError>>(
-    below: &F,
+    below: &Below<'_, F>,
     scope: &mut Scope,
     code: &mut Backwards,
     node: Node,
     elements: &[Expr],
 ) -> Result<(), AllocError>
-    requires callable { MayCall (F.pre below.now) }
-    requires selects { Selects (F.post below.now) }
+    requires callable { MayCall (F.pre below.now.select.now) below.now.first }
+    requires selects { Selects (F.post below.now.select.now) below.now.first }
+    requires tries { most_tries scope.old.labels ≤ node.place.base }
+    requires begins { below.now.first ≡ node.place.base + 1 }
+    requires room { HasRoom node.place.base (Sequence 0 (row_of elements.now)) }
     requires typed { AreAnnotated (names_in scope.old) elements.now }
     requires ty { (at : ℕ) → node.ty ≡ type_of (names_in scope.old) (Sequence at (row_of
         elements.now)) }
@@ -294,11 +318,11 @@ pub fn seq<F: Fn(&mut Scope, &mut Backwards, Place, &Expr) -> Result<(), AllocEr
         (Sequence at (row_of elements.now)) code.old) }
     ensures scope { OnOk result (scope.new ≡ scope.old) }
 {
-    let first = plus(node.place.base, 1)?;
+    let first = node.place.base + 1;
     match elements.split_last() {
         None => Ok(()),
         Some((last, others)) => {
-            let base = plus(behind_row(first, others)?, 1)?;
+            let base = behind_row(first, others) + 1;
             one(below, scope, code, node.part(base), last)?;
             dropped(below, scope, code, first, others)
         }
@@ -318,8 +342,9 @@ fn is_named(indexes: &[CaseIndex], number: u64) -> bool
 }
 
 /// The label of the last case that names the number, where the first has this label, or else the one so far.
-fn last_label(first: u32, cases: &[Case], number: u64, so_far: u32) -> Result<Label, AllocError>
-    ensures { IfOk result (λ label. label ≡ last_label first (cases_of cases.now) number so_far) }
+fn last_label(first: u32, cases: &[Case], number: u64, so_far: u32) -> Label
+    requires { first + length cases.now < most_numbers }
+    ensures { result ≡ last_label first (cases_of cases.now) number so_far }
 {
     let mut found = so_far;
     let mut label = first;
@@ -328,10 +353,10 @@ fn last_label(first: u32, cases: &[Case], number: u64, so_far: u32) -> Result<La
         if is_named(case.indexes.as_slice(), number) {
             found = label;
         }
-        label = plus(label, 1)?;
+        label += 1;
         rest = others;
     }
-    Ok(Label(found))
+    Label(found)
 }
 
 /// For each number below `size` the label of its case.
@@ -341,18 +366,20 @@ fn switch_labels(
     cases: &[Case],
     size: u64,
 ) -> Result<Vec<Label>, AllocError>
+    requires { first + length cases.now < most_numbers }
     ensures { IfOk result (λ labels. labels.items ≡ switch_labels first
         (cases_of cases.now) 0 size) }
 {
     let mut labels = Vec::new(alloc);
     for number in 0..size {
-        labels.push(last_label(first, cases, number, first)?)?;
+        labels.push(last_label(first, cases, number, first))?;
     }
     Ok(labels)
 }
 
 /// The numbers that the switch takes to this label.
 fn indexes_of(alloc: Global, label: Label, all: &[Label]) -> Result<Seq<u32>, AllocError>
+    requires { length all.now < most_numbers }
     ensures { IfOk result (λ indexes. indexes ≡ indexes_of label 0 all.now) }
 {
     let mut indexes = Vec::new(alloc);
@@ -362,7 +389,7 @@ fn indexes_of(alloc: Global, label: Label, all: &[Label]) -> Result<Seq<u32>, Al
         if target.0 == label.0 {
             indexes.push(number)?;
         }
-        number = plus(number, 1)?;
+        number += 1;
         rest = others;
     }
     Ok(Seq::from_vec(indexes))
@@ -380,14 +407,20 @@ struct Choices<'e> {
 
 /// The bodies of cases.
 fn case_bodies<F: Fn(&mut Scope, &mut Backwards, Place, &Expr) -> Result<(), AllocError>>(
-    below: &F,
+    below: &Below<'_, F>,
     scope: &mut Scope,
     code: &mut Backwards,
     place: Place,
     choices: Choices<'_>,
 ) -> Result<(), AllocError>
-    requires callable { MayCall (F.pre below.now) }
-    requires selects { Selects (F.post below.now) }
+    requires callable { MayCall (F.pre below.now.select.now) below.now.first }
+    requires selects { Selects (F.post below.now.select.now) below.now.first }
+    requires tries { most_tries scope.old.labels ≤ below.now.first }
+    requires begins { below.now.first ≤ place.base }
+    requires labels { choices.first + length choices.cases.now < most_numbers }
+    requires indexes { length choices.all.now < most_numbers }
+    requires room { place.base + (width_cases (cases_of choices.cases.now)
+        + indexes_in_cases (cases_of choices.cases.now)) < most_numbers }
     requires typed { AreCasesAnnotated (names_in scope.old) choices.cases.now }
     ensures code { OnOk result (code.new ≡ select_cases scope.old.names scope.old.labels
         place.valued place.tail place.dest choices.entry.all.now choices.entry.end
@@ -396,12 +429,12 @@ fn case_bodies<F: Fn(&mut Scope, &mut Backwards, Place, &Expr) -> Result<(), All
     ensures scope { OnOk result (scope.new ≡ scope.old) }
 {
     let alloc = scope.alloc();
-    let mut label = plus(choices.first, number_of(choices.cases.len())?)?;
-    let mut base = behind_cases(place.base, choices.cases)?;
+    let mut label = choices.first + choices.cases.len() as u32;
+    let mut base = behind_cases(place.base, choices.cases);
     let mut rest = choices.cases;
     while let Some((last, others)) = rest.split_last() {
         label -= 1;
-        base -= width_of(&last.body)?;
+        base -= width_of(&last.body);
         one(below, scope, code, Place { base, ..place }, &last.body)?;
         let indexes = indexes_of(alloc, Label(label), choices.all)?;
         let end = Label(choices.end);
@@ -416,8 +449,9 @@ fn case_bodies<F: Fn(&mut Scope, &mut Backwards, Place, &Expr) -> Result<(), All
 }
 
 /// A choice by a number.
+#[tactic(auto, using(crate::proofs::Rooms::cases_count, crate::proofs::Rooms::labels_count))]
 pub fn switch<F: Fn(&mut Scope, &mut Backwards, Place, &Expr) -> Result<(), AllocError>>(
-    below: &F,
+    below: &Below<'_, F>,
     scope: &mut Scope,
     code: &mut Backwards,
     node: Node,
@@ -425,8 +459,11 @@ pub fn switch<F: Fn(&mut Scope, &mut Backwards, Place, &Expr) -> Result<(), Allo
     selector: &Expr,
     cases: &[Case],
 ) -> Result<(), AllocError>
-    requires callable { MayCall (F.pre below.now) }
-    requires selects { Selects (F.post below.now) }
+    requires callable { MayCall (F.pre below.now.select.now) below.now.first }
+    requires selects { Selects (F.post below.now.select.now) below.now.first }
+    requires tries { most_tries scope.old.labels ≤ node.place.base }
+    requires begins { below.now.first ≡ node.place.base + 1 }
+    requires room { HasRoom node.place.base (Switch 0 0 size (expr_view selector.now) (cases_of cases.now)) }
     requires selector_typed { IsAnnotated (names_in scope.old) selector.now }
     requires typed { AreCasesAnnotated (names_in scope.old) cases.now }
     requires ty { (at size_at : ℕ) → node.ty ≡ type_of (names_in scope.old) (Switch at size_at size
@@ -435,10 +472,10 @@ pub fn switch<F: Fn(&mut Scope, &mut Backwards, Place, &Expr) -> Result<(), Allo
         (Switch at size_at size (expr_view selector.now) (cases_of cases.now)) code.old) }
     ensures scope { OnOk result (scope.new ≡ scope.old) }
 {
-    let first = plus(node.place.base, 3)?;
+    let first = node.place.base + 3;
     let end = first - 1;
-    let base = plus(first, number_of(cases.len())?)?;
-    let bodies = behind(base, selector)?;
+    let base = first + cases.len() as u32;
+    let bodies = behind(base, selector);
     let register = fresh(first - 2, selector.ty);
     let all = switch_labels(scope.alloc(), first, cases, size)?;
     code.bare(Mark::End { label: Label(end) })?;

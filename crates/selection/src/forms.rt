@@ -1,12 +1,15 @@
 //! All forms.
-ghost use Rattle.std.specs.Prelude.{◌≡◌, OnOk};
+ghost use Rattle.std.specs.Prelude.{◌≡◌, ◌+◌, ◌≤◌, OnOk};
+ghost use Rattle.cmm_tree.specs.View.{expr_view};
 ghost use Rattle.cmm_types.specs.Annotated.{IsAnnotated};
 ghost use Rattle.selection.specs.Below.{code_at, MayCall, Selects};
+ghost use Rattle.selection_scope.specs.Room.{HasRoom, most_tries};
 ghost use Rattle.selection_scope.specs.Scoping.{names_in};
 
 use crate::choices::{if_else, operator, seq, switch};
 use crate::leaving::{Outside, app, exit, extcall, raise};
 use crate::memory::{alloc, checkbound, load, store};
+use crate::operands::Below;
 use crate::scoping::{assign, catch, let_in, try_with};
 use cmm_tree::{Expr, Form};
 use selection_code::backwards::Backwards;
@@ -14,20 +17,19 @@ use selection_scope::place::{Node, Place};
 use selection_scope::scope::Scope;
 use std::alloc::AllocError;
 
-/// How deep expressions nest at most. No text that is read has expressions that nest as deep: past it there would be no
-/// stack for them.
-const MOST_DEPTH: u32 = 1_000_000;
-
 /// An expression, by what it is.
 fn form<F: Fn(&mut Scope, &mut Backwards, Place, &Expr) -> Result<(), AllocError>>(
-    below: &F,
+    below: &Below<'_, F>,
     scope: &mut Scope,
     code: &mut Backwards,
     place: Place,
     expr: &Expr,
 ) -> Result<(), AllocError>
-    requires callable { MayCall (F.pre below.now) }
-    requires selects { Selects (F.post below.now) }
+    requires callable { MayCall (F.pre below.now.select.now) below.now.first }
+    requires selects { Selects (F.post below.now.select.now) below.now.first }
+    requires tries { most_tries scope.old.labels ≤ place.base }
+    requires begins { below.now.first ≡ place.base + 1 }
+    requires room { HasRoom place.base (expr_view expr.now) }
     requires typed { IsAnnotated (names_in scope.old) expr.now }
     ensures code { OnOk result (code.new ≡ code_at scope.old place expr.now code.old) }
     ensures scope { OnOk result (scope.new ≡ scope.old) }
@@ -109,39 +111,36 @@ fn form<F: Fn(&mut Scope, &mut Backwards, Place, &Expr) -> Result<(), AllocError
     }
 }
 
-/// An expression that nests at most so deep.
+/// Puts the code of an expression before what there is.
 #[cycle(expr)]
-fn expr_at(
-    depth: u32,
+pub fn expr_at(
     scope: &mut Scope,
     code: &mut Backwards,
     place: Place,
     expr: &Expr,
 ) -> Result<(), AllocError>
-    requires { IsAnnotated (names_in scope.old) expr.now }
+    requires tries { most_tries scope.old.labels ≤ place.base }
+    requires room { HasRoom place.base (expr_view expr.now) }
+    requires typed { IsAnnotated (names_in scope.old) expr.now }
     ensures code { OnOk result (code.new ≡ code_at scope.old place expr.now code.old) }
     ensures scope { OnOk result (scope.new ≡ scope.old) }
 {
-    let Some(inner) = depth.checked_sub(1) else {
-        return Err(AllocError);
-    };
-    let below = |scope: &mut Scope, code: &mut Backwards, place: Place, expr: &Expr|
-        requires { IsAnnotated (names_in scope.old) expr.now }
+    let first = place.base + 1;
+    let select = |scope: &mut Scope, code: &mut Backwards, place: Place, expr: &Expr|
+        requires tries { most_tries scope.old.labels ≤ first }
+        requires begins { first ≤ place.base }
+        requires room { HasRoom place.base (expr_view expr.now) }
+        requires typed { IsAnnotated (names_in scope.old) expr.now }
         ensures code { OnOk result (code.new ≡ code_at scope.old place expr.now code.old) }
         ensures scope { OnOk result (scope.new ≡ scope.old) }
-    { expr_at(inner, scope, code, place, expr) };
+    {
+        // The clauses read it: a part's numbers begin later than its node's, and so selection ends.
+        let _ = &first;
+        expr_at(scope, code, place, expr)
+    };
+    let below = Below {
+        first,
+        select: &select,
+    };
     form(&below, scope, code, place, expr)
-}
-
-/// Puts the code of an expression before what there is.
-pub fn expr(
-    scope: &mut Scope,
-    code: &mut Backwards,
-    place: Place,
-    expr: &Expr,
-) -> Result<(), AllocError>
-    requires { IsAnnotated (names_in scope.old) expr.now }
-    ensures { OnOk result (code.new ≡ code_at scope.old place expr.now code.old) }
-{
-    expr_at(MOST_DEPTH, scope, code, place, expr)
 }

@@ -1,17 +1,17 @@
 //! The function of a file by its number, and its Mach function.
-ghost use Rattle.std.specs.Prelude.{◌≡◌, ◌<◌, [], length, map, Some, slice_get, ⊤, IfOk, OnOk, MatchOption, option_map, option_copied};
+ghost use Rattle.std.specs.Prelude.{◌≡◌, ◌+◌, ◌<◌, ◌≤◌, [], length, map, All, Some, slice_get, ⊤, IfOk, OnOk, MatchOption, option_map, option_copied};
 ghost use Rattle.cmm_tree.specs.Tree.{functions, functions_among};
 ghost use Rattle.cmm_tree.specs.View.{function_view, item_view, file_view, params_view};
 ghost use Rattle.cmm_types.specs.Typing.{AreItemsAnnotated, IsFunctionAnnotated};
 ghost use Rattle.selection_rules.specs.Select.{first, seats, params_from, moves_all, selected};
 ghost use Rattle.selection.specs.Whole.{numbers_in, body_code};
+ghost use Rattle.selection_scope.specs.Room.{IsSelectable, most_numbers};
 
-use crate::forms::expr;
+use crate::forms::expr_at;
 use cmm_tree::{Function, Item, Param};
 use cmm_walks::Checked;
 use mach_ir::{Mach, Reg, Seq};
 use selection_code::backwards::Backwards;
-use selection_scope::numbers::{number_of, plus};
 use selection_scope::place::{Place, fresh, is_no_value, result_of};
 use selection_scope::scope::{Scope, params_from};
 use selection_scope::seats::{colour_regs, seats};
@@ -61,23 +61,22 @@ struct Numbers {
 }
 
 /// The numbers of a function.
-fn numbers_of_function(function: &Function) -> Result<Numbers, AllocError>
-    ensures { IfOk result (λ numbers. numbers ≡ numbers_in (function_view function.now)) }
+fn numbers_of_function(function: &Function) -> Numbers
+    requires { IsSelectable (function_view function.now) }
+    ensures { result ≡ numbers_in (function_view function.now) }
 {
-    let params = function.params.as_slice();
-    let count = number_of(params.len())?;
-    let moved = plus(FIRST, count)?;
-    let value = plus(moved, count)?;
-    let given = plus(value, 1)?;
-    let base = plus(given, 1)?;
-    let labels = behind(base, &function.body)?;
-    Ok(Numbers {
+    let count = function.params.as_slice().len() as u32;
+    let moved = FIRST + count;
+    let value = moved + count;
+    let base = value + 2;
+    let labels = behind(base, &function.body);
+    Numbers {
         moved,
         value,
-        given,
+        given: value + 1,
         base,
         labels,
-    })
+    }
 }
 
 /// Puts the body of a function before its end.
@@ -88,6 +87,7 @@ fn put_body(
     code: &mut Backwards,
 ) -> Result<(), AllocError>
     requires typed { IsFunctionAnnotated function.now }
+    requires room { IsSelectable (function_view function.now) }
     requires numbers { numbers ≡ numbers_in (function_view function.now) }
     requires empty { code.old ≡ [] }
     ensures { OnOk result (code.new ≡ body_code (function_view function.now)) }
@@ -103,7 +103,7 @@ fn put_body(
     };
     let mut scope = Scope::new(alloc);
     scope.bind_params(function.params.as_slice(), numbers.moved)?;
-    expr(&mut scope, code, place, &function.body)
+    expr_at(&mut scope, code, place, &function.body)
 }
 
 /// Moves the parameters of a function from their seats to their registers, before what there is, and answers the seats.
@@ -113,6 +113,8 @@ fn put_params(
     moved: u32,
     code: &mut Backwards,
 ) -> Result<Seq<Reg>, AllocError>
+    requires after { first ≤ moved }
+    requires room { moved + length params.now < most_numbers }
     ensures params { IfOk result (λ given. given ≡ seats 0 first (params_from moved
         (params_view params.now))) }
     ensures code { IfOk result (λ _. code.new ≡ moves_all (seats 0 first (params_from moved
@@ -128,12 +130,13 @@ fn put_params(
 ///
 /// # Errors
 ///
-/// Where memory is used up. That a number of registers and labels passes 32 bits counts as that.
+/// Where memory is used up.
 pub fn select_function(alloc: Global, function: &Function) -> Result<Mach, AllocError>
-    requires { IsFunctionAnnotated function.now }
+    requires typed { IsFunctionAnnotated function.now }
+    requires room { IsSelectable (function_view function.now) }
     ensures { IfOk result (λ mach. mach ≡ selected (function_view function.now)) }
 {
-    let numbers = numbers_of_function(function)?;
+    let numbers = numbers_of_function(function);
     let mut code = Backwards::new(alloc);
     put_body(alloc, function, numbers, &mut code)?;
     let params = put_params(alloc, function.params.as_slice(), numbers.moved, &mut code)?;
@@ -152,9 +155,10 @@ pub fn select_function(alloc: Global, function: &Function) -> Result<Mach, Alloc
 ///
 /// # Errors
 ///
-/// Where memory is used up. That a number of registers and labels passes 32 bits counts as that.
+/// Where memory is used up.
 pub fn select(alloc: Global, checked: &Checked, function: u32) -> Result<Mach, AllocError>
-    requires { function < length (functions (file_view checked.now)) }
+    requires number { function < length (functions (file_view checked.now)) }
+    requires room { All IsSelectable (functions (file_view checked.now)) }
     ensures { IfOk result (λ mach. slice_get (map selected (functions (file_view checked.now)))
         function ≡ Some mach) }
 {

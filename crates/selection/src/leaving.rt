@@ -1,5 +1,5 @@
 //! Calls, exits and raises, with their operands.
-ghost use Rattle.std.specs.Prelude.{◌≡◌, ℕ, ◌∷◌, ◌&&◌, not, IfOk, OnOk};
+ghost use Rattle.std.specs.Prelude.{◌≡◌, ℕ, ◌+◌, ◌<◌, ◌≤◌, ◌∷◌, ◌&&◌, not, length, OnOk};
 ghost use Rattle.cmm_tree.specs.Rows.{row_of};
 ghost use Rattle.cmm_tree.specs.Tree.{App, Extcall, Exit, Raise};
 ghost use Rattle.cmm_tree.specs.View.{expr_view, label_view};
@@ -12,15 +12,15 @@ ghost use Rattle.selection_rules.specs.Select.{symbol_of as symbol_in, call_of, 
 ghost use Rattle.selection.specs.Operands.{lacks};
 ghost use Rattle.selection.specs.Calls.{call_numbers, seated_code};
 ghost use Rattle.selection.specs.Below.{node_code, MayCall, Selects};
+ghost use Rattle.selection_scope.specs.Room.{HasRoom, most_numbers, most_tries};
 ghost use Rattle.selection_scope.specs.Scoping.{names_in};
 
-use crate::operands::{Operand, filled, one, put_operand, waiting};
+use crate::operands::{Below, Operand, filled, one, put_operand, waiting};
 use bs_words::{Comp, Name, Ret};
 use cmm_tree::{Expr, Label};
 use selection_code::backwards::Backwards;
 use selection_code::calls::{Call, symbol_of};
 use selection_scope::light::is_light_address;
-use selection_scope::numbers::{number_of, plus};
 use selection_scope::place::{Node, Place, fresh, operand_at};
 use selection_scope::row::Regs;
 use selection_scope::scope::Scope;
@@ -60,19 +60,19 @@ struct CallNumbers {
 }
 
 /// The numbers of a call with so many arguments, from this one on.
-fn call_numbers(row: u32, len: usize) -> Result<CallNumbers, AllocError>
-    ensures { IfOk result (λ numbers. numbers ≡ call_numbers row len) }
+fn call_numbers(row: u32, len: usize) -> CallNumbers
+    requires { row + len + len < most_numbers }
+    ensures { result ≡ call_numbers row len }
 {
-    let count = number_of(len)?;
-    let seated = plus(row, count)?;
-    let given = plus(seated, count)?;
-    let base = plus(given, 1)?;
-    Ok(CallNumbers {
+    let count = len as u32;
+    let seated = row + count;
+    let given = seated + count;
+    CallNumbers {
         row,
         seated,
         given,
-        base,
-    })
+        base: given + 1,
+    }
 }
 
 /// The call of a function whose operands stand in their registers.
@@ -84,7 +84,9 @@ fn put_call(
     numbers: CallNumbers,
     arguments: &[Expr],
 ) -> Result<(), AllocError>
-    requires { AreAnnotated (names_in scope.now) arguments.now }
+    requires typed { AreAnnotated (names_in scope.now) arguments.now }
+    requires row { numbers.row + length arguments.now < most_numbers }
+    requires seats { numbers.seated + length arguments.now < most_numbers }
     ensures { OnOk result (code.new ≡ seated_code scope.now numbers (row_of arguments.now)
         (λ args. call_of call.tail call.valued call.written (symbol_in (expr_view
         callee.now)) call.register args call.given call.dest code.old)) }
@@ -96,8 +98,9 @@ fn put_call(
 }
 
 /// A call. A callee that is a light address waits as an operand does.
+#[tactic(auto, using(crate::proofs::Rooms::row_wide, crate::proofs::Rooms::row_count))]
 pub fn app<F: Fn(&mut Scope, &mut Backwards, Place, &Expr) -> Result<(), AllocError>>(
-    below: &F,
+    below: &Below<'_, F>,
     scope: &mut Scope,
     code: &mut Backwards,
     node: Node,
@@ -105,8 +108,11 @@ pub fn app<F: Fn(&mut Scope, &mut Backwards, Place, &Expr) -> Result<(), AllocEr
     arguments: &[Expr],
     written: Ret,
 ) -> Result<(), AllocError>
-    requires callable { MayCall (F.pre below.now) }
-    requires selects { Selects (F.post below.now) }
+    requires callable { MayCall (F.pre below.now.select.now) below.now.first }
+    requires selects { Selects (F.post below.now.select.now) below.now.first }
+    requires tries { most_tries scope.old.labels ≤ node.place.base }
+    requires begins { below.now.first ≡ node.place.base + 1 }
+    requires room { HasRoom node.place.base (App 0 (expr_view callee.now) (row_of arguments.now) written 0) }
     requires callee_typed { IsAnnotated (names_in scope.old) callee.now }
     requires typed { AreAnnotated (names_in scope.old) arguments.now }
     requires ty { (at result_at : ℕ) → node.ty ≡ type_of (names_in scope.old) (App at (expr_view
@@ -115,10 +121,10 @@ pub fn app<F: Fn(&mut Scope, &mut Backwards, Place, &Expr) -> Result<(), AllocEr
         (App at (expr_view callee.now) (row_of arguments.now) written result_at) code.old) }
     ensures scope { OnOk result (scope.new ≡ scope.old) }
 {
-    let row = plus(node.place.base, 2)?;
-    let numbers = call_numbers(row, arguments.len())?;
+    let row = node.place.base + 2;
+    let numbers = call_numbers(row, arguments.len());
     let base = numbers.base;
-    let inner = behind(base, callee)?;
+    let inner = behind(base, callee);
     let register = fresh(row - 1, callee.ty);
     let light = is_light_address(scope, callee);
     let call = Call {
@@ -182,7 +188,9 @@ fn put_external(
     numbers: CallNumbers,
     arguments: &[Expr],
 ) -> Result<(), AllocError>
-    requires { AreAnnotated (names_in scope.now) arguments.now }
+    requires typed { AreAnnotated (names_in scope.now) arguments.now }
+    requires row { numbers.row + length arguments.now < most_numbers }
+    requires seats { numbers.seated + length arguments.now < most_numbers }
     ensures { OnOk result (code.new ≡ seated_code scope.now numbers (row_of arguments.now)
         (λ args. emit.external outside.entry.name.now (comps_of_arguments
         (names_in scope.now) (row_of arguments.now)) outside.entry.result outside.entry.frame
@@ -195,16 +203,21 @@ fn put_external(
 }
 
 /// An external call.
+#[tactic(auto, using(crate::proofs::Rooms::row_wide, crate::proofs::Rooms::row_count))]
 pub fn extcall<F: Fn(&mut Scope, &mut Backwards, Place, &Expr) -> Result<(), AllocError>>(
-    below: &F,
+    below: &Below<'_, F>,
     scope: &mut Scope,
     code: &mut Backwards,
     node: Node,
     outside: Outside<'_>,
     arguments: &[Expr],
 ) -> Result<(), AllocError>
-    requires callable { MayCall (F.pre below.now) }
-    requires selects { Selects (F.post below.now) }
+    requires callable { MayCall (F.pre below.now.select.now) below.now.first }
+    requires selects { Selects (F.post below.now.select.now) below.now.first }
+    requires tries { most_tries scope.old.labels ≤ node.place.base }
+    requires begins { below.now.first ≡ node.place.base + 1 }
+    requires room { HasRoom node.place.base (Extcall 0 outside.frame outside.name.now
+        (row_of arguments.now) outside.result 0) }
     requires typed { AreAnnotated (names_in scope.old) arguments.now }
     requires ty { (at result_at : ℕ) → node.ty ≡ type_of (names_in scope.old) (Extcall at
         outside.frame outside.name.now (row_of arguments.now)
@@ -214,8 +227,8 @@ pub fn extcall<F: Fn(&mut Scope, &mut Backwards, Place, &Expr) -> Result<(), All
         outside.entry.result result_at) code.old) }
     ensures scope { OnOk result (scope.new ≡ scope.old) }
 {
-    let row = plus(node.place.base, 1)?;
-    let numbers = call_numbers(row, arguments.len())?;
+    let row = node.place.base + 1;
+    let numbers = call_numbers(row, arguments.len());
     let base = numbers.base;
     code.from_seat(numbers.given, outside.result, node.dest())?;
     put_external(scope, code, outside, numbers, arguments)?;
@@ -231,7 +244,8 @@ fn put_exit(
     row: u32,
     arguments: &[Expr],
 ) -> Result<(), AllocError>
-    requires { AreAnnotated (names_in scope.now) arguments.now }
+    requires typed { AreAnnotated (names_in scope.now) arguments.now }
+    requires room { row + length arguments.now < most_numbers }
     ensures { OnOk result (code.new ≡ exit_to (label_of scope.now.labels (label_view label.now))
         (regs_of scope.now.names row (row_of arguments.now)) code.old) }
 {
@@ -240,16 +254,20 @@ fn put_exit(
 }
 
 /// An exit to a handler.
+#[tactic(auto, using(crate::proofs::Rooms::row_wide, crate::proofs::Rooms::row_count))]
 pub fn exit<F: Fn(&mut Scope, &mut Backwards, Place, &Expr) -> Result<(), AllocError>>(
-    below: &F,
+    below: &Below<'_, F>,
     scope: &mut Scope,
     code: &mut Backwards,
     node: Node,
     label: &Label,
     arguments: &[Expr],
 ) -> Result<(), AllocError>
-    requires callable { MayCall (F.pre below.now) }
-    requires selects { Selects (F.post below.now) }
+    requires callable { MayCall (F.pre below.now.select.now) below.now.first }
+    requires selects { Selects (F.post below.now.select.now) below.now.first }
+    requires tries { most_tries scope.old.labels ≤ node.place.base }
+    requires begins { below.now.first ≡ node.place.base + 1 }
+    requires room { HasRoom node.place.base (Exit 0 0 (label_view label.now) (row_of arguments.now)) }
     requires typed { AreAnnotated (names_in scope.old) arguments.now }
     requires ty { (at label_at : ℕ) → node.ty ≡ type_of (names_in scope.old) (Exit at label_at
         (label_view label.now) (row_of arguments.now)) }
@@ -257,8 +275,8 @@ pub fn exit<F: Fn(&mut Scope, &mut Backwards, Place, &Expr) -> Result<(), AllocE
         (Exit at label_at (label_view label.now) (row_of arguments.now)) code.old) }
     ensures scope { OnOk result (scope.new ≡ scope.old) }
 {
-    let row = plus(node.place.base, 1)?;
-    let base = plus(row, number_of(arguments.len())?)?;
+    let row = node.place.base + 1;
+    let base = row + arguments.len() as u32;
     put_exit(scope, code, label, row, arguments)?;
     filled(below, scope, code, row, base, arguments)?;
     waiting(below, scope, code, row, base, arguments)
@@ -266,14 +284,17 @@ pub fn exit<F: Fn(&mut Scope, &mut Backwards, Place, &Expr) -> Result<(), AllocE
 
 /// A raise of a value.
 pub fn raise<F: Fn(&mut Scope, &mut Backwards, Place, &Expr) -> Result<(), AllocError>>(
-    below: &F,
+    below: &Below<'_, F>,
     scope: &mut Scope,
     code: &mut Backwards,
     node: Node,
     value: &Expr,
 ) -> Result<(), AllocError>
-    requires callable { MayCall (F.pre below.now) }
-    requires selects { Selects (F.post below.now) }
+    requires callable { MayCall (F.pre below.now.select.now) below.now.first }
+    requires selects { Selects (F.post below.now.select.now) below.now.first }
+    requires tries { most_tries scope.old.labels ≤ node.place.base }
+    requires begins { below.now.first ≡ node.place.base + 1 }
+    requires room { HasRoom node.place.base (Raise 0 (expr_view value.now)) }
     requires typed { IsAnnotated (names_in scope.old) value.now }
     requires ty { (at : ℕ) → node.ty ≡ type_of (names_in scope.old) (Raise at (expr_view
         value.now)) }
@@ -281,7 +302,7 @@ pub fn raise<F: Fn(&mut Scope, &mut Backwards, Place, &Expr) -> Result<(), Alloc
         (Raise at (expr_view value.now)) code.old) }
     ensures scope { OnOk result (scope.new ≡ scope.old) }
 {
-    let base = plus(node.place.base, 3)?;
+    let base = node.place.base + 3;
     let register = fresh(base - 2, value.ty);
     let raised = seat(0, base - 1, Comp::Val);
     code.raising(raised)?;

@@ -1,5 +1,5 @@
 //! Accesses of memory, and new blocks.
-ghost use Rattle.std.specs.Prelude.{◌≡◌, ℕ, ◌%◌, nat_le, List, OnOk};
+ghost use Rattle.std.specs.Prelude.{◌≡◌, ℕ, ◌+◌, ◌<◌, ◌≤◌, ◌%◌, nat_le, List, length, OnOk};
 ghost use Rattle.cmm_tree.specs.Rows.{row_of};
 ghost use Rattle.cmm_tree.specs.Tree.{Load, Store, Alloc, Checkbound};
 ghost use Rattle.cmm_tree.specs.View.{expr_view};
@@ -8,16 +8,16 @@ ghost use Rattle.cmm_types.specs.Lists.{AreAnnotated};
 ghost use Rattle.cmm_types.specs.Types.{Scoped, type_of};
 ghost use Rattle.selection_rules.specs.Select.{base_of, offset_of, chunk_for, cell_stores, regs_of};
 ghost use Rattle.selection.specs.Below.{node_code, MayCall, Selects};
+ghost use Rattle.selection_scope.specs.Room.{HasRoom, most_numbers, most_tries};
 ghost use Rattle.selection_scope.specs.Scoping.{names_in};
 
-use crate::operands::{Operand, both, filled, one, waiting};
+use crate::operands::{Below, Operand, both, filled, one, waiting};
 use bs_words::{Chunk, Ty};
 use cmm_tree::Expr;
 use mach_ir::Reg;
 use selection_code::backwards::Backwards;
 use selection_code::shape::{integer, is_based, is_register, right_of_bound};
 use selection_scope::light::is_left_first;
-use selection_scope::numbers::{number_of, plus};
 use selection_scope::outline::{Outline, outline_of};
 use selection_scope::place::{Node, Place, fresh, operand_at};
 use selection_scope::scope::Scope;
@@ -64,15 +64,18 @@ fn address_of(address: &Expr) -> Address<'_>
 
 /// A load.
 pub fn load<F: Fn(&mut Scope, &mut Backwards, Place, &Expr) -> Result<(), AllocError>>(
-    below: &F,
+    below: &Below<'_, F>,
     scope: &mut Scope,
     code: &mut Backwards,
     node: Node,
     chunk: Chunk,
     address: &Expr,
 ) -> Result<(), AllocError>
-    requires callable { MayCall (F.pre below.now) }
-    requires selects { Selects (F.post below.now) }
+    requires callable { MayCall (F.pre below.now.select.now) below.now.first }
+    requires selects { Selects (F.post below.now.select.now) below.now.first }
+    requires tries { most_tries scope.old.labels ≤ node.place.base }
+    requires begins { below.now.first ≡ node.place.base + 1 }
+    requires room { HasRoom node.place.base (Load 0 chunk (expr_view address.now)) }
     requires typed { IsAnnotated (names_in scope.old) address.now }
     requires ty { (at : ℕ) → node.ty ≡ type_of (names_in scope.old) (Load at chunk (expr_view
         address.now)) }
@@ -80,7 +83,7 @@ pub fn load<F: Fn(&mut Scope, &mut Backwards, Place, &Expr) -> Result<(), AllocE
         (Load at chunk (expr_view address.now)) code.old) }
     ensures scope { OnOk result (scope.new ≡ scope.old) }
 {
-    let first = plus(node.place.base, 2)?;
+    let first = node.place.base + 2;
     let at = address_of(address);
     let register = fresh(first - 1, at.base.ty);
     code.load(chunk, at.offset, register, node.dest())?;
@@ -89,7 +92,7 @@ pub fn load<F: Fn(&mut Scope, &mut Backwards, Place, &Expr) -> Result<(), AllocE
 
 /// A store.
 pub fn store<F: Fn(&mut Scope, &mut Backwards, Place, &Expr) -> Result<(), AllocError>>(
-    below: &F,
+    below: &Below<'_, F>,
     scope: &mut Scope,
     code: &mut Backwards,
     node: Node,
@@ -97,8 +100,11 @@ pub fn store<F: Fn(&mut Scope, &mut Backwards, Place, &Expr) -> Result<(), Alloc
     address: &Expr,
     value: &Expr,
 ) -> Result<(), AllocError>
-    requires callable { MayCall (F.pre below.now) }
-    requires selects { Selects (F.post below.now) }
+    requires callable { MayCall (F.pre below.now.select.now) below.now.first }
+    requires selects { Selects (F.post below.now.select.now) below.now.first }
+    requires tries { most_tries scope.old.labels ≤ node.place.base }
+    requires begins { below.now.first ≡ node.place.base + 1 }
+    requires room { HasRoom node.place.base (Store 0 chunk (expr_view address.now) (expr_view value.now)) }
     requires address_typed { IsAnnotated (names_in scope.old) address.now }
     requires value_typed { IsAnnotated (names_in scope.old) value.now }
     requires ty { (at : ℕ) → node.ty ≡ type_of (names_in scope.old) (Store at chunk (expr_view
@@ -107,8 +113,8 @@ pub fn store<F: Fn(&mut Scope, &mut Backwards, Place, &Expr) -> Result<(), Alloc
         (Store at chunk (expr_view address.now) (expr_view value.now)) code.old) }
     ensures scope { OnOk result (scope.new ≡ scope.old) }
 {
-    let first = plus(node.place.base, 3)?;
-    let second = behind(first, address)?;
+    let first = node.place.base + 3;
+    let second = behind(first, address);
     let at = address_of(address);
     let left = Operand {
         expr: at.base,
@@ -129,15 +135,18 @@ pub fn store<F: Fn(&mut Scope, &mut Backwards, Place, &Expr) -> Result<(), Alloc
 
 /// A test of a bound.
 pub fn checkbound<F: Fn(&mut Scope, &mut Backwards, Place, &Expr) -> Result<(), AllocError>>(
-    below: &F,
+    below: &Below<'_, F>,
     scope: &mut Scope,
     code: &mut Backwards,
     node: Node,
     bound: &Expr,
     index: &Expr,
 ) -> Result<(), AllocError>
-    requires callable { MayCall (F.pre below.now) }
-    requires selects { Selects (F.post below.now) }
+    requires callable { MayCall (F.pre below.now.select.now) below.now.first }
+    requires selects { Selects (F.post below.now.select.now) below.now.first }
+    requires tries { most_tries scope.old.labels ≤ node.place.base }
+    requires begins { below.now.first ≡ node.place.base + 1 }
+    requires room { HasRoom node.place.base (Checkbound 0 (expr_view bound.now) (expr_view index.now)) }
     requires bound_typed { IsAnnotated (names_in scope.old) bound.now }
     requires index_typed { IsAnnotated (names_in scope.old) index.now }
     requires ty { (at : ℕ) → node.ty ≡ type_of (names_in scope.old) (Checkbound at (expr_view
@@ -146,8 +155,8 @@ pub fn checkbound<F: Fn(&mut Scope, &mut Backwards, Place, &Expr) -> Result<(), 
         (Checkbound at (expr_view bound.now) (expr_view index.now)) code.old) }
     ensures scope { OnOk result (scope.new ≡ scope.old) }
 {
-    let first = plus(node.place.base, 3)?;
-    let second = behind(first, bound)?;
+    let first = node.place.base + 3;
+    let second = behind(first, bound);
     let right_of = right_of_bound(index);
     let left = Operand {
         expr: bound,
@@ -186,7 +195,8 @@ fn put_cells(
     row: u32,
     operands: &[Expr],
 ) -> Result<(), AllocError>
-    requires { AreAnnotated (names_in scope.now) operands.now }
+    requires typed { AreAnnotated (names_in scope.now) operands.now }
+    requires room { row + length operands.now < most_numbers }
     ensures { OnOk result (code.new ≡ cell_stores (chunk_for (nat_le (header % 256) 250)) block 0
         (regs_of scope.now.names row (row_of operands.now)) code.old) }
 {
@@ -195,16 +205,20 @@ fn put_cells(
 }
 
 /// A new block: its header is written before the operands that have waited, and its cells after them.
+#[tactic(auto, using(crate::proofs::Rooms::row_wide, crate::proofs::Rooms::row_count))]
 pub fn alloc<F: Fn(&mut Scope, &mut Backwards, Place, &Expr) -> Result<(), AllocError>>(
-    below: &F,
+    below: &Below<'_, F>,
     scope: &mut Scope,
     code: &mut Backwards,
     node: Node,
     header: u64,
     operands: &[Expr],
 ) -> Result<(), AllocError>
-    requires callable { MayCall (F.pre below.now) }
-    requires selects { Selects (F.post below.now) }
+    requires callable { MayCall (F.pre below.now.select.now) below.now.first }
+    requires selects { Selects (F.post below.now.select.now) below.now.first }
+    requires tries { most_tries scope.old.labels ≤ node.place.base }
+    requires begins { below.now.first ≡ node.place.base + 1 }
+    requires room { HasRoom node.place.base (Alloc 0 0 header (row_of operands.now)) }
     requires typed { AreAnnotated (names_in scope.old) operands.now }
     requires ty { (at header_at : ℕ) → node.ty ≡ type_of (names_in scope.old) (Alloc at header_at
         header (row_of operands.now)) }
@@ -212,9 +226,9 @@ pub fn alloc<F: Fn(&mut Scope, &mut Backwards, Place, &Expr) -> Result<(), Alloc
         (Alloc at header_at header (row_of operands.now)) code.old) }
     ensures scope { OnOk result (scope.new ≡ scope.old) }
 {
-    let row = plus(node.place.base, 3)?;
-    let cells = number_of(operands.len())?;
-    let base = plus(row, cells)?;
+    let row = node.place.base + 3;
+    let cells = operands.len() as u32;
+    let base = row + cells;
     let block = fresh(row - 2, Ty::Val);
     let word = fresh(row - 1, Ty::Int);
     code.move_to(block, node.dest())?;

@@ -1,5 +1,5 @@
 //! Forms in which names or labels are visible in a part.
-ghost use Rattle.std.specs.Prelude.{◌≡◌, ℕ, ◌∷◌, false, length, drop, OnOk};
+ghost use Rattle.std.specs.Prelude.{◌≡◌, ℕ, ◌+◌, ◌<◌, ◌≤◌, ◌∷◌, false, length, drop, OnOk};
 ghost use Rattle.bs_words.specs.declared.types.Ty.TheVariants as type;
 ghost use Rattle.cmm_tree.specs.Rows.{bindings_of, handlers_of};
 ghost use Rattle.cmm_tree.specs.Tree.{Let, Assign, Catch, Try};
@@ -8,15 +8,16 @@ ghost use Rattle.cmm_types.specs.Annotated.{IsAnnotated};
 ghost use Rattle.cmm_types.specs.Lists.{AreBindingsAnnotated, AreHandlersAnnotated};
 ghost use Rattle.cmm_types.specs.Types.{type_of, with_bindings, with_parameters};
 ghost use Rattle.selection_rules.specs.Select.{scopes, select, select_bound, select_handlers, env_after, with_params, params_from, deeper};
+ghost use Rattle.selection_rules.specs.Select.{width_bound, width_handlers, width_labels};
 ghost use Rattle.selection.specs.Below.{node_code, MayCall, Selects};
+ghost use Rattle.selection_scope.specs.Room.{HasRoom, indexes_in_bound, indexes_in_handlers, most_numbers, most_tries};
 ghost use Rattle.selection_scope.specs.Scoping.{names_in};
 
-use crate::operands::one;
+use crate::operands::{Below, one};
 use bs_words::{Comp, Name, Ty};
 use cmm_tree::{Binding, Expr, Handler};
 use mach_ir::{Label, Mark, Reg};
 use selection_code::backwards::Backwards;
-use selection_scope::numbers::{number_of, plus};
 use selection_scope::place::{Node, Place, fresh, is_mutable, operand_at, type_bound};
 use selection_scope::scope::Scope;
 use selection_scope::seats::seat;
@@ -25,15 +26,18 @@ use std::alloc::AllocError;
 
 /// A new value for a name.
 pub fn assign<F: Fn(&mut Scope, &mut Backwards, Place, &Expr) -> Result<(), AllocError>>(
-    below: &F,
+    below: &Below<'_, F>,
     scope: &mut Scope,
     code: &mut Backwards,
     node: Node,
     name: &Name,
     value: &Expr,
 ) -> Result<(), AllocError>
-    requires callable { MayCall (F.pre below.now) }
-    requires selects { Selects (F.post below.now) }
+    requires callable { MayCall (F.pre below.now.select.now) below.now.first }
+    requires selects { Selects (F.post below.now.select.now) below.now.first }
+    requires tries { most_tries scope.old.labels ≤ node.place.base }
+    requires begins { below.now.first ≡ node.place.base + 1 }
+    requires room { HasRoom node.place.base (Assign 0 0 name.now (expr_view value.now)) }
     requires typed { IsAnnotated (names_in scope.old) value.now }
     requires ty { (at name_at : ℕ) → node.ty ≡ type_of (names_in scope.old) (Assign at name_at
         name.now (expr_view value.now)) }
@@ -41,7 +45,7 @@ pub fn assign<F: Fn(&mut Scope, &mut Backwards, Place, &Expr) -> Result<(), Allo
         (Assign at name_at name.now (expr_view value.now)) code.old) }
     ensures scope { OnOk result (scope.new ≡ scope.old) }
 {
-    let base = plus(node.place.base, 2)?;
+    let base = node.place.base + 2;
     let register = fresh(base - 1, value.ty);
     code.move_into(register, scope.reg_of(name))?;
     one(below, scope, code, operand_at(register, base), value)
@@ -49,7 +53,8 @@ pub fn assign<F: Fn(&mut Scope, &mut Backwards, Place, &Expr) -> Result<(), Allo
 
 /// Binds the names of a let to registers. Each has a number, and after it those of its value.
 fn bind_all(scope: &mut Scope, number: u32, bindings: &[Binding]) -> Result<(), AllocError>
-    requires { AreBindingsAnnotated (names_in scope.old) bindings.now }
+    requires typed { AreBindingsAnnotated (names_in scope.old) bindings.now }
+    requires room { number + width_bound (bindings_of bindings.now) < most_numbers }
     ensures { OnOk result (scope.new ≡ record scope.old {
       names = env_after scope.old.names number (bindings_of bindings.now);
     }) }
@@ -60,7 +65,7 @@ fn bind_all(scope: &mut Scope, number: u32, bindings: &[Binding]) -> Result<(), 
         let ty = type_bound(binding.declared, binding.value.ty);
         let mutable = is_mutable(binding.declared);
         scope.bind(&binding.name, ty, mutable, fresh(next, ty))?;
-        next = plus(behind(next, &binding.value)?, 1)?;
+        next = behind(next, &binding.value) + 1;
         rest = others;
     }
     Ok(())
@@ -68,14 +73,18 @@ fn bind_all(scope: &mut Scope, number: u32, bindings: &[Binding]) -> Result<(), 
 
 /// The values of a let, the last first: the scope of each is left before its value.
 fn values<F: Fn(&mut Scope, &mut Backwards, Place, &Expr) -> Result<(), AllocError>>(
-    below: &F,
+    below: &Below<'_, F>,
     scope: &mut Scope,
     code: &mut Backwards,
     number: u32,
     bindings: &[Binding],
 ) -> Result<(), AllocError>
-    requires callable { MayCall (F.pre below.now) }
-    requires selects { Selects (F.post below.now) }
+    requires callable { MayCall (F.pre below.now.select.now) below.now.first }
+    requires selects { Selects (F.post below.now.select.now) below.now.first }
+    requires tries { most_tries scope.old.labels ≤ below.now.first }
+    requires begins { below.now.first ≤ number }
+    requires room { number + (width_bound (bindings_of bindings.now)
+        + indexes_in_bound (bindings_of bindings.now)) < most_numbers }
     requires names { scope.old.names ≡ env_after (drop (length bindings.now) scope.old.names)
         number (bindings_of bindings.now) }
     requires typed { AreBindingsAnnotated (scopes (drop (length bindings.now)
@@ -89,9 +98,9 @@ fn values<F: Fn(&mut Scope, &mut Backwards, Place, &Expr) -> Result<(), AllocErr
     let mut rest = bindings;
     while let Some((last, others)) = rest.split_last() {
         let Some(register) = scope.unbind() else {
-            return Err(AllocError);
+            unreachable!();
         };
-        let base = plus(register.number, 1)?;
+        let base = register.number + 1;
         one(below, scope, code, operand_at(register, base), &last.value)?;
         rest = others;
     }
@@ -100,15 +109,18 @@ fn values<F: Fn(&mut Scope, &mut Backwards, Place, &Expr) -> Result<(), AllocErr
 
 /// Bindings, one after the other, and what is in their scope.
 pub fn let_in<F: Fn(&mut Scope, &mut Backwards, Place, &Expr) -> Result<(), AllocError>>(
-    below: &F,
+    below: &Below<'_, F>,
     scope: &mut Scope,
     code: &mut Backwards,
     node: Node,
     bindings: &[Binding],
     body: &Expr,
 ) -> Result<(), AllocError>
-    requires callable { MayCall (F.pre below.now) }
-    requires selects { Selects (F.post below.now) }
+    requires callable { MayCall (F.pre below.now.select.now) below.now.first }
+    requires selects { Selects (F.post below.now.select.now) below.now.first }
+    requires tries { most_tries scope.old.labels ≤ node.place.base }
+    requires begins { below.now.first ≡ node.place.base + 1 }
+    requires room { HasRoom node.place.base (Let 0 (bindings_of bindings.now) (expr_view body.now)) }
     requires typed { AreBindingsAnnotated (names_in scope.old) bindings.now }
     requires body_typed { IsAnnotated (with_bindings (names_in scope.old) (bindings_of
         bindings.now)) body.now }
@@ -118,8 +130,8 @@ pub fn let_in<F: Fn(&mut Scope, &mut Backwards, Place, &Expr) -> Result<(), Allo
         (Let at (bindings_of bindings.now) (expr_view body.now)) code.old) }
     ensures scope { OnOk result (scope.new ≡ scope.old) }
 {
-    let first = plus(node.place.base, 1)?;
-    let base = behind_bindings(first, bindings)?;
+    let first = node.place.base + 1;
+    let base = behind_bindings(first, bindings);
     bind_all(scope, first, bindings)?;
     one(below, scope, code, node.part(base), body)?;
     values(below, scope, code, first, bindings)
@@ -127,15 +139,19 @@ pub fn let_in<F: Fn(&mut Scope, &mut Backwards, Place, &Expr) -> Result<(), Allo
 
 /// The body of a handler, in the scope of its parameters.
 fn handler_body<F: Fn(&mut Scope, &mut Backwards, Place, &Expr) -> Result<(), AllocError>>(
-    below: &F,
+    below: &Below<'_, F>,
     scope: &mut Scope,
     code: &mut Backwards,
     place: Place,
     number: u32,
     handler: &Handler,
 ) -> Result<(), AllocError>
-    requires callable { MayCall (F.pre below.now) }
-    requires selects { Selects (F.post below.now) }
+    requires callable { MayCall (F.pre below.now.select.now) below.now.first }
+    requires selects { Selects (F.post below.now.select.now) below.now.first }
+    requires tries { most_tries scope.old.labels ≤ below.now.first }
+    requires begins { below.now.first ≤ place.base }
+    requires room { HasRoom place.base (expr_view handler.now.body) }
+    requires params { number + length handler.now.params.items < most_numbers }
     requires typed { IsAnnotated (with_parameters (params_view handler.now.params.items)
         (names_in scope.old)) handler.now.body }
     ensures code { OnOk result (code.new ≡ select (with_params (params_view
@@ -154,7 +170,7 @@ fn handler_body<F: Fn(&mut Scope, &mut Backwards, Place, &Expr) -> Result<(), Al
 
 /// The bodies of the handlers of a catch.
 fn handler_bodies<F: Fn(&mut Scope, &mut Backwards, Place, &Expr) -> Result<(), AllocError>>(
-    below: &F,
+    below: &Below<'_, F>,
     scope: &mut Scope,
     code: &mut Backwards,
     place: Place,
@@ -162,21 +178,26 @@ fn handler_bodies<F: Fn(&mut Scope, &mut Backwards, Place, &Expr) -> Result<(), 
     first: u32,
     handlers: &[Handler],
 ) -> Result<(), AllocError>
-    requires callable { MayCall (F.pre below.now) }
-    requires selects { Selects (F.post below.now) }
+    requires callable { MayCall (F.pre below.now.select.now) below.now.first }
+    requires selects { Selects (F.post below.now.select.now) below.now.first }
+    requires tries { most_tries scope.old.labels ≤ below.now.first }
+    requires begins { below.now.first ≤ place.base }
+    requires labels { first + width_labels (handlers_of handlers.now) < most_numbers }
+    requires room { place.base + (width_handlers (handlers_of handlers.now)
+        + indexes_in_handlers (handlers_of handlers.now)) < most_numbers }
     requires typed { AreHandlersAnnotated (names_in scope.old) handlers.now }
     ensures code { OnOk result (code.new ≡ select_handlers scope.old.names scope.old.labels
         place.valued place.tail place.dest end first place.base
         (handlers_of handlers.now) code.old) }
     ensures scope { OnOk result (scope.new ≡ scope.old) }
 {
-    let mut label = behind_labels(first, handlers)?;
-    let mut base = behind_handlers(place.base, handlers)?;
+    let mut label = behind_labels(first, handlers);
+    let mut base = behind_handlers(place.base, handlers);
     let mut rest = handlers;
     while let Some((last, others)) = rest.split_last() {
-        let params = label - number_of(last.params.len())?;
+        let params = label - last.params.len() as u32;
         label = params - 1;
-        base -= width_of(&last.body)?;
+        base -= width_of(&last.body);
         handler_body(below, scope, code, Place { base, ..place }, params, last)?;
         code.bare(Mark::With {
             label: Label(label),
@@ -189,15 +210,18 @@ fn handler_bodies<F: Fn(&mut Scope, &mut Backwards, Place, &Expr) -> Result<(), 
 
 /// A body, and handlers to which an exit may leave.
 pub fn catch<F: Fn(&mut Scope, &mut Backwards, Place, &Expr) -> Result<(), AllocError>>(
-    below: &F,
+    below: &Below<'_, F>,
     scope: &mut Scope,
     code: &mut Backwards,
     node: Node,
     body: &Expr,
     handlers: &[Handler],
 ) -> Result<(), AllocError>
-    requires callable { MayCall (F.pre below.now) }
-    requires selects { Selects (F.post below.now) }
+    requires callable { MayCall (F.pre below.now.select.now) below.now.first }
+    requires selects { Selects (F.post below.now.select.now) below.now.first }
+    requires tries { most_tries scope.old.labels ≤ node.place.base }
+    requires begins { below.now.first ≡ node.place.base + 1 }
+    requires room { HasRoom node.place.base (Catch 0 (expr_view body.now) (handlers_of handlers.now)) }
     requires body_typed { IsAnnotated (names_in scope.old) body.now }
     requires typed { AreHandlersAnnotated (names_in scope.old) handlers.now }
     requires ty { (at : ℕ) → node.ty ≡ type_of (names_in scope.old) (Catch at (expr_view body.now)
@@ -206,10 +230,10 @@ pub fn catch<F: Fn(&mut Scope, &mut Backwards, Place, &Expr) -> Result<(), Alloc
         (Catch at (expr_view body.now) (handlers_of handlers.now)) code.old) }
     ensures scope { OnOk result (scope.new ≡ scope.old) }
 {
-    let first = plus(node.place.base, 2)?;
+    let first = node.place.base + 2;
     let end = first - 1;
-    let base = behind_labels(first, handlers)?;
-    let inner = behind(base, body)?;
+    let base = behind_labels(first, handlers);
+    let inner = behind(base, body);
     let left = scope.labels_len();
     code.bare(Mark::End { label: Label(end) })?;
     scope.enter_handlers(handlers, first)?;
@@ -223,7 +247,7 @@ pub fn catch<F: Fn(&mut Scope, &mut Backwards, Place, &Expr) -> Result<(), Alloc
 
 /// What handles a raise: the raised value has this name, and stands in this register.
 fn raised<F: Fn(&mut Scope, &mut Backwards, Place, &Expr) -> Result<(), AllocError>>(
-    below: &F,
+    below: &Below<'_, F>,
     scope: &mut Scope,
     code: &mut Backwards,
     place: Place,
@@ -231,8 +255,11 @@ fn raised<F: Fn(&mut Scope, &mut Backwards, Place, &Expr) -> Result<(), AllocErr
     name: &Name,
     handler: &Expr,
 ) -> Result<(), AllocError>
-    requires callable { MayCall (F.pre below.now) }
-    requires selects { Selects (F.post below.now) }
+    requires callable { MayCall (F.pre below.now.select.now) below.now.first }
+    requires selects { Selects (F.post below.now.select.now) below.now.first }
+    requires tries { most_tries scope.old.labels ≤ below.now.first }
+    requires begins { below.now.first ≤ place.base }
+    requires room { HasRoom place.base (expr_view handler.now) }
     requires typed { IsAnnotated (record {
       name = name.now;
       type = type.Val;
@@ -253,14 +280,17 @@ fn raised<F: Fn(&mut Scope, &mut Backwards, Place, &Expr) -> Result<(), AllocErr
 
 /// The body of a try.
 fn in_try<F: Fn(&mut Scope, &mut Backwards, Place, &Expr) -> Result<(), AllocError>>(
-    below: &F,
+    below: &Below<'_, F>,
     scope: &mut Scope,
     code: &mut Backwards,
     place: Place,
     body: &Expr,
 ) -> Result<(), AllocError>
-    requires callable { MayCall (F.pre below.now) }
-    requires selects { Selects (F.post below.now) }
+    requires callable { MayCall (F.pre below.now.select.now) below.now.first }
+    requires selects { Selects (F.post below.now.select.now) below.now.first }
+    requires tries { most_tries scope.old.labels < below.now.first }
+    requires begins { below.now.first ≤ place.base }
+    requires room { HasRoom place.base (expr_view body.now) }
     requires typed { IsAnnotated (names_in scope.old) body.now }
     ensures code { OnOk result (code.new ≡ select scope.old.names (deeper scope.old.labels)
         place.valued place.tail place.dest place.base (expr_view body.now) code.old) }
@@ -273,7 +303,7 @@ fn in_try<F: Fn(&mut Scope, &mut Backwards, Place, &Expr) -> Result<(), AllocErr
 
 /// A body, and what handles a raise out of it.
 pub fn try_with<F: Fn(&mut Scope, &mut Backwards, Place, &Expr) -> Result<(), AllocError>>(
-    below: &F,
+    below: &Below<'_, F>,
     scope: &mut Scope,
     code: &mut Backwards,
     node: Node,
@@ -281,8 +311,11 @@ pub fn try_with<F: Fn(&mut Scope, &mut Backwards, Place, &Expr) -> Result<(), Al
     name: &Name,
     handler: &Expr,
 ) -> Result<(), AllocError>
-    requires callable { MayCall (F.pre below.now) }
-    requires selects { Selects (F.post below.now) }
+    requires callable { MayCall (F.pre below.now.select.now) below.now.first }
+    requires selects { Selects (F.post below.now.select.now) below.now.first }
+    requires tries { most_tries scope.old.labels ≤ node.place.base }
+    requires begins { below.now.first ≡ node.place.base + 1 }
+    requires room { HasRoom node.place.base (Try 0 (expr_view body.now) 0 name.now (expr_view handler.now)) }
     requires body_typed { IsAnnotated (names_in scope.old) body.now }
     requires typed { IsAnnotated (record {
       name = name.now;
@@ -295,12 +328,12 @@ pub fn try_with<F: Fn(&mut Scope, &mut Backwards, Place, &Expr) -> Result<(), Al
         (Try at (expr_view body.now) name_at name.now (expr_view handler.now)) code.old) }
     ensures scope { OnOk result (scope.new ≡ scope.old) }
 {
-    let base = plus(node.place.base, 5)?;
+    let base = node.place.base + 5;
     let label = Label(base - 4);
     let end = Label(base - 3);
     let register = fresh(base - 2, Ty::Val);
     let seated = seat(0, base - 1, Comp::Val);
-    let inner = behind(base, body)?;
+    let inner = behind(base, body);
     code.bare(Mark::End { label: end })?;
     raised(
         below,

@@ -4,3 +4,4 @@ pub mod Symbols
 pub mod DataBytes
 pub mod Beginning
 pub mod Promised
+pub mod Room

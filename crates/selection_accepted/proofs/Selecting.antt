@@ -90,7 +90,7 @@ selectable text file is f c =
     let nodes = covered.nodes_covered in
     let values = covered.tokens_cover in
     let numbers = few_numbers f.body in
-    record { fits = accepted_fits (definitions file) f a; narrow = omega (arith, tokens, nodes, values, numbers); numbered = omega (arith, tokens, nodes, values, numbers) }
+    record { fits = accepted_fits (definitions file) f a; narrow = omega (arith, tokens, nodes, values, numbers) }
 
 -- the same of the function with a number
 pub selectable_at : (text : List ℕ) (file : FileTree) → IsFileOf text file → (k : ℕ) (f : FunctionTree) → slice_get (functions file) k ≡ Some f → Selectable f

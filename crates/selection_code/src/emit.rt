@@ -4,6 +4,7 @@ ghost use Rattle.selection_rules.specs.Instructions as emit;
 ghost use Rattle.selection_rules.specs.Select.{move_from, move_to, moves_all, rounded, power_code, operator_code, shape_args};
 ghost use Rattle.selection_rules.specs.Select.{cell_stores};
 ghost use Rattle.selection_code.specs.Shapes.{shape_view};
+ghost use Rattle.selection_scope.specs.Room.{most_numbers};
 ghost use Rattle.mach_ir.specs.declared.op.Right.TheVariants as second;
 ghost use Rattle.mach_ir.specs.declared.mach.Test.TheVariants as test;
 ghost use Rattle.bs_words.specs.declared.operators.IntOp.TheVariants as operator;
@@ -15,7 +16,6 @@ use mach_ir::{
     Access, Blocks, Callee, Calling, CopyKind, External, Label, Leaving, Mark, NewBlock, Op, Pure,
     Reg, Right, Seq, Test,
 };
-use selection_scope::numbers::number_of;
 use selection_scope::row::Regs;
 use std::alloc::AllocError;
 
@@ -256,16 +256,14 @@ impl Backwards {
         )
     }
 
-    /// An allocation of a block with this header and so many cells. That it passes 2^31 bytes counts as want of memory.
+    /// An allocation of a block with this header and so many cells.
     pub fn allocate(&mut self, header: u64, cells: u32, to: Reg) -> Result<(), AllocError>
+        requires { cells < most_numbers }
         ensures { OnOk result (self.new ≡ emit.alloc (record {
           header = header;
           cells = cells;
         }) to ∷ self.old) }
     {
-        if cells >= 0x1000_0000 {
-            return Err(AllocError);
-        }
         let blocks = Blocks::one(self.alloc(), NewBlock { header, cells })?;
         self.operation(Op::Access(Access::Alloc(blocks)), &[], &[to])
     }
@@ -339,8 +337,8 @@ impl Backwards {
     {
         let mut rest = cells.as_slice();
         while let Some((last, others)) = rest.split_last() {
-            let position = number_of(others.len())?;
-            self.store(chunk, 8 * u64::from(position), block, last.reg)?;
+            let position = others.len() as u64;
+            self.store(chunk, 8 * position, block, last.reg)?;
             rest = others;
         }
         Ok(())

@@ -1,3 +1,4 @@
+pub mod Room
 pub mod Row
 pub mod Scoping
 pub mod Widths

@@ -5,7 +5,6 @@
 #![tactic(auto)]
 
 pub mod light;
-pub mod numbers;
 pub mod outline;
 pub mod place;
 pub mod row;

@@ -1,12 +1,13 @@
 //! The names and labels in scope.
-ghost use Rattle.std.specs.Prelude.{◌≡◌, [], ◌∷◌, ◌++◌, List, Some, false, not, length, map, reverse, option_map, option_copied, IfOk, OnOk, MatchOption};
+ghost use Rattle.std.specs.Prelude.{◌≡◌, ◌+◌, ◌<◌, [], ◌∷◌, ◌++◌, List, Some, false, not, length, map, reverse, option_map, option_copied, IfOk, OnOk, MatchOption};
 ghost use Rattle.cmm_tree.specs.Rows.{handlers_of};
 ghost use Rattle.cmm_tree.specs.View.{label_view, params_view};
 ghost use Rattle.cmm_types.specs.Light.{is_immutable};
 ghost use Rattle.selection_rules.specs.Select.{Named, Label as InCode, scopes, reg_of, label_of, params_from, with_params, labels_from, in_handlers, deeper};
+ghost use Rattle.selection_rules.specs.Select.{width_labels};
+ghost use Rattle.selection_scope.specs.Room.{most_numbers, most_tries};
 ghost use Rattle.selection_scope.specs.Scoping.{named_view, target_view, names_in, higher};
 
-use crate::numbers::{number_of, plus};
 use crate::place::fresh;
 use crate::row::Regs;
 use bs_words::{Name, Ty};
@@ -105,6 +106,7 @@ fn handler_for<'b>(labels: &'b [Target], label: &Label) -> Option<&'b Target>
 
 /// Registers for parameters, with the numbers from this one on.
 pub fn params_from(alloc: Global, number: u32, params: &[Param]) -> Result<Regs, AllocError>
+    requires { number + length params.now < most_numbers }
     ensures { IfOk result (λ regs. regs ≡ params_from number (params_view params.now)) }
 {
     let mut regs = Regs::new(alloc);
@@ -112,7 +114,7 @@ pub fn params_from(alloc: Global, number: u32, params: &[Param]) -> Result<Regs,
     let mut rest = params;
     while let [param, others @ ..] = rest {
         regs.push(fresh(next, param.comp.ty()))?;
-        next = plus(next, 1)?;
+        next += 1;
         rest = others;
     }
     Ok(regs)
@@ -120,6 +122,7 @@ pub fn params_from(alloc: Global, number: u32, params: &[Param]) -> Result<Regs,
 
 /// The handlers of a catch, the first of which has this number.
 fn targets(alloc: Global, handlers: &[Handler], number: u32) -> Result<Vec<Target>, AllocError>
+    requires { number + width_labels (handlers_of handlers.now) < most_numbers }
     ensures { IfOk result (λ targets. map target_view targets.items ≡ labels_from number
         (handlers_of handlers.now)) }
 {
@@ -127,7 +130,7 @@ fn targets(alloc: Global, handlers: &[Handler], number: u32) -> Result<Vec<Targe
     let mut next = number;
     let mut rest = handlers;
     while let [handler, others @ ..] = rest {
-        let first = plus(next, 1)?;
+        let first = next + 1;
         let params = params_from(alloc, first, handler.params.as_slice())?;
         let label = copy_of(alloc, &handler.label)?;
         targets.push(Target {
@@ -136,7 +139,7 @@ fn targets(alloc: Global, handlers: &[Handler], number: u32) -> Result<Vec<Targe
             number: mach_ir::Label(next),
             tries: 0,
         })?;
-        next = plus(first, number_of(handler.params.len())?)?;
+        next = first + handler.params.len() as u32;
         rest = others;
     }
     Ok(targets)
@@ -171,13 +174,14 @@ fn put_lasting(labels: &mut Vec<Target>, targets: Vec<Target>) -> Result<(), All
 
 /// Takes the handlers off the stack, the innermost first, with one try more before each.
 fn one_deeper(alloc: Global, labels: &mut Vec<Target>) -> Result<Vec<Target>, AllocError>
+    requires { most_tries (map target_view (reverse labels.old.items)) < most_numbers }
     ensures taken { IfOk result (λ inside. map target_view inside.items ≡
         deeper (map target_view (reverse labels.old.items))) }
     ensures none { IfOk result (λ _. labels.new.items ≡ []) }
 {
     let mut inside = Vec::new(alloc);
     while let Some(target) = labels.pop() {
-        let tries = plus(target.tries, 1)?;
+        let tries = target.tries + 1;
         inside.push(Target { tries, ..target })?;
     }
     Ok(inside)
@@ -266,6 +270,7 @@ impl Scope {
 
     /// Binds parameters to registers with the numbers from this one on, the last one innermost.
     pub fn bind_params(&mut self, params: &[Param], number: u32) -> Result<(), AllocError>
+        requires { number + length params.now < most_numbers }
         ensures { OnOk result (self.new ≡ record self.old {
           names = with_params (params_view params.now) (params_from number
               (params_view params.now)) self.old.names;
@@ -276,7 +281,7 @@ impl Scope {
         while let [param, others @ ..] = rest {
             let ty = param.comp.ty();
             self.bind(&param.name, ty, false, fresh(next, ty))?;
-            next = plus(next, 1)?;
+            next += 1;
             rest = others;
         }
         Ok(())
@@ -307,6 +312,7 @@ impl Scope {
 
     /// Makes the labels of handlers visible, the first of which has this number, as the body of their catch sees them.
     pub fn enter_body(&mut self, handlers: &[Handler], number: u32) -> Result<(), AllocError>
+        requires { number + width_labels (handlers_of handlers.now) < most_numbers }
         ensures { OnOk result (self.new ≡ record self.old {
           labels = labels_from number (handlers_of handlers.now) ++ self.old.labels;
         }) }
@@ -317,6 +323,7 @@ impl Scope {
 
     /// The same as the handlers see them: the bare label is not visible.
     pub fn enter_handlers(&mut self, handlers: &[Handler], number: u32) -> Result<(), AllocError>
+        requires { number + width_labels (handlers_of handlers.now) < most_numbers }
         ensures { OnOk result (self.new ≡ record self.old {
           labels = in_handlers (labels_from number
               (handlers_of handlers.now)) ++ self.old.labels;
@@ -343,6 +350,7 @@ impl Scope {
 
     /// Enters the body of a try: one try more stands between each handler and what is selected.
     pub fn enter_try(&mut self) -> Result<(), AllocError>
+        requires { most_tries self.old.labels < most_numbers }
         ensures { OnOk result (self.new ≡ record self.old { labels = deeper self.old.labels }) }
     {
         let inside = one_deeper(self.alloc, &mut self.labels)?;

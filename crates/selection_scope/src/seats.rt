@@ -1,5 +1,5 @@
 //! Registers in rows: operands, parameters, and the seats that the convention of calls gives them.
-ghost use Rattle.std.specs.Prelude.{◌≡◌, ◌+◌, slice_index_or, IfOk};
+ghost use Rattle.std.specs.Prelude.{◌≡◌, ◌+◌, ◌<◌, length, slice_index_or, IfOk};
 ghost use Rattle.bs_words.specs.declared.types.Loc.TheVariants as loc;
 ghost use Rattle.cmm_tree.specs.Rows.{row_of};
 ghost use Rattle.cmm_types.specs.Lists.{AreAnnotated};
@@ -7,9 +7,9 @@ ghost use Rattle.cmm_meaning.specs.Evaluation.{comp_of_argument, comps_of_argume
 ghost use Rattle.mach_ir.specs.Placed.{colours};
 ghost use Rattle.mach_ir.specs.Seats.{argument_places};
 ghost use Rattle.selection_rules.specs.Select.{seat, seats, result_seat, regs_of, colour_regs};
+ghost use Rattle.selection_scope.specs.Room.{most_numbers};
 ghost use Rattle.selection_scope.specs.Scoping.{names_in};
 
-use crate::numbers::plus;
 use crate::place::fresh;
 use crate::row::Regs;
 use crate::scope::Scope;
@@ -68,6 +68,7 @@ pub fn seat(position: u32, number: u32, comp: Comp) -> Reg
 
 /// The seats of values in these registers, with the numbers from this one on.
 pub fn seats(alloc: Global, number: u32, regs: &Regs) -> Result<Regs, AllocError>
+    requires { number + length regs.now < most_numbers }
     ensures { IfOk result (λ made. made ≡ seats 0 number regs.now) }
 {
     let mut made = Regs::new(alloc);
@@ -76,8 +77,8 @@ pub fn seats(alloc: Global, number: u32, regs: &Regs) -> Result<Regs, AllocError
     let mut rest = regs.as_slice();
     while let [first, others @ ..] = rest {
         made.push(seat(position, next, first.reg.comp))?;
-        position = plus(position, 1)?;
-        next = plus(next, 1)?;
+        position += 1;
+        next += 1;
         rest = others;
     }
     Ok(made)
@@ -97,7 +98,8 @@ pub fn result_seat(alloc: Global, number: u32, given: Ret) -> Result<Regs, Alloc
 
 /// The registers of a row of operands, with the numbers from this one on.
 pub fn regs_of(scope: &Scope, number: u32, exprs: &[Expr]) -> Result<Regs, AllocError>
-    requires { AreAnnotated (names_in scope.now) exprs.now }
+    requires typed { AreAnnotated (names_in scope.now) exprs.now }
+    requires room { number + length exprs.now < most_numbers }
     ensures { IfOk result (λ made. made ≡ regs_of scope.now.names number (row_of exprs.now)) }
 {
     let mut made = Regs::new(scope.alloc());
@@ -105,7 +107,7 @@ pub fn regs_of(scope: &Scope, number: u32, exprs: &[Expr]) -> Result<Regs, Alloc
     let mut rest = exprs;
     while let [expr, others @ ..] = rest {
         made.push(fresh(next, expr.ty))?;
-        next = plus(next, 1)?;
+        next += 1;
         rest = others;
     }
     Ok(made)
@@ -150,7 +152,7 @@ pub fn colour_regs(alloc: Global) -> Result<Seq<Reg>, AllocError>
             loc: Loc::Machine(*colour),
             origin: next,
         })?;
-        next = plus(next, 1)?;
+        next += 1;
         rest = others;
     }
     Ok(Seq::from_vec(regs))

@@ -1,12 +1,12 @@
 //! How many numbers of registers and labels an expression takes.
-ghost use Rattle.std.specs.Prelude.{◌≡◌, ◌+◌, ◌<◌, IfOk};
+ghost use Rattle.std.specs.Prelude.{◌≡◌, ◌+◌, ◌<◌};
 ghost use Rattle.cmm_tree.specs.Rows.{row_of, bindings_of, cases_of, handlers_of};
 ghost use Rattle.cmm_tree.specs.View.{expr_view};
 ghost use Rattle.selection_rules.specs.Select.{width, width_row, width_bound, width_cases, width_handlers, width_labels};
+ghost use Rattle.selection_scope.specs.Room.{most_numbers};
 ghost use Rattle.selection_scope.specs.Widths.{capped};
 
 use cmm_tree::{Binding, Case, Expr, Form, Handler};
-use std::alloc::AllocError;
 
 /// A length as a number, or the greatest number where it passes that.
 fn capped(len: usize) -> u32
@@ -145,62 +145,58 @@ fn with_labels(so_far: u32, handlers: &[Handler]) -> u32
     total
 }
 
-/// A number that is not the greatest.
-fn below_cap(number: u32) -> Result<u32, AllocError>
-    ensures { IfOk result (λ n. n < 4294967295 × (n ≡ number)) }
+/// The number after those of an expression, which begin with `base`.
+pub fn behind(base: u32, expr: &Expr) -> u32
+    requires { base + width (expr_view expr.now) < most_numbers }
+    ensures { result ≡ base + width (expr_view expr.now) }
 {
-    if number == u32::MAX {
-        return Err(AllocError);
-    }
-    Ok(number)
-}
-
-/// The number after those of an expression, which begin with `base`. That there is none counts as want of memory, here
-/// and below.
-pub fn behind(base: u32, expr: &Expr) -> Result<u32, AllocError>
-    ensures { IfOk result (λ n. n ≡ base + width (expr_view expr.now)) }
-{
-    below_cap(with_expr(base, expr))
+    with_expr(base, expr)
 }
 
 /// The number after those of a row of operands.
-pub fn behind_row(base: u32, exprs: &[Expr]) -> Result<u32, AllocError>
-    ensures { IfOk result (λ n. n ≡ base + width_row (row_of exprs.now)) }
+pub fn behind_row(base: u32, exprs: &[Expr]) -> u32
+    requires { base + width_row (row_of exprs.now) < most_numbers }
+    ensures { result ≡ base + width_row (row_of exprs.now) }
 {
-    below_cap(with_row(base, exprs))
+    with_row(base, exprs)
 }
 
 /// The number after those of bindings.
-pub fn behind_bindings(base: u32, bindings: &[Binding]) -> Result<u32, AllocError>
-    ensures { IfOk result (λ n. n ≡ base + width_bound (bindings_of bindings.now)) }
+pub fn behind_bindings(base: u32, bindings: &[Binding]) -> u32
+    requires { base + width_bound (bindings_of bindings.now) < most_numbers }
+    ensures { result ≡ base + width_bound (bindings_of bindings.now) }
 {
-    below_cap(with_bindings(base, bindings))
+    with_bindings(base, bindings)
 }
 
 /// The number after those of cases.
-pub fn behind_cases(base: u32, cases: &[Case]) -> Result<u32, AllocError>
-    ensures { IfOk result (λ n. n ≡ base + width_cases (cases_of cases.now)) }
+pub fn behind_cases(base: u32, cases: &[Case]) -> u32
+    requires { base + width_cases (cases_of cases.now) < most_numbers }
+    ensures { result ≡ base + width_cases (cases_of cases.now) }
 {
-    below_cap(with_cases(base, cases))
+    with_cases(base, cases)
 }
 
 /// The number after those of handlers' bodies.
-pub fn behind_handlers(base: u32, handlers: &[Handler]) -> Result<u32, AllocError>
-    ensures { IfOk result (λ n. n ≡ base + width_handlers (handlers_of handlers.now)) }
+pub fn behind_handlers(base: u32, handlers: &[Handler]) -> u32
+    requires { base + width_handlers (handlers_of handlers.now) < most_numbers }
+    ensures { result ≡ base + width_handlers (handlers_of handlers.now) }
 {
-    below_cap(with_handlers(base, handlers))
+    with_handlers(base, handlers)
 }
 
 /// The number after those of the labels of handlers and of their parameters.
-pub fn behind_labels(base: u32, handlers: &[Handler]) -> Result<u32, AllocError>
-    ensures { IfOk result (λ n. n ≡ base + width_labels (handlers_of handlers.now)) }
+pub fn behind_labels(base: u32, handlers: &[Handler]) -> u32
+    requires { base + width_labels (handlers_of handlers.now) < most_numbers }
+    ensures { result ≡ base + width_labels (handlers_of handlers.now) }
 {
-    below_cap(with_labels(base, handlers))
+    with_labels(base, handlers)
 }
 
 /// How many numbers an expression takes.
-pub fn width_of(expr: &Expr) -> Result<u32, AllocError>
-    ensures { IfOk result (λ n. n ≡ width (expr_view expr.now)) }
+pub fn width_of(expr: &Expr) -> u32
+    requires { width (expr_view expr.now) < most_numbers }
+    ensures { result ≡ width (expr_view expr.now) }
 {
     behind(0, expr)
 }

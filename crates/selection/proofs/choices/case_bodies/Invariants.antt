@@ -1,6 +1,7 @@
-use Rattle.std.proofs.Common.{◌≡◌, ◌+◌, length}
+use Rattle.std.proofs.Common.{◌≡◌, ◌+◌, ◌<◌, length}
 use Rattle.cmm_tree.specs.Rows.{cases_of}
 use Rattle.cmm_types.specs.Lists.{AreCasesAnnotated}
+use Rattle.selection_scope.specs.Room.{indexes_in_cases, most_numbers}
 use Rattle.selection_scope.specs.Scoping.{names_in}
 use Rattle.selection_rules.specs.Select.{select_cases, width_cases}
 use Rattle.selection.proofs.choices.case_bodies.Given as goal
@@ -13,6 +14,7 @@ invariant-loop-last g l =
       scope : l.scope ≡ l.initial.scope;
       typed : AreCasesAnnotated (names_in l.scope) l.rest;
       label : l.label ≡ l.choices.first + length l.rest;
+      room : l.place.base + (width_cases (cases_of l.rest) + indexes_in_cases (cases_of l.rest)) < most_numbers;
       base : l.base ≡ l.place.base + width_cases (cases_of l.rest);
     }
 

@@ -1,11 +1,15 @@
-use Rattle.std.proofs.Common.{◌≡◌, ◌++◌, length, map, reverse}
+use Rattle.std.proofs.Common.{◌≡◌, ◌<◌, ◌++◌, length, map, reverse}
 use Rattle.selection_rules.specs.Select.{deeper}
+use Rattle.selection_scope.specs.Room.{most_numbers, most_tries}
 use Rattle.selection_scope.specs.Scoping.{target_view}
 use Rattle.selection_scope.proofs.scope.one_deeper.Given as goal
 
 abbrev pub invariant-loop-target : goal.invariant-loop-target
 invariant-loop-target l =
-    map target_view l.inside.items ++ deeper (map target_view (reverse l.labels.items)) ≡ deeper (map target_view (reverse l.initial.labels.items))
+    record {
+      inside : map target_view l.inside.items ++ deeper (map target_view (reverse l.labels.items)) ≡ deeper (map target_view (reverse l.initial.labels.items));
+      few : most_tries (map target_view (reverse l.labels.items)) < most_numbers;
+    }
 
 abbrev pub decreases-loop-target : goal.decreases-loop-target
 decreases-loop-target l = length l.labels.items

@@ -1,4 +1,4 @@
-use Rattle.std.proofs.Common.{◌≡◌, ◌++◌, length}
+use Rattle.std.proofs.Common.{◌≡◌, ◌+◌, ◌++◌, length}
 use Rattle.cmm_tree.specs.Rows.{row_of}
 use Rattle.cmm_types.specs.Lists.{AreAnnotated}
 use Rattle.selection_scope.specs.Scoping.{names_in}
@@ -9,6 +9,7 @@ abbrev pub invariant-loop-rest : goal.invariant-loop-rest
 invariant-loop-rest l =
     record {
       regs : l.made ++ regs_of l.fn.scope.names l.next (row_of l.rest) ≡ regs_of l.fn.scope.names l.fn.number (row_of l.fn.exprs);
+      room : l.next + length l.rest ≡ l.fn.number + length l.fn.exprs;
       typed : AreAnnotated (names_in l.fn.scope) l.rest;
     }
 

@@ -15,7 +15,7 @@ loop-last-preserved c =
     let last = c.in-Some.last.now in
     let before = c.loop-last.self in
     let count = length-map others (λ (r : InRow). r.reg) in
-    let offset : 8 * c.from.result ≡ 8 * (0 + length (regs_in others)) = omega (arith, c.from.ensures, c.in_ok-position.ensures, count) in
+    let offset : 8 * length others ≡ 8 * (0 + length (regs_in others)) = omega (arith, count) in
     ap (cell_stores k p 0 (regs_in others)) (c.in_ok-store.ensures ∙ ap (λ o. emit.store k o p last.reg ∷ before) offset)
     ∙ sym (cells-last k p 0 (regs_in others) last.reg before)
     ∙ ap (λ xs. cell_stores k p 0 xs before) (sym (map-append (λ (r : InRow). r.reg) others (last ∷ [])))
