@@ -24,6 +24,7 @@ use Rattle.selection_rules.specs.Select.{selected}
 use Rattle.selection_places.proofs.Placed.{selected_low}
 use Rattle.selection_promise.specs.Selects.{IsAccepted}
 use Rattle.selection_accepted.proofs.Promised.{function_accepted}
+use Rattle.selection_accepted.proofs.Room.{IsSelectable, selectable}
 use Rattle.selection_accepted.proofs.Selecting.{definitions}
 use Rattle.file_compile.specs.Accepted.{IsAcceptedFunction}
 use Rattle.file_compile.specs.Listed.{IsAllocatedFor, IsTextOf}
@@ -84,6 +85,11 @@ module _ (tree : FunctionTree) (accepted : IsAcceptedFunction tree) (mach : Mach
                 emitted = emitted;
               };
             }
+
+-- a function of an accepted file can be selected
+pub can_be_selected : (tree : FunctionTree) → IsAcceptedFunction tree → IsSelectable tree
+can_be_selected tree accepted =
+    selectable (definitions accepted.file) tree (function_accepted accepted.of_file.text accepted.file accepted.of_file.is_file tree accepted.among)
 
 -- what is allocated for a function is placed for it
 pub allocated_placed : (tree : FunctionTree) → IsAcceptedFunction tree → (m : Mach) → IsAllocatedFor tree m → IsPlacedFor tree m

@@ -22,6 +22,7 @@ use std::alloc::{AllocError, Global};
 /// The text of a function as it is selected.
 fn selected_text(alloc: Global, function: &Function) -> Result<List<u8>, AllocError>
     requires typed { IsFunctionAnnotated function.now }
+    requires accepted { IsAcceptedFunction (function_view function.now) }
     ensures { IfOk result (λ text.
         IsPassText Stage.Select (function_view function.now) (contents text)) }
 {
@@ -32,6 +33,7 @@ fn selected_text(alloc: Global, function: &Function) -> Result<List<u8>, AllocEr
 /// The text of a function with its allocations combined.
 fn combined_text(alloc: Global, function: &Function) -> Result<List<u8>, AllocError>
     requires typed { IsFunctionAnnotated function.now }
+    requires accepted { IsAcceptedFunction (function_view function.now) }
     ensures { IfOk result (λ text.
         IsPassText Stage.CombAlloc (function_view function.now) (contents text)) }
 {

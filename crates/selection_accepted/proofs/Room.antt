@@ -15,7 +15,8 @@ use Rattle.selection_promise.specs.Selects.{IsAccepted}
 use Rattle.selection_promise.proofs.Promised.{few_tokens, narrow_body}
 use Rattle.selection_accepted.proofs.Promised.{function_accepted}
 use Rattle.selection_accepted.proofs.Selecting.{definitions}
-use Rattle.selection_scope.specs.Room.{IsSelectable, indexes_in, indexes_in_row, indexes_in_bound, indexes_in_cases, indexes_in_handlers}
+pub use Rattle.selection_scope.specs.Room.{IsSelectable}
+use Rattle.selection_scope.specs.Room.{indexes_in, indexes_in_row, indexes_in_bound, indexes_in_cases, indexes_in_handlers}
 
 last_holds : (a b : Bool) → (a && b) ≡ true → b ≡ true
 last_holds true b e = e

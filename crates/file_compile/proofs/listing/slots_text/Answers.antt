@@ -1,8 +1,11 @@
 use Rattle.std.proofs.lemmas.Result.{IfOk-weaker}
 use Rattle.cmm_tree.specs.View.{function_view}
 use Rattle.mach_passes.specs.Stages.{HasSlots}
-use Rattle.file_compile.proofs.Passing.{preparable, room, of_selected_text}
+use Rattle.file_compile.proofs.Passing.{can_be_selected, preparable, room, of_selected_text}
 use Rattle.file_compile.proofs.listing.slots_text.Goals as goal
+
+pub select_function-requires-clause-room : goal.select_function-requires-clause-room
+select_function-requires-clause-room c = can_be_selected (function_view c.args.function.now) c.requires.accepted
 
 pub with_slots-requires-clause-preparable : goal.with_slots-requires-clause-preparable
 with_slots-requires-clause-preparable c = preparable (function_view c.args.function.now) c.requires.accepted c.in_ok-mach.mach c.in_ok-mach.ensures

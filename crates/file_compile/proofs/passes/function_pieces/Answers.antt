@@ -2,8 +2,11 @@ use Rattle.std.proofs.Common.{length, ap, sym, subst, ◌∙◌}
 use Rattle.std.proofs.lemmas.Result.{IfOk-weaker}
 use Rattle.cmm_tree.specs.View.{function_view}
 use Rattle.lin_ir.specs.Descriptors.{AreExact}
-use Rattle.file_compile.proofs.Passing.{preparable, room, prepared_has_room, prepared_formed, prepared_placed, prepared_low, is_placed, has_line_room, lines_within, function_made}
+use Rattle.file_compile.proofs.Passing.{can_be_selected, preparable, room, prepared_has_room, prepared_formed, prepared_placed, prepared_low, is_placed, has_line_room, lines_within, function_made}
 use Rattle.file_compile.proofs.passes.function_pieces.Goals as goal
+
+pub select_function-requires-clause-room : goal.select_function-requires-clause-room
+select_function-requires-clause-room c = can_be_selected (function_view c.args.function.now) c.requires.accepted
 
 pub prepared-requires-clause-preparable : goal.prepared-requires-clause-preparable
 prepared-requires-clause-preparable c = preparable (function_view c.args.function.now) c.requires.accepted c.in_ok-mach.mach c.in_ok-mach.ensures
