@@ -1,5 +1,5 @@
 -- The room of the parts of rows.
-use Rattle.std.proofs.Common.{◌≡◌, ℕ, zero, suc, ◌+◌, ◌<◌, ◌≤◌, Bool, true, false, List, [], ◌∷◌, ◌++◌, length, refl, ap, sym, ◌∙◌, arith}
+use Rattle.std.proofs.Common.{◌≡◌, ℕ, zero, suc, ◌+◌, ◌<◌, ◌≤◌, Bool, true, false, List, [], ◌∷◌, ◌++◌, length, refl, ap, ◌∙◌, arith}
 use Rattle.cmm_tree.specs.Rows.{row_of, bindings_of, cases_of, handlers_of}
 use Rattle.cmm_tree.specs.View.{expr_view}
 use Rattle.cmm_tree.specs.declared.expr.Binding.{Binding}
@@ -8,7 +8,6 @@ use Rattle.cmm_tree.specs.declared.expr.Expr.{Expr}
 use Rattle.cmm_tree.specs.declared.expr.Handler.{Handler}
 use Rattle.selection_rules.specs.Select.{Label, width, width_row, width_bound, width_cases, width_handlers, labels_from, in_handlers, unless_bare, deeper, switch_labels, count_of, count_cases, regs_of, Named, params_from}
 use Rattle.cmm_tree.specs.Tree.{Cases, Handlers, NoHandler, Handle, Parameter, is_bare}
-use Rattle.mach_ir.specs.declared.reg.Reg.{Reg}
 use Rattle.selection_scope.proofs.Counts.{count-row, count-cases}
 use Rattle.selection.proofs.Ends.{width-last, cases-width-last, handlers-width-last}
 use Rattle.selection_scope.specs.Room.{HasRoom, indexes_in, indexes_in_row, indexes_in_bound, indexes_in_cases, indexes_in_handlers, most_numbers, most_tries}
