@@ -8,7 +8,7 @@ ghost use Rattle.mach_ir.specs.Sizes.{HasRoom};
 ghost use Rattle.mach_tests.specs.Room.{wide};
 
 use crate::{lines, webs};
-use anyhow::{Result, bail};
+use anyhow::{Result, bail, ensure};
 use bs_words::Name;
 use mach_ir::page::Page;
 use mach_ir::{Instr, Mach, Reg, Seq};
@@ -122,6 +122,7 @@ impl Rows {
 
     /// Reads an instruction.
     fn add(&mut self, line: &str) -> Result<()> {
+        ensure!(!self.head.is_empty(), "no function before: {line}");
         match apart(self.alloc, line)?.instr()? {
             Some(instr) => {
                 self.instrs.push(instr)?;
@@ -138,9 +139,18 @@ impl Rows {
         }
         match line.split_once(' ') {
             Some(("#", _)) => {}
-            Some(("=", name)) => self.subject = Subject::of(name)?,
-            Some(("colours", regs)) => self.colours = registers(self.alloc, regs)?,
-            Some(("mach", head)) => self.head = String::from_str(self.alloc, head)?,
+            Some(("=", name)) => {
+                ensure!(self.is_done(), "no end before: {line}");
+                self.subject = Subject::of(name)?;
+            }
+            Some(("colours", regs)) => {
+                ensure!(self.is_done(), "no end before: {line}");
+                self.colours = registers(self.alloc, regs)?;
+            }
+            Some(("mach", head)) => {
+                ensure!(self.is_done(), "no end before: {line}");
+                self.head = String::from_str(self.alloc, head)?;
+            }
             _ => self.add(line)?,
         }
         Ok(())
