@@ -6,5 +6,5 @@ use Rattle.cmm_tree.specs.declared.file.File.{File}
 use Rattle.rows_large.proofs.answer.Goals as goal
 
 pub place_data-requires-clause-few : goal.place_data-requires-clause-few
-place_data-requires-clause-few g c = λ lifetimes outlive.
+place_data-requires-clause-few g c =
     subst (λ (f : File). length (functions (file_view f)) < 2 ^ 32) (sym (c.file.ensures.same ∙ c.typed.ensures)) c.requires.can.of_file.few_functions

@@ -1,8 +1,10 @@
-use Rattle.std.proofs.Common.{◌≡◌, Some, Err, Result, sym, ap, ◌∙◌, subst, arith}
+use Rattle.std.proofs.Common.{◌≡◌, ◌<◌, length, Some, Err, Result, sym, ap, ◌∙◌, subst, arith}
+use Rattle.std.specs.Prelude.{◌^◌}
 use Rattle.assemble.specs.Places.{forms_in}
 use Rattle.bs_fault.specs.declared.build.BuildError.{BuildError}
 use Rattle.bs_fault.specs.declared.build.BuildError.TheVariants as error
 use Rattle.bs_fault.specs.declared.large.Large.{Large}
+use Rattle.cmm_tree.specs.Tree.{functions}
 use Rattle.cmm_tree.specs.View.{file_view}
 use Rattle.cmm_tree.specs.declared.file.File.{File}
 use Rattle.image_form.specs.Image.{AreTables}
@@ -17,7 +19,8 @@ same_large : {T : Type 0} (a b : Large) → ◌≡◌ {A = Result T BuildError} 
 same_large a b e = cc
 
 pub of_file-requires-clause-few : goal.of_file-requires-clause-few
-of_file-requires-clause-few g c = λ lifetimes outlive. c.requires.can.of_file.few_functions
+of_file-requires-clause-few g c =
+    subst (λ (f : File). length (functions (file_view f)) < 2 ^ 32) (sym c.file-file.ensures.same) c.requires.can.of_file.few_functions
 
 pub of-requires-clause-numbers : goal.of-requires-clause-numbers
 of-requires-clause-numbers g c = omega (arith, c.requires.can.each_one, c.requires.can.of_file.few_functions)

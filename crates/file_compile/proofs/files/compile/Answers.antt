@@ -27,7 +27,7 @@ all_pieces-requires-clause-few g c = λ lifetimes outlive.
     (few_functions accepted.text (file_view file) accepted.is_file)
 
 pub place_data-requires-clause-few : goal.place_data-requires-clause-few
-place_data-requires-clause-few g c = λ lifetimes outlive.
+place_data-requires-clause-few g c =
     let accepted = c.requires.accepted in
     let file = c.args.checked.now in
     subst (λ (f : File). length (functions (file_view f)) < 2 ^ 32) (sym (c.file-file.ensures.same ∙ c.typed.ensures))

@@ -1,12 +1,21 @@
-use Rattle.std.proofs.Common.{◌≡◌, refl, ap, ◌∙◌}
+use Rattle.std.proofs.Common.{◌≡◌, ◌<◌, length, refl, ap, sym, subst, ◌∙◌}
+use Rattle.std.specs.Prelude.{◌^◌}
 use Rattle.cmm_eval.specs.Views.{layout_view}
 use Rattle.cmm_meaning.specs.Layout.{Layout}
-use Rattle.cmm_tree.specs.Tree.{FileTree}
+use Rattle.cmm_tree.specs.Tree.{FileTree, functions}
 use Rattle.cmm_tree.specs.View.{file_view}
+use Rattle.file_compile.proofs.Known.{few_functions}
 use Rattle.image_form.specs.Tables.{tables}
 use Rattle.text_commands.proofs.Passing.{only_made}
 use Rattle.text_commands.specs.Check.{told_of_run}
 use Rattle.text_commands.proofs.check.check_text.Goals as goal
+
+pub told_of_run-requires-clause-few : goal.told_of_run-requires-clause-few
+told_of_run-requires-clause-few g c =
+    let r = c.in_ok-ready.ready in
+    let file = file_view r.checked in
+    let same : file_view c.file-file.result.now ≡ file = rw (c.file-file.ensures.same, c.typed.ensures) refl in
+    subst (λ (f : FileTree). length (functions f) < 2 ^ 32) (sym same) (few_functions c.args.text.now file c.in_ok-ready.ensures.ready.is_file)
 
 pub returns-in-Ok-clause-told : goal.returns-in-Ok-clause-told
 returns-in-Ok-clause-told g c =

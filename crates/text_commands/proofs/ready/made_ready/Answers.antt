@@ -1,11 +1,18 @@
-use Rattle.std.proofs.Common.{◌≡◌, Err, refl, ap, subst, arith}
-use Rattle.cmm_tree.specs.Tree.{FileTree}
+use Rattle.std.proofs.Common.{◌≡◌, ◌<◌, length, Err, refl, ap, sym, subst, arith}
+use Rattle.std.specs.Prelude.{◌^◌}
+use Rattle.cmm_tree.specs.Tree.{FileTree, functions}
 use Rattle.cmm_tree.specs.View.{file_view}
 use Rattle.command_line.specs.View.{check_view}
-use Rattle.file_compile.proofs.Known.{all_bytes}
+use Rattle.file_compile.proofs.Known.{all_bytes, few_functions}
 use Rattle.text_commands.proofs.Compiled.{too_large_to_check}
 use Rattle.text_commands.specs.Arguments.{IsCall}
 use Rattle.text_commands.proofs.ready.made_ready.Goals as goal
+
+pub call_of-requires-clause-few : goal.call_of-requires-clause-few
+call_of-requires-clause-few g c =
+    let file = file_view c.in-Ok.checked in
+    let same : file_view c.file.result.now ≡ file = rw (c.file.ensures.same, c.typed.ensures) refl in
+    subst (λ (f : FileTree). length (functions f) < 2 ^ 32) (sym same) (few_functions c.args.text.now file c.in-Ok.ensures.file)
 
 -- its file is the text's, so that it is an accepted one
 pub compile-requires-clause-accepted : goal.compile-requires-clause-accepted
