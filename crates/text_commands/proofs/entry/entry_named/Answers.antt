@@ -3,7 +3,7 @@ use Rattle.cmm_tree.specs.Tree.{AFunction, AData, functions}
 use Rattle.cmm_tree.specs.View.{item_view, file_view, function_view, data_list_view}
 use Rattle.file_compile.proofs.LayoutRows.{map_past}
 use Rattle.text_commands.proofs.Rows.{map_rest}
-use Rattle.text_commands.proofs.Entries.{Passed, passed-none, passed-found, passed-named, passed-function, passed-data, passed-all}
+use Rattle.text_commands.proofs.Entries.{Passed, passed-none, passed-below, passed-found, passed-named, passed-function, passed-data, passed-all}
 use Rattle.text_commands.proofs.entry.entry_named.Goals as goal
 use Rattle.text_commands.proofs.entry.entry_named.Goals.{in-Function+else-same, in-Data}
 
@@ -13,6 +13,17 @@ no_true false e t = cc
 
 pub loop-item-init : goal.loop-item-init
 loop-item-init c = rw c.as_slice-item-items.ensures (passed-none c.args.name.now (map item_view c.args.file.now.items.items.items))
+
+pub overflow_add-number : goal.overflow_add-number
+overflow_add-number c =
+    let k = c.loop-item.item-index in
+    let items = c.as_slice-item-items.result.now in
+    let f = function_view c.in-Function.function in
+    let rest = map item_view (drop (k + 1) items) in
+    let here : map item_view (drop k items) ≡ AFunction f ∷ rest =
+    map_rest item_view items k c.item-item.result c.loop-item-test.true c.item-item.is ∙ ap (λ i. item_view i ∷ rest) c.in-Function.is in
+    let below = passed-below c.args.name.now (functions (file_view c.args.file.now)) c.loop-item.number (map item_view (drop k items)) rest f here c.loop-item.invariant in
+    omega (arith, below, c.requires.few)
 
 pub returns-then-same : goal.returns-then-same
 returns-then-same c =
