@@ -71,6 +71,7 @@ module _ {defined : List ℕ → Option DefinedSymbol} {tree : FunctionTree} (ac
     where
       same_slot : {a b : ℕ} → loc.Slot a ≡ loc.Slot b → a ≡ b
       same_slot e = cc
+
       of_place : IsPlaced r → r.origin ≡ k
       of_place (in_colour n c e) = absurd (no_slot (sym e ∙ stands))
         where
