@@ -3,4 +3,4 @@ use Rattle.mach_tests.proofs.Wide.{can_be_split}
 use Rattle.rows_passes.proofs.webs.put_both.Goals as goal
 
 pub split-requires : goal.split-requires
-split-requires g c = record { room = can_be_split (length g.spilled.params) c.requires }
+split-requires c = record { room = can_be_split (length c.args.spilled.params) c.requires }

@@ -3,4 +3,4 @@ use Rattle.mach_tests.proofs.Wide.{can_be_spilled}
 use Rattle.rows_passes.proofs.webs.put_spilled.Goals as goal
 
 pub spill-requires : goal.spill-requires
-spill-requires g c = record { room = can_be_spilled (length g.mach.params) c.requires }
+spill-requires c = record { room = can_be_spilled (length c.args.mach.params) c.requires }
