@@ -3,3 +3,4 @@ pub mod Chained
 pub mod Placed
 pub mod Once
 pub mod Rooms
+pub mod Known

@@ -4,3 +4,4 @@ pub mod Contents
 pub mod Symbols
 pub mod Filling
 pub mod Map
+pub mod Known

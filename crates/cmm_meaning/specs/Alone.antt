@@ -6,7 +6,7 @@ use Rattle.bs_words.specs.declared.types.Comp.{Comp}
 use Rattle.bs_words.specs.declared.types.Ty.TheVariants as ty
 use Rattle.bs_words.specs.declared.values.Kind.TheVariants.{BadCall}
 use Rattle.bs_words.specs.declared.values.Value.{Value}
-use Rattle.cmm_tree.specs.Tree.{FunctionTree}
+use Rattle.cmm_data.specs.Known.{FunctionTree}
 use Rattle.cmm_meaning.specs.State.{Doing, Gave, Threw, Called, Asked, asked_inside, asked_outside, World}
 use Rattle.cmm_meaning.specs.Evaluation.{OutOfFuel, NoAnswer, Asking, NotProper, Evaluation, Gives, Exits, Raises, Stops, Surroundings, tested}
 use Rattle.cmm_meaning.specs.Run.{nobody, activated}

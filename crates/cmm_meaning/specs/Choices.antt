@@ -1,6 +1,6 @@
 -- Handlers and cases, whose bodies are ready to be evaluated in one way or another, and which of them is taken.
 use Rattle.std.specs.Prelude.{ℕ, Bool, true, false, not, cond, ◌&&◌, ◌==◌, List, [], ◌∷◌, Option, Some, None, find}
-use Rattle.cmm_tree.specs.Tree.{LabelTree, same_label, is_bare, Parameter, Index}
+use Rattle.cmm_data.specs.Known.{LabelTree, same_label, is_bare, Parameter, Index}
 
 -- A handler, ready to be entered.
 pub record Ready (Body : Type 0) : Type 0 where

@@ -7,3 +7,4 @@ pub mod Run
 pub mod Alone
 pub mod Extends
 pub mod Held
+pub mod Known

@@ -13,7 +13,7 @@ use Rattle.bs_words.specs.declared.values.Value.{Value}
 use Rattle.bs_words.specs.declared.values.Value.TheVariants.{Word}
 use Rattle.cmm_data.specs.Contents.{first_memory}
 use Rattle.cmm_data.specs.Placement.{data_end, value_of_symbol}
-use Rattle.cmm_tree.specs.Tree.{FunctionTree, FileTree, functions, comps_of}
+use Rattle.cmm_data.specs.Known.{FunctionTree, FileTree, functions, comps_of}
 use Rattle.cmm_meaning.specs.Layout.{Layout, observed}
 use Rattle.cmm_meaning.specs.State.{World, Here, Called, bound, deepened}
 use Rattle.cmm_meaning.specs.Evaluation.{OutOfFuel, NotProper, NoAnswer, Asking, Evaluation, Gives, Exits, Raises, Stops, Surroundings, tested, scoped_parameter, evaluated}

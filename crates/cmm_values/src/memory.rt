@@ -1,5 +1,6 @@
 //! The memory of a run.
-ghost use Rattle.std.specs.Prelude.{◌≡◌, ◌+◌, ◌*◌, ◌%◌, ◌<◌, slice_index_or, Some, None, length, map, option_map, option_copied, slice_get, slice_index, IfOk, ◌^◌};
+ghost use Rattle.std.specs.Prelude.{◌≡◌, ◌+◌, ◌*◌, ◌%◌, ◌<◌, slice_index_or, Some, None};
+ghost use Rattle.std.specs.Prelude.{length, map, option_map, option_copied, slice_get, slice_index, IfOk, ◌^◌};
 ghost use Rattle.bs_words.specs.Fits.{data_start};
 ghost use Rattle.bs_words.specs.Memory.{InBlock, InStatic, end_of_statics, sizes, heap_need, end_of_data, width};
 ghost use Rattle.bs_words.specs.Memory.{stored_in, stored_as, put_whole, put_part, cell_at, value_in, type_in};

@@ -10,12 +10,11 @@ use Rattle.correctness.specs.Measures.{tries}
 use Rattle.lin_ir.specs.Descriptors.{frame_bytes}
 use Rattle.lin_ir.specs.declared.descr.Descr.{Descr}
 use Rattle.lin_ir.specs.declared.lin.Lin.{Lin}
-use Rattle.linear_pass.specs.Linear.{IsLinearOf, NamesHomes}
+use Rattle.chained_functions.specs.Known.{IsLinearOf, NamesHomes, IsAccepted, Selects}
 use Rattle.mach_ir.specs.declared.mach.Mach.{Mach}
 use Rattle.rv_pieces.specs.declared.piece.Pieces.{Pieces}
 use Rattle.selection_rules.specs.Select.{selected}
-use Rattle.selection_promise.specs.Selects.{IsAccepted, Selects}
-use Rattle.selection_promise.proofs.Promised.{promised, few_tokens}
+use Rattle.chained_functions.proofs.Known.{promised, few_tokens}
 use Rattle.selection_accepted.proofs.Promised.{function_accepted}
 use Rattle.selection_accepted.proofs.Selecting.{definitions}
 use Rattle.selection_sizes.proofs.Selected.{selected_words, selected_points}

@@ -22,7 +22,7 @@ use Rattle.mach_ir.specs.declared.mach.Mach.{Mach}
 use Rattle.chained_functions.proofs.Placed.{placed_for}
 use Rattle.rv_pieces.specs.Named.{marks_in, places_in}
 use Rattle.rv_pieces.specs.declared.piece.Pieces.{Pieces}
-use Rattle.selection_promise.specs.Selects.{IsAccepted}
+use Rattle.chained_functions.specs.Known.{IsAccepted}
 use Rattle.selection_accepted.proofs.Promised.{function_accepted}
 use Rattle.selection_accepted.proofs.Selecting.{definitions}
 use Rattle.text_sizes.proofs.Nesting.{text_nests}

@@ -20,7 +20,7 @@ ghost use Rattle.lin_ir.specs.declared.lin.Lin.{Lin};
 ghost use Rattle.chained_functions.specs.Made.{IsBoundedBy};
 ghost use Rattle.chained_functions.specs.Made.{IsMadeOf};
 ghost use Rattle.rv_pieces.specs.declared.piece.Pieces.{Pieces};
-ghost use Rattle.selection_promise.specs.Selects.{IsAccepted};
+ghost use Rattle.chained_functions.specs.Known.{IsAccepted};
 ghost use Rattle.code_bounds.specs.Kept.{KeepsTo};
 
 /// Law: what is made of a function of an accepted text is as small as the text asks, and its frame fits

@@ -14,3 +14,4 @@ pub mod Trailing
 pub mod Whole
 pub mod Formed
 pub mod Placed
+pub mod Known

@@ -37,9 +37,8 @@ use Rattle.rv_pieces.specs.declared.piece.Pieces.{Pieces}
 use Rattle.selection_rules.specs.Select.{selected}
 use Rattle.line_stands.specs.Lines.{Nowhere}
 use Rattle.line_stands.specs.Parts.{PartStands}
-use Rattle.line_calls.proofs.Every.{every_branch, every_entry, every_line}
-use Rattle.line_calls.specs.Laws.{frame_in}
-use Rattle.line_calls.specs.Points.{IsReadyFor, before_service}
+use Rattle.function_stands.proofs.Known.{every_branch, every_entry, every_line}
+use Rattle.function_stands.specs.Known.{frame_in, IsReadyFor, before_service}
 use Rattle.emit_rules.specs.Entry.{entry, frame_of}
 use Rattle.emit_rules.specs.Units.{is_branch, is_free, owed_before}
 use Rattle.linear_machine.specs.Arrival.{ArrivesIn}
@@ -59,7 +58,7 @@ use Rattle.function_stands.specs.Functions.{FunctionStands, entry_place}
 use Rattle.function_stands.proofs.Acting.{some_word}
 use Rattle.function_stands.proofs.Entries.{entry_offset}
 use Rattle.function_stands.proofs.Whole.{function_stands}
-use Rattle.accepted_files.proofs.Defined.{given_data}
+use Rattle.first_statics.proofs.Known.{given_data}
 use Rattle.function_stands.proofs.Laid.{has_functions}
 use Rattle.first_statics.proofs.First.{data_ends, first_lies, first_stands}
 use Rattle.frame_names.specs.Names.{names_by}

@@ -7,3 +7,4 @@ pub mod Bytes
 pub mod Serving
 pub mod Correct
 pub mod Laid
+pub mod Known

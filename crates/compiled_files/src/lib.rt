@@ -26,7 +26,7 @@ ghost use Rattle.lin_ir.specs.Formed.{WellFormed};
 ghost use Rattle.lin_ir.specs.Meaning.{NamedAt, State};
 ghost use Rattle.lin_ir.specs.declared.lin.Lin.{Lin};
 ghost use Rattle.lin_ir.specs.declared.lin.Line.{Line};
-ghost use Rattle.line_calls.specs.Points.{IsReadyFor};
+ghost use Rattle.function_stands.specs.Known.{IsReadyFor};
 ghost use Rattle.line_stands.specs.Lines.{Nowhere};
 ghost use Rattle.linear_machine.proofs.Beginning.{nothing_below};
 ghost use Rattle.linear_machine.specs.Relation.{Laid};

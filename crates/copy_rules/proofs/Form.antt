@@ -17,7 +17,7 @@ use Rattle.mach_ir.specs.declared.mach.Instr.{Instr}
 use Rattle.mach_ir.specs.declared.mach.Mach.{Mach}
 use Rattle.mach_laws.specs.Expand.{expand, KeepsMarks}
 use Rattle.mach_laws.proofs.Places.{stands_behind, args_in, results_in}
-use Rattle.split_rules.proofs.Formed.{contains_of}
+use Rattle.repeat_rules.proofs.Known.{contains_of}
 use Rattle.repeat_rules.proofs.OneForOne as one
 use Rattle.repeat_rules.proofs.OneForOne.{in_append, in_code_stands, same_op, StandsFor, both, each_in, all_in, before_of, same_length, same_labels}
 

@@ -18,7 +18,7 @@ use Rattle.mach_ir.specs.declared.mach.Mach.{Mach}
 use Rattle.mach_laws.specs.Expand.{Ending, all, expand}
 use Rattle.mach_laws.proofs.Places.{stands_of, ending_of, args_in}
 use Rattle.mach_laws.proofs.Among.{number_among, among_of}
-use Rattle.split_rules.proofs.Formed.{contains_of, stands_in}
+use Rattle.repeat_rules.proofs.Known.{contains_of, stands_in}
 use Rattle.repeat_rules.specs.Repeated.{allocates}
 use Rattle.repeat_rules.proofs.OneForOne as one
 use Rattle.repeat_rules.proofs.OneForOne.{in_append, in_front, both}

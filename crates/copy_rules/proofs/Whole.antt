@@ -12,7 +12,7 @@ use Rattle.mach_ir.specs.declared.reg.Reg.{Reg}
 use Rattle.mach_ir.specs.declared.mach.MachOp.{MachOp}
 use Rattle.mach_ir.specs.declared.mach.Instr.{Instr}
 use Rattle.mach_ir.specs.declared.mach.Mach.{Mach}
-use Rattle.split_rules.proofs.Formed.{contains_of, stands_in}
+use Rattle.repeat_rules.proofs.Known.{contains_of, stands_in}
 use Rattle.repeat_rules.specs.Kept.{OwnOrigins}
 use Rattle.repeat_rules.proofs.OneForOne as one
 use Rattle.repeat_rules.proofs.OneForOne.{both}

@@ -3,3 +3,4 @@ pub mod Correct
 pub mod Measures
 pub mod Bounds
 pub mod InNeed
+pub mod Known

@@ -4,3 +4,4 @@ pub mod Reach
 pub mod Rows
 pub mod Spread
 pub mod Sweep
+pub mod Known

@@ -23,8 +23,7 @@ use Rattle.mach_laws.proofs.Level as level
 use Rattle.mach_laws.proofs.Places.{tries_expand, ending_next, ending_label, ending_land, stands_of}
 use Rattle.mach_laws.proofs.Simulate.{Agrees}
 use Rattle.mach_laws.proofs.Among.{split_among}
-use Rattle.places_rules.proofs.Files.{values_same, past_same, cleared, not_cleared, among_or_not, PutsBoth, put_both}
-use Rattle.places_rules.proofs.Raised.{IsRaised, Told, told_jump, told_unwind, told_ask, IsSilent, told, label_silent, try_silent}
+use Rattle.split_rules.proofs.Known.{values_same, past_same, cleared, not_cleared, among_or_not, PutsBoth, put_both, IsRaised, Told, told_jump, told_unwind, told_ask, IsSilent, told, label_silent, try_silent}
 use Rattle.split_rules.proofs.Formed.{contains_of}
 use Rattle.dead_rules.specs.Dropped.{may_go, IsUsed, on, aside, without, dropped, AreDead}
 use Rattle.dead_rules.proofs.Live.{used_live, label_is, handler_is, none_killed, lift, live_back, across_back, was_register, used_by}

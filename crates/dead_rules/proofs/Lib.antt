@@ -2,3 +2,4 @@ pub mod Text
 pub mod Live
 pub mod Kept
 pub mod Whole
+pub mod Known

@@ -9,11 +9,11 @@ use Rattle.lin_ir.specs.declared.lin.Lin.{Lin}
 use Rattle.linear_pass.specs.Linear.{IsLinearOf}
 use Rattle.linear_pass.proofs.Once.{linear_once}
 use Rattle.mach_ir.specs.declared.mach.Mach.{Mach}
-use Rattle.mach_passes.proofs.Whole.{one_without_repeats, one_cleaned, one_with_slots, one_prepared}
-use Rattle.mach_passes.specs.Stages.{HasSlots}
+use Rattle.prepare.proofs.Known.{one_without_repeats, one_cleaned, one_with_slots, one_prepared}
+use Rattle.prepare.specs.Known.{HasSlots}
 use Rattle.file_promise.specs.Made.{IsFunctionMade}
-use Rattle.rounds_rules.specs.Rounds.{IsAllocated}
-use Rattle.rounds_rules.proofs.Once.{allocated_once}
+use Rattle.reg_rounds.specs.Known.{IsAllocated}
+use Rattle.reg_rounds.proofs.Known.{allocated_once}
 use Rattle.rv_pieces.specs.declared.piece.Pieces.{Pieces}
 use Rattle.selection_rules.specs.Select.{selected}
 use Rattle.stages.specs.declared.stage.Stage.{Stage}

@@ -13,19 +13,17 @@ use Rattle.mach_ir.specs.Placed.{WellPlaced}
 use Rattle.mach_ir.specs.Sizes.{HasRoom}
 use Rattle.mach_ir.specs.Text.{mach_text}
 use Rattle.mach_ir.specs.declared.mach.Mach.{Mach}
-use Rattle.mach_passes.specs.Prepared.{IsPreparable, IsPrepared, prepared_size}
+use Rattle.prepare.specs.Known.{IsPreparable, IsPrepared, prepared_size}
 use Rattle.file_promise.specs.Made.{IsFunctionMade}
 use Rattle.file_promise.proofs.Bounds.{IsPlacedFor, HasLineRoom}
 use Rattle.file_promise.proofs.Bounds.{selected_preparable, selected_room, ready, prepared_room, carried, placed_for, line_room}
 use Rattle.places_rules.specs.Places.{ColoursLow}
-use Rattle.rounds_rules.specs.Rounds.{IsAllocatedIn, IsAllocated, allocated_size}
+use Rattle.reg_rounds.specs.Known.{IsAllocatedIn, IsAllocated, allocated_size}
 use Rattle.rv_pieces.specs.declared.piece.Pieces.{Pieces}
 use Rattle.selection_rules.specs.Select.{selected}
 use Rattle.selection_places.proofs.Placed.{selected_low}
-use Rattle.selection_promise.specs.Selects.{IsAccepted}
-use Rattle.selection_accepted.proofs.Promised.{function_accepted}
-use Rattle.selection_accepted.proofs.Room.{IsSelectable, selectable}
-use Rattle.selection_accepted.proofs.Selecting.{definitions}
+use Rattle.file_promise.specs.Known.{IsAccepted}
+use Rattle.file_promise.proofs.Known.{function_accepted, IsSelectable, selection_room, definitions}
 use Rattle.file_compile.specs.Accepted.{IsAcceptedFunction}
 use Rattle.file_compile.specs.Listed.{IsAllocatedFor, IsTextOf}
 
@@ -89,7 +87,7 @@ module _ (tree : FunctionTree) (accepted : IsAcceptedFunction tree) (mach : Mach
 -- a function of an accepted file can be selected
 pub can_be_selected : (tree : FunctionTree) → IsAcceptedFunction tree → IsSelectable tree
 can_be_selected tree accepted =
-    selectable (definitions accepted.file) tree (function_accepted accepted.of_file.text accepted.file accepted.of_file.is_file tree accepted.among)
+    selection_room (definitions accepted.file) tree (function_accepted accepted.of_file.text accepted.file accepted.of_file.is_file tree accepted.among)
 
 -- what is allocated for a function is placed for it
 pub allocated_placed : (tree : FunctionTree) → IsAcceptedFunction tree → (m : Mach) → IsAllocatedFor tree m → IsPlacedFor tree m

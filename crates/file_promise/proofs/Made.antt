@@ -3,7 +3,7 @@ use Rattle.std.proofs.Common.{◌≡◌, ℕ, zero, suc, List, [], ◌∷◌, So
 use Rattle.std.specs.Prelude.{Contains, slice_get, ◌<◌, ◌^◌}
 use Rattle.std.specs.List.{AllByRecursion, AllZip}
 use Rattle.std.proofs.lemmas.Option.{none-some, same_Some}
-use Rattle.accepted_files.proofs.Files.{file_can}
+use Rattle.compiled_files.proofs.Known.{file_can, function_accepted, definitions}
 use Rattle.code_bounds.proofs.Known.{chained}
 use Rattle.cmm_front.specs.FileOf.{IsFileOf}
 use Rattle.cmm_tree.specs.Tree.{FunctionTree, FileTree, functions}
@@ -23,8 +23,6 @@ use Rattle.layout_rules.specs.Conditions.{CanBeLaid, IsFunctionLaid}
 use Rattle.compiled_files.specs.Made.{IsChained}
 use Rattle.compiled_files.specs.Made.{IsFunctionMade}
 use Rattle.rv_pieces.specs.declared.piece.Pieces.{Pieces}
-use Rattle.selection_accepted.proofs.Promised.{function_accepted}
-use Rattle.selection_accepted.proofs.Selecting.{definitions}
 
 module _ (text : List ℕ) (file : FileTree) (is : IsFileOf text file) where
   function_chained : (tree : FunctionTree) → Contains (functions file) tree → (p : Pieces) → (made : IsFunctionMade tree p) →

@@ -17,3 +17,4 @@ pub mod Rows
 pub mod Points
 pub mod Whole
 pub mod Laid
+pub mod Known

@@ -1,3 +1,4 @@
 pub mod Compiled
 pub mod Functions
 pub mod Made
+pub mod Known

@@ -167,6 +167,6 @@ pub fn spread(
         let node = visit(alloc, lin, labels, search, number)?;
         nodes.push(node)?;
     }
-    // As many were visited as there are numbers, so these are all.
+    // As many were visited as positions can have numbers, so these are all.
     Ok(())
 }

@@ -103,7 +103,8 @@ impl Search {
         None
     }
 
-    /// Gives the position a number of its own. That none is left counts as want of memory.
+    /// Gives the position a number of its own. That more than 32 bits count are wanted is answered as want of
+    /// memory: a function whose loops push traps has no end of positions.
     fn add(&mut self, alloc: Global, place: u32, tries: &[u32]) -> Result<u32, AllocError>
         requires { place < length (groups_of self.old) }
         ensures { IfOk result (λ number.

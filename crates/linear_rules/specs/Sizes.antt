@@ -22,5 +22,6 @@ tries_ended (i ∷ is) = tries_ended_by i.op + tries_ended is
 pub record HasLineRoom (p : Mach) : Type 0 where
   -- for its slots, after those of the registers
   pub slots : limit_of (slots_of p) + 32 < number_limit
-  -- for its lines, and for its labels with two new ones for each line
+  -- for its lines, and for its labels with two new ones for each line: once loops are turned round, an
+  -- instruction has become at most five lines, and an exit one more for each try that it ends
   pub labels : p.labels + 2 * (5 * length p.code + tries_ended p.code) + 2 < number_limit

@@ -10,6 +10,7 @@ use Rattle.tidy_rules.specs.Turning.{next_free, turned_all}
 abbrev pub HasLabels : Lin → Type 0
 HasLabels m = suc (next_free (labels_in m.code) + 2 * length m.code) < number_limit
 
+-- There are numbers of 32 bits for all that the function becomes as it is made tidy.
 pub record HasRoom (m : Lin) : Type 0 where
   pub labels : HasLabels m
   -- for the lines when loops are turned round

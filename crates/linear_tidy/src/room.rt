@@ -6,10 +6,11 @@ use crate::turning::first_free;
 use lin_flow::lines::REGISTERS;
 use lin_ir::Lin;
 
-/// So many lines, each of which may become four, have no numbers.
+/// Fewer lines than so many have numbers of 32 bits when each becomes four, the most that turning loops
+/// makes of one.
 const LINES: usize = 1073741824;
 
-/// Whether there are numbers for the function's labels and slots, and for what its lines become.
+/// Whether there are numbers for the function's labels and slots, and for the lines that its lines become.
 pub fn has_room(lin: &Lin) -> bool
     ensures { IsTrue result → HasRoom lin.now }
 {

@@ -2,7 +2,7 @@
 use Rattle.std.specs.Prelude.{◌≡◌, ◌↔◌, ℕ, suc, ◌+◌, ◌<◌, Bool, true, cond, nat_eq, List, [], ◌∷◌, ◌++◌, drop, length, map, slice_index_or, All, AllPairs, Contains}
 use Rattle.bs_words.specs.declared.types.Loc.{Loc}
 use Rattle.bs_words.specs.declared.types.Loc.TheVariants as loc
-use Rattle.bs_bits.specs.Set.{has}
+use Rattle.dataflow.specs.Known.{has}
 use Rattle.dataflow.specs.Rows.{row}
 use Rattle.mach_ir.specs.Placed.{Colouring, PlacesAgree, IsColouring, NoNeedlessSlot}
 use Rattle.mach_ir.specs.Walks.{Live, IsRegister, Joined}

@@ -26,12 +26,12 @@ pub record HasSize (m : Mach) (s : Size) : Type 0 where
   pub origins : (r : Reg) → IsRegister m r → r.origin < s.registers
   pub labels : m.labels ≤ s.labels
 
--- every number of a pass fits its type
+-- numbers of 32 bits are below this
 abbrev pub number_limit : ℕ
 number_limit = 4294967296
 
--- So do the places of a code, of which one comes after its last instruction, and the numbers of all
--- that is counted.
+-- There are numbers of 32 bits for the places of a code, of which one comes after its last instruction,
+-- for its operands and results, for its registers and for its labels.
 pub record IsSmall (s : Size) : Type 0 where
   pub places : suc s.instrs < number_limit
   pub operands : s.operands < number_limit

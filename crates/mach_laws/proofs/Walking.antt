@@ -1,9 +1,7 @@
 -- What is live by the flow graph of a function is what is live by its walks.
 use Rattle.std.proofs.Common.{◌≡◌, ◌↔◌, ℕ, zero, suc, ◌-◌, ◌≤◌, Bool, true, false, ◌⊎◌, inl, inr, ⊎_elim, List, [], ◌∷◌, length, map, drop, refl, sym, ap, ◌∙◌, subst, arith}
 use Rattle.std.specs.List.{Contains}
-use Rattle.dataflow.specs.Flow.{Graph, graph, ReadsIn, LiveBefore}
-use Rattle.dataflow.specs.Live.{IsLiveness}
-use Rattle.dataflow.specs.declared.flow.Flow as flow
+use Rattle.mach_ir.specs.Known.{Graph, graph, ReadsIn, LiveBefore, IsLiveness, Flow}
 use Rattle.mach_ir.specs.Acts.{Target, On, At}
 use Rattle.mach_ir.specs.Graph.{IsLiveMap}
 use Rattle.mach_ir.specs.Meaning.{code_at, from_handler, tries_at, written}
@@ -162,7 +160,7 @@ module _ (m : Mach) where
 
   -- ---- tables
 
-  module _ (f : flow.Flow) (is : IsFlowOf m f) (r : ℕ) where
+  module _ (f : Flow) (is : IsFlowOf m f) (r : ℕ) where
     to_graph : (n p : ℕ) → ReadsIn (graph f) r n p → ReadsIn g r n p
     to_graph zero p h = subst (λ xs. Contains xs r) (is.reads p) h
     to_graph (suc n) p h =
@@ -186,7 +184,7 @@ module _ (m : Mach) where
         (λ s. inr (s.0, subst (λ xs. Contains xs s.0) (sym (is.aside p)) s.1, from_graph n s.0 s.2)) h
 
   -- The answer of liveness on the table of a function is its live map.
-  pub live_map : (f : flow.Flow) → IsFlowOf m f → (live : LiveMap) → IsLiveness f live.before.rows.items → IsLiveMap m live
+  pub live_map : (f : Flow) → IsFlowOf m f → (live : LiveMap) → IsLiveness f live.before.rows.items → IsLiveMap m live
   live_map f is live h =
       record {
         len = h.len ∙ is.places;

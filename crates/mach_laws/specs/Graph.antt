@@ -1,8 +1,7 @@
 -- The flow graph of a Mach function, in the shape in which liveness is solved.
 use Rattle.std.specs.Prelude.{◌≡◌, ℕ, suc, ◌-◌, Bool, true, false, List, [], ◌∷◌, drop, length, map}
 use Rattle.bs_words.specs.Contents.{contents}
-use Rattle.dataflow.specs.Flow.{Graph, graph}
-use Rattle.dataflow.specs.declared.flow.Flow as flow
+use Rattle.mach_ir.specs.Known.{Graph, graph, Flow}
 use Rattle.mach_ir.specs.Meaning.{code_at, from_handler, tries_at, written}
 use Rattle.mach_ir.specs.Walks.{targets, may_raise}
 use Rattle.mach_ir.specs.declared.reg.Reg.{Reg}
@@ -51,7 +50,7 @@ flow_graph m =
     }
 
 -- a table of places that is the flow graph of a function
-pub record IsFlowOf (m : Mach) (f : flow.Flow) : Type 0 where
+pub record IsFlowOf (m : Mach) (f : Flow) : Type 0 where
   pub places : length (contents f.places) ≡ suc (length m.code)
   pub next : (p : ℕ) → (graph f).next p ≡ (flow_graph m).next p
   pub aside : (p : ℕ) → (graph f).aside p ≡ (flow_graph m).aside p

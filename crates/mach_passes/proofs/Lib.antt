@@ -7,3 +7,4 @@ pub mod Repeated
 pub mod Propagated
 pub mod Dropped
 pub mod Combined
+pub mod Known

@@ -5,7 +5,7 @@ use Rattle.mach_ir.specs.Sizes.{Size, IsSmall, HasRoom, IsCountable}
 use Rattle.mach_ir.specs.declared.mach.Mach.{Mach}
 use Rattle.mach_passes.specs.Prepared.{IsPreparable, prepared_size}
 use Rattle.mach_passes.specs.Stages.{HasNoRepeats, IsCleaned, IsReadied, HasSlots}
-use Rattle.spill_rules.specs.Chosen.{spilled_size}
+use Rattle.sink_rules.specs.Known.{spilled_size}
 use Rattle.split_rules.specs.Split.{split_size}
 use Rattle.mach_passes.proofs.Whole.{IsStage, stage_then, sunk_size, hoist_stage, repeats_stage, small_stage, ready_stage, slots_stage}
 

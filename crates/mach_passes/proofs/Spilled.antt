@@ -28,11 +28,8 @@ use Rattle.pass_rules.proofs.Carried.{ends_second}
 use Rattle.places_rules.proofs.Open.{slot_open}
 use Rattle.places_rules.specs.Places.{ColoursLow}
 use Rattle.split_rules.proofs.Formed.{contains_of, stands_in}
-use Rattle.spill_rules.specs.Chosen.{IsSpilled, ParamsPlaced, IsNeededSlot, IsChosenKept}
-use Rattle.spill_rules.specs.Spilled.{Plan, in_slot, copied, reload, spill, reloads_of, spills_of, operands_of, results_of, spilled_instr, spilled}
-use Rattle.spill_rules.proofs.Chosen.{spilled_kept}
-use Rattle.spill_rules.proofs.Formed.{IsCopy, is_reload, is_spill, IsMain, was_main}
-use Rattle.spill_rules.proofs.Text.{keeps_marks}
+use Rattle.sink_rules.specs.Known.{IsSpilled, ParamsPlaced, IsNeededSlot, IsChosenKept, Plan, in_slot, copied, reload, spill, reloads_of, spills_of, operands_of, results_of, spilled_instr, spilled}
+use Rattle.sink_rules.proofs.Known.{spilled_kept, IsCopy, is_reload, is_spill, IsMain, was_main, keeps_marks}
 
 -- ---- copies alone
 

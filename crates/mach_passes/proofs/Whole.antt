@@ -32,8 +32,8 @@ use Rattle.sink_rules.proofs.Chosen as sinking
 use Rattle.sink_rules.proofs.Chosen.{one_sunk}
 use Rattle.sink_rules.specs.Chosen.{IsSunk}
 use Rattle.sink_rules.specs.Sunk as sinks
-use Rattle.spill_rules.proofs.Chosen.{spilled_kept, one_spilled, seated_params}
-use Rattle.spill_rules.specs.Chosen.{ParamsPlaced, IsSpilled, IsChosenKept, spilled_size}
+use Rattle.sink_rules.proofs.Known.{spilled_kept, one_spilled, seated_params}
+use Rattle.sink_rules.specs.Known.{ParamsPlaced, IsSpilled, IsChosenKept, spilled_size}
 use Rattle.split_rules.proofs.One.{one_split}
 use Rattle.split_rules.proofs.Whole.{split_kept}
 use Rattle.split_rules.specs.Split.{IsSplit, split_size}

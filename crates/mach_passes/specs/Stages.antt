@@ -6,7 +6,7 @@ use Rattle.hoist_rules.specs.Chosen.{HasConstantsFirst}
 use Rattle.mach_ir.specs.declared.mach.Mach.{Mach}
 use Rattle.repeat_rules.specs.Repeated.{IsRepeated}
 use Rattle.sink_rules.specs.Chosen.{IsSunk}
-use Rattle.spill_rules.specs.Chosen.{IsSpilled}
+use Rattle.sink_rules.specs.Known.{IsSpilled}
 
 -- The second is the first with operands read from what they are copies of, and then moves for repeats.
 pub record IsCommoned (m q : Mach) : Type 0 where

@@ -16,7 +16,8 @@ wide parameters s =
       registers = 2 * s.registers + (3 * s.operands + parameters);
     }
 
--- what is tested
+-- what is tested for: at most so many instructions, operands and results, parameters and labels, and lower
+-- numbers of registers and of their origins
 abbrev pub most : ℕ
 most = 536870912
 

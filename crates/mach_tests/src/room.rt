@@ -47,7 +47,7 @@ fn is_short(mach: &Mach) -> bool
     mach.code.len() <= most && mach.params.len() <= most && mach.labels <= MOST
 }
 
-/// Whether the code has no more operands and results than those.
+/// Whether the code has at most `MOST` operands and results.
 fn has_few_operands(code: &[Instr]) -> bool
     ensures { IsTrue result → operand_count code.now ≤ most }
 {
@@ -68,8 +68,8 @@ fn has_few_operands(code: &[Instr]) -> bool
 }
 
 /// Whether there are numbers for all that spilling, splitting, and splitting after spilling make of the
-/// function, and so for what it has: 2^29 at the most of instructions, of operands and results, of
-/// parameters and of labels, and lower numbers of registers.
+/// function, and so for what it has. Answers yes only where it has at most 2^29 instructions, operands and
+/// results, parameters and labels, and lower numbers of registers.
 pub fn has_room(mach: &Mach) -> bool
     ensures { IsTrue result → HasRoom (wide (length mach.now.params)) mach.now }
 {

@@ -6,7 +6,7 @@ use Rattle.std.proofs.lemmas.Bool.{and_parts, leb-true}
 use Rattle.bs_words.specs.Observed.{Made}
 use Rattle.bs_words.specs.declared.types.Ret.{Ret}
 use Rattle.bs_words.specs.declared.types.Ret.TheVariants as returns
-use Rattle.image_form.specs.Tables.{Ext}
+use Rattle.rv_machine.specs.Known.{Ext}
 use Rattle.rv_isa.specs.Registers.{a0, s1, s10, sp}
 use Rattle.rv_machine.specs.Allocation.{after_request, allocated, blocks_at_request, bytes_asked, is_request, young_from}
 use Rattle.rv_machine.specs.FrameCalls.{collected, has_trap_frame, raised, with_answer}

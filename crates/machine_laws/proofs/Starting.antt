@@ -2,8 +2,7 @@
 use Rattle.std.proofs.Common.{◌≡◌, ℕ, zero, suc, ◌+◌, ◌-◌, ◌*◌, ◌/◌, ◌%◌, ◌^◌, ◌<◌, ◌≤◌, List, [], ◌∷◌, ◌++◌, length, map, replicate, refl, ap, ◌∙◌, arith, length-append}
 use Rattle.std.specs.List.{AllByRecursion}
 use Rattle.std.proofs.lemmas.List.{length-replicate}
-use Rattle.image_form.specs.Image.{AreTables}
-use Rattle.image_form.specs.Tables.{Tables, Func}
+use Rattle.rv_machine.specs.Known.{AreTables, Tables, Func}
 use Rattle.rv_machine.proofs.Bytes64.{words_cover}
 use Rattle.rv_machine.specs.Loading.{IsRoom}
 use Rattle.rv_machine.specs.Memory.{code_start, number_of, words_of_bytes}

@@ -5,16 +5,14 @@ use Rattle.lin_ir.specs.Descriptors.{AreExact}
 use Rattle.lin_ir.specs.declared.descr.Descr.{Descr}
 use Rattle.lin_ir.specs.declared.lin.Lin.{Lin}
 use Rattle.lin_laws.proofs.Unique.{exact_unique}
-use Rattle.linear_pass.specs.Linear.{IsLinearOf}
-use Rattle.linear_pass.proofs.Once.{linear_once}
+use Rattle.made_functions.specs.Known.{IsLinearOf, IsAllocated}
+use Rattle.made_functions.proofs.Known.{linear_once, allocated_once}
 use Rattle.mach_ir.specs.declared.mach.Mach.{Mach}
 use Rattle.emit_rules.specs.Emitted.{IsEmitted}
 use Rattle.emit_rules.proofs.Once.{emitted_once}
 use Rattle.rv_pieces.specs.declared.piece.Pieces.{Pieces}
 use Rattle.made_functions.specs.Made.{IsMadeOf}
 use Rattle.made_functions.proofs.Prepared.{one_prepared}
-use Rattle.rounds_rules.specs.Rounds.{IsAllocated}
-use Rattle.rounds_rules.proofs.Once.{allocated_once}
 use Rattle.selection_rules.specs.Select.{selected}
 
 module _ {tree : FunctionTree} {m n : Lin} {ds es : List Descr} {p q : Pieces} (h : IsMadeOf tree m ds p) (k : IsMadeOf tree n es q) where

@@ -8,8 +8,7 @@ use Rattle.bs_words.specs.declared.values.Kind.TheVariants.{BadValue}
 use Rattle.bs_words.specs.declared.values.Value.{Value}
 use Rattle.bs_words.specs.declared.values.Value.TheVariants as value
 use Rattle.cmm_tree.specs.Tree.{Expression, Integer, Pointer, Symbol, Name, Nothing, Float, Let, Assign, Operator, Load, Store, Alloc, App, Extcall, Checkbound, Raise, Seq, If, Switch, Catch, Exit, Try, Expressions, NoMore, More, Bindings, NoBinding, Bind, Cases, NoCase, Choose, Handlers, NoHandler, Handle}
-use Rattle.cmm_types.specs.Light.{is_light_address}
-use Rattle.cmm_types.specs.Types.{Scoped, type_of, type_named, type_bound, is_mutable}
+use Rattle.cmm_meaning.specs.Known.{is_light_address, Scoped, type_of, type_named, type_bound, is_mutable}
 use Rattle.cmm_meaning.specs.State.{Called, World, Here, taken, within_try, scope, value_of, deepened}
 use Rattle.cmm_meaning.specs.Evaluation.{Evaluation, Surroundings, is_left_first, first_of, rest_of, row_of_call, with_bound, evaluated, waiting, filled, entering, in_order, choices, readied}
 use Rattle.meaning_fuel.proofs.Alike.{stopped_improper, Alike, Same, Agree, with_calls, alike_then, alike_value, alike_cond, alike_gives, alike_stop, alike_tested, alike_proper, alike_same, alike_node, alike_both, alike_unless, alike_now, alike_applied, alike_external}

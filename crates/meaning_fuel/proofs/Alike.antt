@@ -13,7 +13,7 @@ use Rattle.bs_words.specs.declared.values.Kind.TheVariants.{BadCall}
 use Rattle.bs_words.specs.declared.values.Value.{Value}
 use Rattle.bs_words.specs.declared.values.Value.TheVariants as value
 use Rattle.cmm_tree.specs.Tree.{Expression}
-use Rattle.cmm_types.specs.Types.{type_of}
+use Rattle.cmm_meaning.specs.Known.{type_of}
 use Rattle.cmm_meaning.specs.State.{Called, World, Here, scope}
 use Rattle.cmm_meaning.specs.Evaluation.{Stop, OutOfFuel, NotProper, NoAnswer, Asking, Evaluated, Evaluation, Gives, Exits, Raises, Stops, Surroundings, and_then, only_value, with_value, proper, spend, node, of_type, tested, typed, both, unless_light, now_or_before, back_from_call, as_written, called_with, applied, call_from, fit_parameters}
 

@@ -1,7 +1,7 @@
 -- What stands round an expression in the run of a whole file. How deep calls may nest is not asked: a depth
 -- past the units that are left is as good as any.
 use Rattle.std.specs.Prelude.{suc, map}
-use Rattle.cmm_data.specs.Placement.{data_end, value_of_symbol}
+use Rattle.cmm_meaning.specs.Known.{data_end, value_of_symbol}
 use Rattle.cmm_tree.specs.Tree.{FileTree, functions, comps_of}
 use Rattle.cmm_meaning.specs.Layout.{Layout}
 use Rattle.cmm_meaning.specs.Evaluation.{Surroundings}

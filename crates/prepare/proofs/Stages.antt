@@ -4,13 +4,12 @@ use Rattle.combine_rules.proofs.Formed.{combined_formed}
 use Rattle.combine_rules.specs.Combined.{combined}
 use Rattle.copy_rules.specs.Propagated.{IsPropagated}
 use Rattle.dead_rules.specs.Dropped.{IsDropped}
-use Rattle.hoist_rules.proofs.Chosen.{constants_first_kept}
-use Rattle.hoist_rules.specs.Chosen.{HasConstantsFirst}
+use Rattle.mach_passes.proofs.Known.{constants_first_kept}
+use Rattle.mach_passes.specs.Known.{HasConstantsFirst, IsSunk}
 use Rattle.mach_ir.specs.Formed.{WellFormed}
 use Rattle.mach_ir.specs.Placed.{WellPlaced}
 use Rattle.mach_ir.specs.declared.mach.Mach.{Mach}
 use Rattle.repeat_rules.specs.Repeated.{IsRepeated}
-use Rattle.sink_rules.specs.Chosen.{IsSunk}
 use Rattle.spill_rules.specs.Chosen.{IsSpilled}
 use Rattle.split_rules.specs.Split.{IsSplit}
 use Rattle.mach_passes.specs.Prepared.{IsPreparable, IsPrepared}

@@ -2,7 +2,7 @@
 use Rattle.std.proofs.Common.{◌≡◌, ℕ, suc, ◌+◌, ◌<◌, ◌≤◌, Bool, true, false, subst, arith}
 use Rattle.mach_ir.specs.declared.mach.Mach.{Mach}
 use Rattle.places_rules.specs.Places.{rest_in_slots}
-use Rattle.reload_rules.specs.Reloaded.{IsFree}
+use Rattle.rounds_rules.specs.Known.{IsFree}
 use Rattle.rounds_rules.specs.Rounds.{IsRound, Asked, one_more, most_rounds, Ends, asks_no_more, gives_up, IsAllocatedIn}
 
 plus_one : (n : ℕ) → suc n ≡ n + 1

@@ -22,7 +22,7 @@ use Rattle.mach_ir.specs.declared.mach.Instr.{Instr}
 use Rattle.mach_ir.specs.declared.mach.Mach.{Mach}
 use Rattle.mach_laws.specs.Expand.{expand, KeepsMarks}
 use Rattle.mach_laws.proofs.Places.{args_in, results_in}
-use Rattle.split_rules.proofs.Formed.{contains_of, stands_in}
+use Rattle.combine_rules.proofs.Known.{contains_of, stands_in}
 use Rattle.repeat_rules.specs.Repeated.{is_operator, Repeats, from_earlier, again, in_place, IsBefore, IsRepeated, IsFormKept}
 use Rattle.repeat_rules.proofs.OneForOne as one
 use Rattle.repeat_rules.proofs.OneForOne.{in_append, in_front, in_code_stands, IsPure, is_pure, same_op, both_pure, StandsFor, IsMain, was_main, each_in, all_in, before_of, same_length, same_labels}

@@ -28,7 +28,7 @@ use Rattle.mach_laws.proofs.Places.{label_expand, handler_expand, tries_expand, 
 use Rattle.mach_laws.proofs.Walking.{ending_at}
 use Rattle.mach_laws.proofs.Simulate.{Agrees}
 use Rattle.repeat_rules.specs.Kept.{OwnOrigins}
-use Rattle.split_rules.proofs.Formed.{contains_of, stands_in}
+use Rattle.combine_rules.proofs.Known.{contains_of, stands_in}
 
 -- ---- lists
 

@@ -14,7 +14,7 @@ use Rattle.mach_ir.specs.declared.mach.MachOp.{MachOp}
 use Rattle.mach_ir.specs.declared.mach.MachOp.TheVariants as mach
 use Rattle.mach_ir.specs.declared.mach.Instr.{Instr}
 use Rattle.mach_ir.specs.declared.mach.Mach.{Mach}
-use Rattle.split_rules.proofs.Formed.{contains_of, stands_in}
+use Rattle.combine_rules.proofs.Known.{contains_of, stands_in}
 use Rattle.repeat_rules.specs.Kept.{OwnOrigins, IsKept}
 use Rattle.repeat_rules.specs.Repeated.{is_operator, same_place, Repeats, again, with_moves, IsBefore, IsRepeated, IsFormKept}
 use Rattle.repeat_rules.proofs.OneForOne as one

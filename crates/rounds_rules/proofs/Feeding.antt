@@ -16,7 +16,7 @@ use Rattle.pass_rules.proofs.Words.{at_most_copy, words_append}
 use Rattle.places_rules.specs.Places.{Placing, placed, all_placed, placed_instr, placed_code}
 use Rattle.places_rules.proofs.Open.{machine_open, slot_open, machine_slot, same_slot}
 use Rattle.reload_rules.specs.Reloaded.{is_in_slot, is_renewed, fresh, renewed, reloads, spills}
-use Rattle.spill_rules.specs.Spilled.{copied}
+use Rattle.reload_rules.specs.Known.{copied}
 
 -- ---- placings
 

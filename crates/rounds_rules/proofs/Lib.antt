@@ -3,3 +3,4 @@ pub mod Grown
 pub mod Kept
 pub mod Graphs
 pub mod Once
+pub mod Known

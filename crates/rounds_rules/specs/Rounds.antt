@@ -37,8 +37,8 @@ pub data Asked (fresh : ℕ) (first : Mach) : ℕ → Mach → Type 0 where
 abbrev pub most_rounds : ℕ
 most_rounds = 50
 
--- How large a function is after all rounds: a round adds a copy and a register for an operand or result
--- that stands in a slot, and no copy asks for another.
+-- How large a function is at most after all rounds: a round adds at most a copy and a register for each
+-- operand or result, where it stands in a slot, and no copy asks for another.
 abbrev pub allocated_size : Size → Size
 allocated_size s = with_copies (most_rounds * s.operands) s
 

@@ -19,3 +19,4 @@ pub mod Loading
 pub mod Sound
 pub mod Run
 pub mod Text
+pub mod Known

@@ -10,7 +10,7 @@ use Rattle.cmm_limits.specs.Limits as limits
 use Rattle.cmm_tree.specs.Measures.{counts_one, row_total, bindings_total, cases_total, handlers_total, nodes_in}
 use Rattle.cmm_tree.specs.Symbols.{DefinedSymbol}
 use Rattle.cmm_tree.specs.Tree.{FunctionTree, FileTree, functions, Expression, Integer, Pointer, Symbol, Name, Nothing, Float, Let, Assign, Operator, Load, Store, Alloc, App, Extcall, Checkbound, Raise, Seq, If, Switch, Catch, Exit, Try, Expressions, NoMore, More, Bindings, NoBinding, Bind, Cases, NoCase, Choose, Handlers, NoHandler, Handle}
-use Rattle.selection_laws.proofs.Accepting.{left, right, holds_if}
+use Rattle.selection_promise.proofs.Known.{left, right, holds_if}
 use Rattle.selection_promise.specs.Selects.{IsAccepted}
 use Rattle.selection_promise.proofs.Promised.{few_tokens, narrow_body}
 use Rattle.selection_accepted.proofs.Promised.{function_accepted}
@@ -68,8 +68,8 @@ mutual
   few_handlers (Handle at label params body rest) l = omega (arith, few_indexes body (left l), few_handlers rest (right l))
 
 -- Each function that the front accepts can be selected.
-pub selectable : (defined : List ℕ → Option DefinedSymbol) (f : FunctionTree) → IsAccepted defined f → IsSelectable f
-selectable defined f is =
+pub selection_room : (defined : List ℕ → Option DefinedSymbol) (f : FunctionTree) → IsAccepted defined f → IsSelectable f
+selection_room defined f is =
     let kept = is.checked.limits_kept in
     let narrow = narrow_body f is.covered in
     let few = few_tokens f kept in
@@ -80,4 +80,4 @@ selectable defined f is =
 pub file_selectable : (text : List ℕ) (file : FileTree) → IsFileOf text file → All IsSelectable (functions file)
 file_selectable text file is k d within =
     let f = get_or (functions file) k d in
-    selectable (definitions file) f (function_accepted text file is f (Contains-get_or (functions file) k d within))
+    selection_room (definitions file) f (function_accepted text file is f (Contains-get_or (functions file) k d within))

@@ -14,11 +14,12 @@ abbrev pub most_tries : List Label → ℕ
 most_tries [] = 0
 most_tries (t ∷ labels) = max t.tries (most_tries labels)
 
--- the indexes of the switches in it
+-- the indexes of a switch
 abbrev pub own_indexes : Expression → ℕ
 own_indexes (Switch at size_at size selector cases) = size
 own_indexes _ = 0
 
+-- those of all switches in it
 abbrev pub indexes_in : Expression → ℕ
 indexes_in e = total own_indexes e
 

@@ -1,5 +1,6 @@
 //! The names and labels in scope.
-ghost use Rattle.std.specs.Prelude.{◌≡◌, ◌+◌, ◌<◌, [], ◌∷◌, ◌++◌, List, Some, false, not, length, map, reverse, option_map, option_copied, IfOk, OnOk, MatchOption};
+ghost use Rattle.std.specs.Prelude.{◌≡◌, ◌+◌, ◌<◌, [], ◌∷◌, ◌++◌, List, Some, false};
+ghost use Rattle.std.specs.Prelude.{not, length, map, reverse, option_map, option_copied, IfOk, OnOk, MatchOption};
 ghost use Rattle.cmm_tree.specs.Rows.{handlers_of};
 ghost use Rattle.cmm_tree.specs.View.{label_view, params_view};
 ghost use Rattle.cmm_types.specs.Light.{is_immutable};

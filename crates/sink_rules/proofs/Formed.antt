@@ -22,7 +22,7 @@ use Rattle.mach_ir.specs.declared.mach.MachOp.TheVariants as mach
 use Rattle.mach_ir.specs.declared.reg.Reg.{Reg}
 use Rattle.mach_ir.specs.declared.mach.Instr.{Instr}
 use Rattle.mach_ir.specs.declared.mach.Mach.{Mach}
-use Rattle.split_rules.proofs.Formed.{contains_of, stands_in}
+use Rattle.spill_rules.proofs.Known.{contains_of, stands_in}
 use Rattle.spill_rules.proofs.Formed.{one_distinct}
 use Rattle.spill_rules.proofs.Chosen.{only_on}
 use Rattle.mach_laws.proofs.Instructions.{no_op}

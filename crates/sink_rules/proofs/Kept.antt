@@ -31,7 +31,7 @@ use Rattle.mach_laws.proofs.Simulate.{Agrees}
 use Rattle.mach_laws.proofs.Among.{split_among, number_among}
 use Rattle.places_rules.proofs.Files.{not_cleared, among_or_not, PutsBoth, put_both}
 use Rattle.places_rules.proofs.Raised.{IsSilent, label_silent, try_silent}
-use Rattle.split_rules.proofs.Formed.{contains_of}
+use Rattle.spill_rules.proofs.Known.{contains_of}
 use Rattle.spill_rules.proofs.Kept.{FitsIn, put_fits, put_holds, clear_fits, frame_fits}
 use Rattle.sink_rules.specs.Sunk.{Plan, to_itself, moves_of, IsPlan}
 use Rattle.sink_rules.specs.Walks as walks

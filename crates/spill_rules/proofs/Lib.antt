@@ -5,3 +5,4 @@ pub mod Whole
 pub mod Formed
 pub mod Placed
 pub mod Chosen
+pub mod Known

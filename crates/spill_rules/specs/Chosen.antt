@@ -95,7 +95,8 @@ pub record IsNeededSlot (m : Mach) (r : Reg) : Type 0 where
   pub over : LivesOver m register.number call next to
 
 -- The bounds on a function with its stores and reloads, by those on the one without: at most a reload for
--- each operand and a store for each result, and a register for the slot of each.
+-- each operand and a store for each result, each of which reads and writes one register, and for each
+-- register at most one more, which stands in its slot.
 abbrev pub spilled_size : Size → Size
 spilled_size s =
     record s {

@@ -1,7 +1,7 @@
 use Rattle.std.proofs.Common.{subst}
 use Rattle.cmm_tree.specs.View.{function_view}
 use Rattle.mach_ir.specs.declared.mach.Mach.{Mach}
-use Rattle.mach_passes.specs.Prepared.{IsPrepared}
+use Rattle.prepare.specs.Known.{IsPrepared}
 use Rattle.file_compile.proofs.Passing.{can_be_selected, preparable, room, prepared_has_room, prepared_formed, prepared_placed, prepared_low}
 use Rattle.file_compile.proofs.listing.allocated.Goals as goal
 

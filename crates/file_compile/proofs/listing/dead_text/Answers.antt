@@ -1,6 +1,6 @@
 use Rattle.std.proofs.lemmas.Result.{IfOk-weaker}
 use Rattle.cmm_tree.specs.View.{function_view}
-use Rattle.mach_passes.specs.Stages.{IsCleaned}
+use Rattle.prepare.specs.Known.{IsCleaned}
 use Rattle.file_compile.proofs.Passing.{can_be_selected, preparable, room, of_selected_text}
 use Rattle.file_compile.proofs.listing.dead_text.Goals as goal
 

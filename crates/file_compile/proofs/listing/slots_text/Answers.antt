@@ -1,6 +1,6 @@
 use Rattle.std.proofs.lemmas.Result.{IfOk-weaker}
 use Rattle.cmm_tree.specs.View.{function_view}
-use Rattle.mach_passes.specs.Stages.{HasSlots}
+use Rattle.prepare.specs.Known.{HasSlots}
 use Rattle.file_compile.proofs.Passing.{can_be_selected, preparable, room, of_selected_text}
 use Rattle.file_compile.proofs.listing.slots_text.Goals as goal
 

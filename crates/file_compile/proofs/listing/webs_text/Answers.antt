@@ -1,6 +1,6 @@
 use Rattle.std.proofs.lemmas.Result.{IfOk-weaker}
 use Rattle.cmm_tree.specs.View.{function_view}
-use Rattle.mach_passes.specs.Prepared.{IsPrepared}
+use Rattle.prepare.specs.Known.{IsPrepared}
 use Rattle.file_compile.proofs.Passing.{can_be_selected, preparable, room, of_selected_text}
 use Rattle.file_compile.proofs.listing.webs_text.Goals as goal
 

@@ -1,0 +1,5 @@
+-- Words of crates below, named once more for what stands above.
+pub use Rattle.emit_rules.specs.Emitted.{part_of}
+pub use Rattle.emit_rules.specs.Entry.{Frame}
+pub use Rattle.emit_rules.specs.Named.{IsExternalOf}
+pub use Rattle.emit_rules.specs.Units.{tests_first}
