@@ -14,10 +14,7 @@ use Rattle.mach_ir.specs.declared.mach.MachOp.TheVariants as mach
 use Rattle.mach_ir.specs.declared.blocks.NewBlock.{NewBlock}
 use Rattle.mach_ir.specs.declared.reg.Reg.{Reg}
 use Rattle.mach_ir.specs.declared.mach.Instr.{Instr}
-
-pub appended_none : {A : Type 0} (xs : List A) → xs ++ [] ≡ xs
-appended_none [] = refl
-appended_none (x ∷ xs) = ap (λ ys. x ∷ ys) (appended_none xs)
+use Rattle.mach_ir.proofs.Keeping.{appended_none}
 
 -- an open allocation with these blocks and results, and the instructions after it
 abbrev laid : List NewBlock → List Reg → List Instr → Scanned → List Instr

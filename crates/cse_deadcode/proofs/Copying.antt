@@ -27,13 +27,14 @@ use Rattle.cse_deadcode.specs.declared.events.Event.TheVariants as event
 use Rattle.cse_deadcode.specs.Made.{remade, made_by}
 use Rattle.cse_deadcode.specs.Times.{Clock, writes, happens, last_time}
 use Rattle.cse_deadcode.specs.Repeats.{result_stands}
-use Rattle.cse_deadcode.specs.Copies.{is_move, same_comp, is_open, is_copy, source_first, source_by, source_found, source_at, source_of, read_by, with_sources}
+use Rattle.cse_deadcode.specs.Copies.{is_move, is_copy, source_first, source_by, source_found, source_at, source_of, read_by, with_sources}
 use Rattle.cse_deadcode.proofs.Last.{AreQuiet, Found, find, last_from}
 use Rattle.cse_deadcode.proofs.Noting.{differ, first_true, only_first, number_written, written_number, number_write, unwritten, quiet, ends_run, in_run}
 use Rattle.cse_deadcode.proofs.Alike.{one_of}
 use Rattle.cse_deadcode.proofs.Parts.{in_front, behind, at_seam, head_of, Places, one_place, further_on, places, operand_in, result_in}
 use Rattle.cse_deadcode.proofs.Planned as step
 use Rattle.cse_deadcode.proofs.Standing.{of_each, all_straight, quiet_later, later_quiet, still_holds, holds_still}
+use Rattle.mach_ir.specs.Places.{is_open, same_comp}
 
 -- ---- components and places
 

@@ -1,4 +1,5 @@
 -- Which events happen in an instruction.
+use Rattle.std.proofs.lemmas.Bool.{false_from_ne_true}
 use Rattle.std.proofs.Common.{◌≡◌, ◌∙◌, ℕ, Bool, true, false, not, ◌||◌, ⊎_elim, List, [], ◌∷◌, refl, sym, ap}
 use Rattle.std.proofs.lemmas.Cmp.{tied_itself, nat_cmp_total}
 use Rattle.std.proofs.lemmas.Map.Lookups.{exact_unsigned}
@@ -29,10 +30,6 @@ use Rattle.cse_deadcode.proofs.Last.{AreQuiet}
 
 pub differ : (b : Bool) → b ≡ true → b ≡ false → ⊥
 differ b e h = cc
-
-pub not_true : (b : Bool) → (b ≡ true → ⊥) → b ≡ false
-not_true true h = absurd (h refl)
-not_true false h = refl
 
 pub not_false : (b : Bool) → not b ≡ false → b ≡ true
 not_false true e = refl
@@ -203,7 +200,7 @@ only_writes e w (mach.Mark f) args = w.no_end
 pub quiet : (e : Event) (xs : List Instr) → IsWrite e → AreUnwritten e xs → AreQuiet (happens e) xs
 quiet e xs is free i c =
     both_false (list_any (writes e) i.results) (does e i.op i.args)
-    (any_none (writes e) i.results (λ w d. not_true (writes e w) (free i c w d))) (only_writes e is i.op i.args)
+    (any_none (writes e) i.results (λ w d. false_from_ne_true (writes e w) (free i c w d))) (only_writes e is i.op i.args)
 
 straight_on : (f : MachOp) (args : List Reg) → does event.EndsRun f args ≡ not (is_straight f)
 straight_on (mach.Op (op.Pure (pure.Operator f r))) args = refl

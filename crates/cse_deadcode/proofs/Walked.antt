@@ -21,6 +21,7 @@ use Rattle.bs_words.proofs.Lists.{none_in, first_in, later_in, in_cons}
 use Rattle.cse_deadcode.specs.Flows as flows
 use Rattle.cse_deadcode.specs.Flows.{UsedBefore, AreUsed}
 use Rattle.cse_deadcode.specs.Uses.{goes_at, AreUses}
+use Rattle.liveness.proofs.Steps.{in_numbers}
 
 none_there : {i : Instr} {xs : List Instr} → [] ≡ i ∷ xs → ⊥
 none_there e = cc
@@ -40,10 +41,6 @@ at_place (x ∷ xs) (suc p) i next e = at_place xs p i next e
 among_of : (n : ℕ) (rs : List Reg) → Contains (numbers rs) n → Among n rs
 among_of n [] c = absurd (none_in n c)
 among_of n (r ∷ rs) c = ⊎_elim (λ e. first e) (λ d. later (among_of n rs d)) (in_cons r.number n (numbers rs) c)
-
-in_numbers : {n : ℕ} {rs : List Reg} → Among n rs → Contains (numbers rs) n
-in_numbers {n} (first {r = r} {rs = rs} e) = subst (Contains (r.number ∷ numbers rs)) e (first_in r.number (numbers rs))
-in_numbers {n} (later {r = r} {rs = rs} a) = later_in r.number n (numbers rs) (in_numbers a)
 
 among_none : (n : ℕ) → Among n [] → ⊥
 among_none n a = elim a [ ]

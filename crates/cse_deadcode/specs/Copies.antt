@@ -15,6 +15,7 @@ use Rattle.cse_deadcode.specs.declared.events.Event.TheVariants as event
 use Rattle.cse_deadcode.specs.Made.{Making}
 use Rattle.cse_deadcode.specs.Repeats.{result_stands}
 use Rattle.cse_deadcode.specs.Times.{Clock}
+use Rattle.mach_ir.specs.Places.{is_open, same_comp}
 
 abbrev pub is_move : MachOp → Bool
 is_move (mach.Op (op.Pure (pure.Copy copy.Move))) = true
@@ -27,18 +28,6 @@ is_move (mach.Op (op.Access f)) = false
 is_move (mach.Op (op.Calling f)) = false
 is_move (mach.Op (op.Leaving f)) = false
 is_move (mach.Mark f) = false
-
-abbrev pub same_comp : Comp → Comp → Bool
-same_comp comp.Int comp.Int = true
-same_comp comp.Val comp.Val = true
-same_comp comp.Addr comp.Addr = true
-same_comp comp.Float comp.Float = true
-same_comp _ _ = false
-
-abbrev pub is_open : Loc → Bool
-is_open loc.Unset = true
-is_open (loc.Machine k) = false
-is_open (loc.Slot k) = false
 
 -- whether a register is still a copy of the source of the move of the time, which wrote it last
 abbrev pub is_copy : Clock → ℕ → Reg → Reg → Bool

@@ -4,14 +4,13 @@ ghost use Rattle.mach_ir.specs.Formed.{WellFormed};
 ghost use Rattle.copy_rules.specs.Propagated.{IsPropagated};
 ghost use Rattle.cse_deadcode.specs.Made.{made_by};
 ghost use Rattle.cse_deadcode.specs.Times.{time_in};
-ghost use Rattle.cse_deadcode.specs.Copies.{is_move, same_comp, is_open, is_copy, source_by, source_at, source_of};
+ghost use Rattle.cse_deadcode.specs.Copies.{is_move, is_copy, source_by, source_at, source_of};
 ghost use Rattle.cse_deadcode.specs.Copies.{read_by, with_sources};
 
 use crate::events::Event;
 use crate::repeats::result_stands;
 use crate::times::Times;
-use bs_words::{Comp, Loc};
-use mach_ir::{CopyKind, Instr, Mach, MachOp, Op, Pure, Reg, Seq};
+use mach_ir::{CopyKind, Instr, Mach, MachOp, Op, Pure, Reg, Seq, same_comp};
 use std::alloc::{AllocError, Global};
 
 fn is_move(op: &MachOp) -> bool
@@ -29,35 +28,13 @@ fn is_move(op: &MachOp) -> bool
     }
 }
 
-/// Whether both are one component.
-fn same_comp(one: Comp, other: Comp) -> bool
-    ensures { result ≡ same_comp one other }
-{
-    match one {
-        Comp::Int => matches!(other, Comp::Int),
-        Comp::Val => matches!(other, Comp::Val),
-        Comp::Addr => matches!(other, Comp::Addr),
-        Comp::Float => matches!(other, Comp::Float),
-    }
-}
-
-fn is_open(place: Loc) -> bool
-    ensures { result ≡ is_open place }
-{
-    match place {
-        Loc::Unset => true,
-        Loc::Machine(_) => false,
-        Loc::Slot(_) => false,
-    }
-}
-
 /// Whether the register, which a move from the source wrote last, at the time, is still its copy.
 fn is_copy(times: &Times, time: usize, source: &Reg, reg: &Reg) -> bool
     ensures { result ≡ is_copy (time_in times.now) time source.now reg.now }
 {
     same_comp(source.comp, reg.comp)
-        && (is_open(source.loc)
-            && (is_open(reg.loc)
+        && (source.is_open()
+            && (reg.is_open()
                 && (times.last(Event::EndsRun) <= time && result_stands(times, time, source))))
 }
 

@@ -2,7 +2,7 @@
 use Rattle.std.proofs.Common.{◌≡◌, ◌↔◌, ◌∙◌, ℕ, zero, suc, ◌-◌, ◌<◌, ◌≤◌, Bool, true, false, ◌&&◌, ◌||◌, List, [], ◌∷◌, ◌++◌, Some, length, take, refl, sym, ap, ⊎_elim, arith}
 use Rattle.std.specs.Prelude.{slice_get, nat_eq}
 use Rattle.std.specs.List.{list_any, list_all}
-use Rattle.std.proofs.lemmas.Bool.{cases_lt, true≢false}
+use Rattle.std.proofs.lemmas.Bool.{cases_lt, true≢false, and_parts}
 use Rattle.std.proofs.lemmas.List.{get_or_past}
 use Rattle.mach_ir.specs.Formed.{WellFormed}
 use Rattle.mach_ir.specs.Walks.{Stands, IsRegister}
@@ -17,7 +17,7 @@ use Rattle.hoist.specs.Constants.{makes_wide}
 use Rattle.hoist.specs.Loops.{IsFirstCall, IsCalmWide, flag_at, AreFlags}
 use Rattle.hoist.specs.Moves.{none_moves, stays, StaysAt, moves_by, left}
 use Rattle.hoist.specs.Written.{times, is_once}
-use Rattle.hoist.proofs.Reaching.{same_item, both}
+use Rattle.hoist.proofs.Reaching.{same_item}
 use Rattle.hoist.proofs.Moving.{at_of, place_of, calm_of, once_of, moved_of}
 use Rattle.hoist.proofs.Rebuilt.{left_without, none_moved, all_stay}
 
@@ -54,7 +54,7 @@ stays_is flags code writes p i flag b f at e = (λ t. stay (sym e ∙ t), λ s. 
   where
     stay : stays flag writes i ≡ true → StaysAt flags code writes p
     stay t =
-        let x = both flag (is_once writes i) t in
+        let x = and_parts flag (is_once writes i) t in
         record { flagged = sym f ∙ x.0; instr = i; at = at; once = x.1 }
 
     holds : StaysAt flags code writes p → stays flag writes i ≡ true

@@ -1,7 +1,7 @@
 -- The constants that move, by what is found of their places.
 use Rattle.std.proofs.Common.{◌≡◌, ◌∙◌, ⊎_elim, ℕ, zero, suc, ◌+◌, ◌-◌, ◌%◌, ◌<◌, ◌≤◌, Bool, true, cond, ◌&&◌, List, [], ◌∷◌, Some, length, refl, sym, ap, subst, arith}
 use Rattle.std.specs.Prelude.{nat_eq, nat_le, nat_lt, slice_get, Contains}
-use Rattle.std.proofs.lemmas.Bool.{cases_lt, true≢false, eqb-true, eq-eqb, leb-true, le-leb, ltb-true, lt-ltb}
+use Rattle.std.proofs.lemmas.Bool.{cases_lt, true≢false, eqb-true, eq-eqb, leb-true, le-leb, ltb-true, lt-ltb, and_parts}
 use Rattle.bs_words.specs.declared.types.Comp.{Comp}
 use Rattle.bs_words.specs.declared.types.Comp.TheVariants as comp
 use Rattle.bs_words.specs.declared.types.Loc.{Loc}
@@ -23,11 +23,12 @@ use Rattle.hoist_rules.specs.Hoisted.{makes, FitsAlways, an_int, an_odd_val, May
 use Rattle.hoist_rules.specs.Chosen.{IsLoopRound, IsWide, IsMoved}
 use Rattle.mach_laws.proofs.Places.{shorter, results_in}
 use Rattle.mach_laws.proofs.Among.{split_among, left_among}
-use Rattle.hoist.specs.Constants.{is_wide, fits_always, is_open, constant_of, can_hold, are_none, holds_wide, makes_wide}
+use Rattle.hoist.specs.Constants.{is_wide, fits_always, constant_of, can_hold, are_none, holds_wide, makes_wide}
 use Rattle.hoist.specs.Loops.{label_of, exit_of, EndsFrom, IsFirstCall, IsCalmWide}
 use Rattle.hoist.specs.Written.{noted, times, is_once}
-use Rattle.hoist.proofs.Reaching.{same_item, both}
+use Rattle.hoist.proofs.Reaching.{same_item}
 use Rattle.hoist.proofs.Once.{open_stays, no_param, only_here, times_once}
+use Rattle.mach_ir.specs.Places.{is_open}
 
 -- ---- places
 
@@ -126,7 +127,7 @@ exit_says l (mach.Mark (mark.End k)) e = absurd cc
 
 wide_told : (w : ℕ) → is_wide w ≡ true → IsWide w
 wide_told w e =
-    let t = both (nat_le 2048 w) (nat_lt w 18446744073709549568) e in
+    let t = and_parts (nat_le 2048 w) (nat_lt w 18446744073709549568) e in
     let low = leb-true 2048 w t.0 in
     let high = ltb-true w 18446744073709549568 t.1 in
     (low, omega (arith, high))
@@ -165,13 +166,13 @@ of_parts f args results = record { op = f; args = args; results = results }
 
 constant_told : (w : ℕ) (args results : List Reg) → holds_wide (Some w) args results ≡ true →
     MakesWide (of_parts (mach.Op (op.Pure (pure.Constant w))) args results)
-constant_told w args results e = by args results (both (is_wide w) (are_none args && can_hold w results) e)
+constant_told w args results e = by args results (and_parts (is_wide w) (are_none args && can_hold w results) e)
   where
     by : (args results : List Reg) → (is_wide w ≡ true) × ((are_none args && can_hold w results) ≡ true) →
         MakesWide (of_parts (mach.Op (op.Pure (pure.Constant w))) args results)
     by [] [] t = absurd (true≢false (sym t.1))
     by [] (r ∷ []) t =
-        let h = both (is_open r.loc) (fits_always r.comp w) t.1 in
+        let h = and_parts (is_open r.loc) (fits_always r.comp w) t.1 in
         record {
           register = r;
           word = w;
@@ -372,7 +373,7 @@ module _ (m : Mach) where
           one : times m (w.register).number ≡ 1
           one =
               eqb-true (times m (w.register).number) 1
-              (both (nat_eq (times m (w.register).number) 1) true (sym (ap (is_once (times m)) w.is) ∙ once)).0
+              (and_parts (nat_eq (times m (w.register).number) 1) true (sym (ap (is_once (times m)) w.is) ∙ once)).0
 
       pub moved_of : {i : Instr} {next : List Instr} (p : ℕ) → Stands i next m.code → IsPlace m.code next p → IsCalmWide m.code calls p →
           is_once (times m) i ≡ true → IsMoved m i next

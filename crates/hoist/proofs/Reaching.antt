@@ -1,7 +1,7 @@
 -- How far loops reach, as far as a code is read.
 use Rattle.std.proofs.Common.{◌≡◌, ◌↔◌, ◌∙◌, ◌⊎◌, inl, inr, ⊎_elim, ℕ, suc, ◌+◌, ◌<◌, ◌≤◌, max, Bool, true, false, cond, ◌&&◌, List, [], ◌∷◌, ◌++◌, Option, Some, None, length, refl, sym, ap, subst, arith}
 use Rattle.std.specs.Prelude.{slice_get, nat_eq, nat_lt, nat_le}
-use Rattle.std.proofs.lemmas.Bool.{cases_lt, ltb-true, lt-ltb, leb-true, le-leb, true≢false}
+use Rattle.std.proofs.lemmas.Bool.{cases_lt, ltb-true, lt-ltb, leb-true, le-leb, true≢false, and_parts}
 use Rattle.std.proofs.lemmas.Bool.Decides.{eqb_tells}
 use Rattle.std.proofs.lemmas.List.{get_or_append_left, get_or_push, length-append}
 use Rattle.std.proofs.lemmas.Option.{slice_get_within}
@@ -248,10 +248,6 @@ flags_more P n old new b e one are =
 
 -- ---- calm loops
 
-pub both : (a b : Bool) → (a && b) ≡ true → (a ≡ true) × (b ≡ true)
-both true b e = (refl, e)
-both false b e = absurd (true≢false (sym e))
-
 all_three : (a b c : Bool) → a ≡ true → b ≡ true → c ≡ true → (a && (b && c)) ≡ true
 all_three a b c e h k = cc
 
@@ -264,8 +260,8 @@ calm_wide_is code p i at reach calls so_far b e = (λ t. calm (sym e ∙ t), λ 
 
     calm : is_calm_wide i p reach calls ≡ true → IsCalmWide code calls p
     calm t =
-        let x = both (nat_lt p reach) (nat_le reach calls && makes_wide i) t in
-        let y = both (nat_le reach calls) (makes_wide i) x.1 in
+        let x = and_parts (nat_lt p reach) (nat_le reach calls && makes_wide i) t in
+        let y = and_parts (nat_le reach calls) (makes_wide i) x.1 in
         let inside = ltb-true p reach x.0 in
         let few = leb-true reach calls y.0 in
         let last = greatest (EndsFrom code (suc p)) reach above (omega (arith, inside)) in

@@ -10,6 +10,7 @@ use Rattle.mach_ir.specs.declared.reg.Reg.{Reg}
 use Rattle.mach_ir.specs.declared.mach.MachOp.{MachOp}
 use Rattle.mach_ir.specs.declared.mach.MachOp.TheVariants as mach
 use Rattle.mach_ir.specs.declared.mach.Instr.{Instr}
+use Rattle.mach_ir.specs.Places.{is_open}
 
 -- no word that twelve bits give, sign extended
 abbrev pub is_wide : ℕ → Bool
@@ -20,11 +21,6 @@ fits_always comp.Int w = true
 fits_always comp.Val w = nat_eq (w % 2) 1
 fits_always comp.Addr w = false
 fits_always comp.Float w = false
-
-abbrev pub is_open : Loc → Bool
-is_open loc.Unset = true
-is_open (loc.Machine n) = false
-is_open (loc.Slot n) = false
 
 abbrev pub constant_of : MachOp → Option ℕ
 constant_of (mach.Op (op.Pure (pure.Constant w))) = Some w

@@ -1,9 +1,9 @@
 //! Wide constants that fit wherever data ends.
 ghost use Rattle.std.specs.Prelude.{◌≡◌, ◌≤◌, length, take};
 ghost use Rattle.std.specs.List.{list_any};
-ghost use Rattle.hoist.specs.Constants.{is_wide, fits_always, is_open, constant_of, can_hold, makes_wide};
+ghost use Rattle.hoist.specs.Constants.{is_wide, fits_always, constant_of, can_hold, makes_wide};
 
-use bs_words::{Comp, Loc};
+use bs_words::Comp;
 use mach_ir::{Instr, MachOp, Op, Pure, Reg};
 
 /// Whether it does not fit the twelve bits of an immediate.
@@ -22,16 +22,6 @@ fn fits_always(comp: Comp, word: u64) -> bool
         Comp::Val => word % 2 == 1,
         Comp::Addr => false,
         Comp::Float => false,
-    }
-}
-
-fn is_open(place: Loc) -> bool
-    ensures { result ≡ is_open place }
-{
-    match place {
-        Loc::Unset => true,
-        Loc::Machine(_) => false,
-        Loc::Slot(_) => false,
     }
 }
 
@@ -59,7 +49,7 @@ fn can_hold(word: u64, results: &[Reg]) -> bool
         return false;
     }
     let reg = results[0];
-    is_open(reg.loc) && fits_always(reg.comp, word)
+    reg.is_open() && fits_always(reg.comp, word)
 }
 
 /// Whether it makes a wide constant that fits anyway, in an open register.

@@ -26,7 +26,7 @@ use Rattle.mach_ir.specs.declared.mach.MachOp.TheVariants as mach
 use Rattle.mach_ir.specs.declared.mach.Mach.{Mach}
 use Rattle.mach_laws.specs.Expand.{Ending, all, more}
 use Rattle.mach_laws.specs.Graph.{place_of, numbers, next_places}
-use Rattle.mach_laws.proofs.Places.{ending_from_handler}
+use Rattle.mach_laws.proofs.Places.{ending_from_handler, stands_of}
 use Rattle.mach_laws.proofs.Walking.{place_is, ending_at, ending_drop}
 use Rattle.liveness.proofs.Bounds.{split_in, killed_is_colour}
 use Rattle.bs_words.proofs.Lists.{none_in, first_in, later_in, in_cons}
@@ -113,10 +113,6 @@ among_register (q ∷ rs) r c =
     ⊎_elim (λ e. first (ap (λ (r : Reg). r.number) e)) (λ d. later (among_register rs r d)) (in_cons q r rs c)
 
 -- ---- places
-
-stands_of : {i : Instr} {next code : List Instr} → Ending (i ∷ next) code → Stands i next code
-stands_of all = here
-stands_of (more e) = below (stands_of e)
 
 -- the place of an instruction that stands in a code
 stands_at : {i : Instr} {next code : List Instr} → Stands i next code → (p : ℕ) × (p < length code) × (drop p code ≡ i ∷ next)

@@ -42,6 +42,7 @@ use Rattle.linear_machine.specs.View.{Fixed, View}
 use Rattle.linear_machine.proofs.Arriving.{at_least}
 use Rattle.linear_machine.proofs.Pure.{Reads}
 use Rattle.linear_machine.proofs.Rows.{immediate_small}
+use Rattle.mach_ir.proofs.Immediates.{immediate_word}
 use Rattle.line_stands.specs.Lines.{LineStands}
 use Rattle.line_stands.specs.Parts.{PartStands}
 use Rattle.lin_laws.proofs.Forms.{symbol_inv, copy_inv, load_inv, store_inv, register_inv, label_inv, jump_inv, exit_inv, branch_inv, switch_inv}
@@ -93,28 +94,6 @@ form_of f args results (formed_op h) = h
 flow_form_of : (f : Flow) (args results : List Spot) → IsFormed (record { op = lin.Flow f; args = args; results = results }) →
     FlowHasForm f (comps args) (comps results)
 flow_form_of f args results (formed_flow h) = h
-
--- a constant for which the machine has an immediate is a word
-immediate_word : (f : IntOp) (w : ℕ) → is_immediate f w ≡ true → w < 2 ^ 64
-immediate_word operator.Add w h = immediate_small w h
-immediate_word operator.AddV w h = immediate_small w h
-immediate_word operator.AddA w h = immediate_small w h
-immediate_word operator.Sub w h =
-    ⊎_elim (λ l. let g = leb-true w 2048 l in omega (arith, g))
-    (λ l. ltb-true w 0x10000000000000000 (and_parts (nat_lt 0xFFFFFFFFFFFFF800 w) (nat_lt w 0x10000000000000000) l).1)
-    (or_cases (nat_le w 2048) (nat_lt 0xFFFFFFFFFFFFF800 w && nat_lt w 0x10000000000000000) h)
-immediate_word operator.And w h = immediate_small w h
-immediate_word operator.Or w h = immediate_small w h
-immediate_word operator.Xor w h = immediate_small w h
-immediate_word operator.Shl w h = let g = ltb-true w 64 h in omega (arith, g)
-immediate_word operator.Shr w h = let g = ltb-true w 64 h in omega (arith, g)
-immediate_word operator.Sar w h = let g = ltb-true w 64 h in omega (arith, g)
-immediate_word (operator.Cmp f) w h = immediate_small w h
-immediate_word (operator.CmpU f) w h = immediate_small w h
-immediate_word operator.Mul w h = absurd (cc)
-immediate_word operator.Mulh w h = absurd (cc)
-immediate_word operator.Div w h = absurd (cc)
-immediate_word operator.Mod w h = absurd (cc)
 
 -- ---- places
 

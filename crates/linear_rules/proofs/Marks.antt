@@ -25,8 +25,9 @@ use Rattle.lin_ir.specs.declared.lin.LinOp.{LinOp}
 use Rattle.lin_ir.specs.declared.lin.LinOp.TheVariants as lin
 use Rattle.lin_ir.specs.declared.lin.Line.{Line}
 use Rattle.lin_laws.proofs.Forms.{same_loc_is}
-use Rattle.linear_rules.specs.Lowered.{opposite_test, same_comp, is_idle, line_of, bare, pops, lines_of, lowered_code}
+use Rattle.linear_rules.specs.Lowered.{opposite_test, is_idle, line_of, bare, pops, lines_of, lowered_code}
 use Rattle.linear_rules.proofs.Homes.{IsIn, is_first, is_later, contains_of}
+use Rattle.mach_ir.specs.Places.{same_comp}
 
 -- ---- lists
 

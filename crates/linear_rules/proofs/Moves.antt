@@ -24,8 +24,9 @@ use Rattle.lin_ir.specs.declared.lin.Flow.{Flow}
 use Rattle.lin_ir.specs.declared.lin.LinOp.TheVariants as lin
 use Rattle.lin_ir.specs.declared.lin.Line.{Line}
 use Rattle.lin_ir.specs.declared.lin.Spot.{Spot}
-use Rattle.linear_rules.specs.Lowered.{home, spots, same_comp, is_idle, line_of, pops, lines_of_mark, lines_of, lowered_code}
+use Rattle.linear_rules.specs.Lowered.{home, spots, is_idle, line_of, pops, lines_of_mark, lines_of, lowered_code}
 use Rattle.linear_rules.proofs.Homes.{IsIn, is_first, is_later, contains_of}
+use Rattle.mach_ir.specs.Places.{same_comp}
 
 -- ---- which line is such a move
 

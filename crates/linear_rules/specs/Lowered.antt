@@ -28,6 +28,7 @@ use Rattle.lin_ir.specs.declared.lin.LinOp.{LinOp}
 use Rattle.lin_ir.specs.declared.lin.LinOp.TheVariants as lin
 use Rattle.lin_ir.specs.declared.lin.Line.{Line}
 use Rattle.lin_ir.specs.declared.lin.Lin.{Lin}
+use Rattle.mach_ir.specs.Places.{same_comp}
 
 -- ---- slots
 
@@ -88,13 +89,6 @@ opposite_test (test.Signed f r) = test.Signed (opposite_compare f) r
 opposite_test (test.Unsigned f r) = test.Unsigned (opposite_compare f) r
 
 -- ---- moves from a place to itself
-
-abbrev pub same_comp : Comp → Comp → Bool
-same_comp comp.Int comp.Int = true
-same_comp comp.Val comp.Val = true
-same_comp comp.Addr comp.Addr = true
-same_comp comp.Float comp.Float = true
-same_comp _ _ = false
 
 abbrev pub same_spot : List Reg → List Reg → Bool
 same_spot (r ∷ []) (q ∷ []) = same_loc r.loc q.loc && same_comp r.comp q.comp

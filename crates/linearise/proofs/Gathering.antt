@@ -8,6 +8,7 @@ use Rattle.mach_ir.specs.declared.reg.Reg.{Reg}
 use Rattle.mach_ir.specs.declared.mach.Instr.{Instr}
 use Rattle.linear_rules.specs.Lowered.{slot_of, slots_of_regs, slots_of_code, is_among, limit_of}
 use Rattle.linear_rules.proofs.Slots.{above_first, above_later}
+use Rattle.bs_words.proofs.Lists.{drop_none}
 
 pub regs_append : (rs : List Reg) (ks : List ℕ) → slots_of_regs rs ks ≡ slots_of_regs rs [] ++ ks
 regs_append [] ks = refl
@@ -17,10 +18,6 @@ regs_append (r ∷ rs) ks = by r.loc (regs_append rs ks)
     by (loc.Slot k) e = ap (λ ns. k ∷ ns) e
     by (loc.Machine n) e = e
     by loc.Unset e = e
-
-drop_none : {A : Type 0} (xs : List A) → drop 0 xs ≡ xs
-drop_none [] = refl
-drop_none (x ∷ xs) = refl
 
 next_is : (k : ℕ) → suc k ≡ k + 1
 next_is k = omega arith

@@ -2,7 +2,7 @@
 ghost use Rattle.std.specs.Prelude.{◌≡◌, ◌∷◌, IfOk};
 ghost use Rattle.lin_ir.specs.declared.lin.Flow.TheVariants as flow;
 ghost use Rattle.lin_ir.specs.declared.lin.LinOp.TheVariants as lin;
-ghost use Rattle.linear_rules.specs.Lowered.{same_comp, same_spot, is_idle, line_of, bare, pops, lines_of_mark, lines_of, lowered_one};
+ghost use Rattle.linear_rules.specs.Lowered.{same_spot, is_idle, line_of, bare, pops, lines_of_mark, lines_of, lowered_one};
 ghost use Rattle.lin_ir.specs.Meaning.{same_loc};
 ghost use Rattle.linearise.specs.Numbers.{number_in};
 
@@ -10,22 +10,10 @@ use crate::backward::Backward;
 use crate::copies::copy_op;
 use crate::spots::{bare, line_of};
 use crate::tests::opposite_test;
-use bs_words::{Comp, Loc};
+use bs_words::Loc;
 use lin_ir::{Flow, LinOp};
-use mach_ir::{Instr, Label, MachOp, Mark, Op, Pure, Reg};
+use mach_ir::{Instr, Label, MachOp, Mark, Op, Pure, Reg, same_comp};
 use std::alloc::{AllocError, Global};
-
-/// Whether both are one component.
-fn same_comp(from: Comp, to: Comp) -> bool
-    ensures { result ≡ same_comp from to }
-{
-    match from {
-        Comp::Int => matches!(to, Comp::Int),
-        Comp::Val => matches!(to, Comp::Val),
-        Comp::Addr => matches!(to, Comp::Addr),
-        Comp::Float => matches!(to, Comp::Float),
-    }
-}
 
 /// Whether both are one place.
 fn same_loc(from: Loc, to: Loc) -> bool

@@ -8,7 +8,7 @@ use Rattle.mach_ir.specs.Keeps.{Proper, ahead, Ahead, Trails, Alike, SuitRound, 
 use Rattle.mach_ir.specs.declared.blocks.NewBlock.{NewBlock}
 use Rattle.mach_ir.specs.declared.mach.Mach.{Mach}
 
-appended_none : {A : Type 0} (xs : List A) → xs ++ [] ≡ xs
+pub appended_none : {A : Type 0} (xs : List A) → xs ++ [] ≡ xs
 appended_none [] = refl
 appended_none (x ∷ xs) = ap (λ ys. x ∷ ys) (appended_none xs)
 

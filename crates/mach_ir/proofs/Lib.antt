@@ -2,3 +2,4 @@ pub mod Runs
 pub mod Keeping
 pub mod Sums
 pub mod Labels
+pub mod Immediates

@@ -4,6 +4,7 @@ pub mod Runs
 pub mod Meaning
 pub mod Walks
 pub mod Labels
+pub mod Places
 pub mod Forms
 pub mod Formed
 pub mod Placed

@@ -21,5 +21,5 @@ pub use label::Label;
 pub use lines::text;
 pub use mach::{Instr, Mach, MachOp, Mark, Test};
 pub use op::{Access, Callee, Calling, CopyKind, External, Leaving, Op, Pure, Right};
-pub use reg::Reg;
+pub use reg::{Reg, same_comp};
 pub use seq::Seq;

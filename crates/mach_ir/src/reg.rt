@@ -1,4 +1,6 @@
 //! Registers.
+ghost use Rattle.std.specs.Prelude.{◌≡◌};
+ghost use Rattle.mach_ir.specs.Places.{is_open, same_comp};
 
 use bs_words::{Comp, Loc};
 
@@ -14,4 +16,29 @@ pub struct Reg {
     pub comp: Comp,
     pub loc: Loc,
     pub origin: u32,
+}
+
+impl Reg {
+    /// Whether its place is open.
+    pub fn is_open(self) -> bool
+        ensures { result ≡ is_open self.loc }
+    {
+        match self.loc {
+            Loc::Unset => true,
+            Loc::Machine(_) => false,
+            Loc::Slot(_) => false,
+        }
+    }
+}
+
+/// Whether both are one component.
+pub fn same_comp(one: Comp, other: Comp) -> bool
+    ensures { result ≡ same_comp one other }
+{
+    match one {
+        Comp::Int => matches!(other, Comp::Int),
+        Comp::Val => matches!(other, Comp::Val),
+        Comp::Addr => matches!(other, Comp::Addr),
+        Comp::Float => matches!(other, Comp::Float),
+    }
 }

@@ -1,6 +1,7 @@
 -- Numbers of registers in rows of registers.
 use Rattle.std.proofs.Common.{ℕ, [], List, ◌∷◌, ◌++◌, ◌⊎◌, inl, inr, ⊎_elim, ap, ◌≡◌, subst}
 use Rattle.std.specs.List.{Contains}
+use Rattle.mach_ir.specs.Formed.{AreDistinct}
 use Rattle.mach_ir.specs.Walks.{Among, first, later}
 use Rattle.mach_ir.specs.declared.reg.Reg.{Reg}
 use Rattle.bs_words.proofs.Lists.{none_in, in_cons, first_in, later_in}
@@ -34,3 +35,6 @@ number_among (r ∷ rs) (later a) = let w = number_among rs a in (w.0, later_in 
 
 pub among_number : {n m : ℕ} {rs : List Reg} → n ≡ m → Among n rs → Among m rs
 among_number {rs = rs} e z = subst (λ k. Among k rs) e z
+
+pub none_distinct : AreDistinct []
+none_distinct i j d below within = absurd (omega arith)

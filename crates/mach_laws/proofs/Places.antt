@@ -3,6 +3,8 @@ use Rattle.std.proofs.Common.{◌≡◌, ℕ, Bool, true, false, cond, ⊎_elim,
 use Rattle.std.proofs.lemmas.Bool.{cases_Bool, true≢false}
 use Rattle.std.proofs.lemmas.List.Elements.{All-head, All-tail, All-cons, All-nil}
 use Rattle.std.specs.List.{Contains}
+use Rattle.bs_words.specs.declared.types.Loc.{Loc}
+use Rattle.bs_words.specs.declared.types.Loc.TheVariants as loc
 use Rattle.mach_ir.specs.Acts.{Landing, AtLabel, AtHandler}
 use Rattle.mach_ir.specs.Meaning.{has_label, is_handler_of, after_label, from_handler, at_handler, landing_code, tries_at, tries_past}
 use Rattle.mach_ir.specs.declared.mach.Mark.TheVariants as mark
@@ -10,6 +12,7 @@ use Rattle.mach_ir.specs.declared.mach.MachOp.{MachOp}
 use Rattle.mach_ir.specs.declared.mach.MachOp.TheVariants as mach
 use Rattle.mach_ir.specs.declared.mach.Instr.{Instr}
 use Rattle.mach_ir.specs.Walks.{Stands, here, below, InCode, in_args, further, in_results}
+use Rattle.mach_ir.specs.Places.{is_open}
 use Rattle.mach_ir.specs.Placed.{is_straight, AreStraight}
 use Rattle.mach_ir.specs.declared.reg.Reg.{Reg}
 use Rattle.mach_laws.specs.Expand.{expand, NoLabel, no_label, not_labelled, NoHandler, no_handler, not_handled, bounds_try, NoBound, no_bound, not_bound, KeepsMarks, Ending, all, more}
@@ -160,3 +163,9 @@ args_in (below s) c = further (args_in s c)
 pub results_in : {i : Instr} {next code : List Instr} {r : Reg} → Stands i next code → Contains i.results r → InCode r code
 results_in here c = in_results c
 results_in (below s) c = further (results_in s c)
+
+-- an open place is no machine register and no slot
+pub is_unset : (l : Loc) → is_open l ≡ true → l ≡ loc.Unset
+is_unset loc.Unset e = refl
+is_unset (loc.Machine n) e = absurd (true≢false (sym e))
+is_unset (loc.Slot n) e = absurd (true≢false (sym e))

@@ -3,6 +3,7 @@ use Rattle.std.proofs.Common.{◌≡◌, ℕ, zero, suc, ◌+◌, ◌<◌, ◌�
 use Rattle.std.specs.Prelude.{codes}
 use Rattle.std.proofs.Math.ListN.{set}
 use Rattle.std.proofs.Math.Seq.{drop-cons, take-suc-set}
+use Rattle.std.proofs.lemmas.List.{drop_all}
 use Rattle.bs_words.specs.declared.types.Comp.{Comp}
 use Rattle.bs_words.specs.declared.types.Comp.TheVariants.{Int}
 use Rattle.bs_words.specs.declared.values.Obs.{Obs}
@@ -11,12 +12,6 @@ use Rattle.rv_machine.specs.Hart.{Hart, register}
 use Rattle.rv_machine.specs.Observation.{observed}
 use Rattle.rv_machine.specs.Services.{arguments_from}
 use Rattle.rv_machine.specs.Text.{obs_text, shown_text}
-
-nothing_left : {X : Type 0} (k : ℕ) (xs : List X) → length xs ≤ k → drop k xs ≡ []
-nothing_left zero [] h = refl
-nothing_left (suc k) [] h = refl
-nothing_left zero (x ∷ xs) h = absurd (omega arith)
-nothing_left (suc k) (x ∷ xs) h = nothing_left k xs (omega arith)
 
 -- ---- what is seen, kept in places
 
@@ -40,7 +35,7 @@ pub all_observed : (comps : List Comp) (k : ℕ) (shown : List Obs) (h : Hart) �
 all_observed comps k shown h l m e =
     let same : length comps ≡ k = omega arith in
     ap (λ (i : ℕ). take i shown) same
-    ∙ sym (e ∙ ap (λ (cs : List Comp). take k shown ++ arguments_from (10 + k) cs h) (nothing_left k comps l) ∙ append-nil (take k shown))
+    ∙ sym (e ∙ ap (λ (cs : List Comp). take k shown ++ arguments_from (10 + k) cs h) (drop_all k comps l) ∙ append-nil (take k shown))
 
 -- ---- observations, one after the other
 
@@ -52,4 +47,4 @@ seen_next all k i =
     ∙ ap (λ (j : ℕ). (codes " " ++ obs_text (get_or all k (Word 0))) ++ shown_text (drop j all)) n
 
 pub seen_all : (all : List Obs) (k : ℕ) (done : List ℕ) → length all ≤ k → done ++ shown_text (drop k all) ≡ done
-seen_all all k done l = ap (λ (os : List Obs). done ++ shown_text os) (nothing_left k all l) ∙ append-nil done
+seen_all all k done l = ap (λ (os : List Obs). done ++ shown_text os) (drop_all k all l) ∙ append-nil done

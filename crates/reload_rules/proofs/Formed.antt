@@ -30,6 +30,7 @@ use Rattle.reload_rules.proofs.Numbers.{WasIn, was_own, was_fresh, after_true, a
 use Rattle.reload_rules.proofs.Parts.{first_result, main_for, IsCopy, is_copy, IsMain, main_where, main_op, next_tries, main_tries, same_labels, place_there, next_place, next_handler, main_there, each_in, part_in}
 use Rattle.reload_rules.proofs.Registers.{number_is}
 use Rattle.reload_rules.proofs.Text.{laid_instr, keeps_marks}
+use Rattle.mach_laws.proofs.Among.{none_distinct}
 
 -- ---- fresh registers have the components, and no number twice
 
@@ -51,9 +52,6 @@ pairs_more x xs h t = by
     by i zero d lt within = absurd (omega (arith, lt))
     by zero (suc j) d lt within = h (slice_index_or xs j d) (Contains-get_or xs j d (omega (arith, within)))
     by (suc i) (suc j) d lt within = t i j d (omega (arith, lt)) (omega (arith, within))
-
-none_distinct : AreDistinct []
-none_distinct = λ i j d lt within. absurd (omega (arith, within))
 
 pub renewed_distinct : (b : Bool) (n : ℕ) (rs : List Reg) → Apart rs → ((r : Reg) → Contains rs r → r.number < n) →
     AreDistinct (renewed b n rs)

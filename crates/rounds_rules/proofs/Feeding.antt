@@ -5,7 +5,7 @@ use Rattle.std.proofs.lemmas.Bool.{eq-eqb}
 use Rattle.bs_words.specs.declared.types.Loc.{Loc}
 use Rattle.bs_words.specs.declared.types.Loc.TheVariants as loc
 use Rattle.lin_ir.specs.Meaning.{same_loc}
-use Rattle.linear_rules.specs.Lowered.{same_spot, same_comp}
+use Rattle.linear_rules.specs.Lowered.{same_spot}
 use Rattle.linear_rules.proofs.Moves.{same_comp_is}
 use Rattle.mach_ir.specs.declared.op.CopyKind.{CopyKind}
 use Rattle.mach_ir.specs.declared.op.CopyKind.TheVariants as copy
@@ -17,6 +17,7 @@ use Rattle.places_rules.specs.Places.{Placing, placed, all_placed, placed_instr,
 use Rattle.places_rules.proofs.Open.{machine_open, slot_open, machine_slot, same_slot}
 use Rattle.reload_rules.specs.Reloaded.{is_in_slot, is_renewed, fresh, renewed, reloads, spills}
 use Rattle.reload_rules.specs.Known.{copied}
+use Rattle.mach_ir.specs.Places.{same_comp}
 
 -- ---- placings
 

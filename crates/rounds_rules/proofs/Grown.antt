@@ -11,7 +11,7 @@ use Rattle.mach_ir.specs.declared.mach.MachOp.{MachOp}
 use Rattle.mach_ir.specs.declared.mach.MachOp.TheVariants as mach
 use Rattle.mach_ir.specs.declared.mach.Instr.{Instr}
 use Rattle.lin_ir.specs.Meaning.{same_loc}
-use Rattle.linear_rules.specs.Lowered.{same_spot, same_comp}
+use Rattle.linear_rules.specs.Lowered.{same_spot}
 use Rattle.mach_ir.specs.Formed.{is_exit}
 use Rattle.mach_ir.specs.Meaning.{passes_frame, tries_at, tries_past}
 use Rattle.mach_ir.specs.declared.op.Leaving.TheVariants as leaving
@@ -24,6 +24,7 @@ use Rattle.reload_rules.specs.Reloaded.{is_copy, reads_registers, writes_registe
 use Rattle.reload_rules.proofs.Text.{no_reloads, no_spills, none_renewed}
 use Rattle.reload_rules.proofs.Copies.{same_length}
 use Rattle.rounds_rules.proofs.Feeding.{IsSound, slot_stays, machine_stays, AreHomed, after, sound_after, twice_instr, placed_append, FedBy, fed_at_first, fed_words, fed_placed, fed_reloaded, fed_spilled}
+use Rattle.mach_ir.specs.Places.{same_comp}
 
 -- ---- copies
 

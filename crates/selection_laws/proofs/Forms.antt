@@ -47,6 +47,7 @@ use Rattle.selection_rules.specs.Instructions as emit
 use Rattle.selection_rules.specs.Select.{Immediate, exponent_if, exponent_from, shift_by, immediate_if, immediate_of, commuted, right_immediate, if_commuted, left_immediate, power_of, power_shape, Shape, InRegisters, ConstantRight, ConstantLeft, PowerRight, shape, shape_of, shape_op, shape_right, shape_args, right_of, bound_test, comparison, Named, scopes, seat, seats, result_seat, callee_of, callee_regs, count_of, regs_of, comp_of}
 use Rattle.selection_rules.proofs.Rows.{row_count}
 use Rattle.std.proofs.lemmas.Option.{none-some}
+use Rattle.mach_laws.proofs.Among.{none_distinct}
 
 abbrev pub is_return : MachOp → Bool
 is_return (mach.Op (op.Leaving leaving.Return)) = true
@@ -59,9 +60,6 @@ pub record IsProper (given : Ret) (i : Instr) : Type 0 where
   pub operands : AreSeated (mach_operand_seats i.op) (places_of i.args)
   pub results : AreSeated (mach_result_seats i.op) (places_of i.results)
   pub gives : is_return i.op ≡ true → comps i.args ≡ results_of given
-
-none_distinct : AreDistinct []
-none_distinct i j d below within = absurd (omega arith)
 
 one_distinct : (d : Reg) → AreDistinct (d ∷ [])
 one_distinct d i j e below within = absurd (omega arith)

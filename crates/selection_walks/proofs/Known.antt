@@ -7,6 +7,5 @@ pub use Rattle.selection_places.proofs.Placed.{selected_placed}
 pub use Rattle.selection_places.proofs.Small.{selected_no_slot, selected_small}
 pub use Rattle.selection_places.proofs.Whole.{env_of, params_of, selected_origin, value_at}
 pub use Rattle.selection_laws.proofs.Accepting.{accepted_fits, holds_if, left, right}
-pub use Rattle.selection_laws.proofs.Constants.{word_12}
 pub use Rattle.selection_laws.proofs.Proper.{selected_seated}
 pub use Rattle.selection_laws.proofs.Widths.{few_numbers}

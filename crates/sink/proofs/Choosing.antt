@@ -26,12 +26,12 @@ use Rattle.mach_ir.specs.declared.mach.Mach.{Mach}
 use Rattle.mach_ir.specs.declared.mach.MachOp.{MachOp}
 use Rattle.mach_ir.specs.declared.mach.MachOp.TheVariants as mach
 use Rattle.mach_laws.specs.Graph.{place_of, numbers, next_places, raise_places, IsFlowOf}
-use Rattle.mach_laws.proofs.Places.{ending_next}
+use Rattle.mach_laws.proofs.Places.{ending_next, stands_of, ending_of}
 use Rattle.mach_laws.proofs.Walking.{place_is}
 use Rattle.spill_rules.specs.Chosen.{LivesOver, lives}
 use Rattle.sink_rules.specs.Chosen.{IsSunkAt}
 use Rattle.sink_rules.specs.Walks.{Fresh, Stale}
-use Rattle.sink.specs.Chosen.{is_open, is_call, some_call, has_call, move_at, all_moves, IsMove, AreMoves}
+use Rattle.sink.specs.Chosen.{is_call, some_call, has_call, move_at, all_moves, IsMove, AreMoves}
 use Rattle.sink.specs.Mixed.{noted_code}
 use Rattle.sink.specs.Graphs.{held, IsOver, IsBare, IsFreshNode}
 use Rattle.sink.specs.Registers.{entered_code}
@@ -43,7 +43,7 @@ use Rattle.sink.specs.declared.sights.Sight.TheVariants.{Unseen, Once, Often}
 use Rattle.sink.specs.declared.solved.Solved.{Solved}
 use Rattle.sink.proofs.Entered.{is_entered, length_table, is_live_entered}
 use Rattle.sink.proofs.Graph.{Where, inner, final, beyond, where_is, at, none_past, of}
-use Rattle.sink.proofs.Held.{held_destroys, held_on, held_of, stands_of, ending_of}
+use Rattle.sink.proofs.Held.{held_destroys, held_on, held_of}
 use Rattle.sink.proofs.Living.{not_both}
 use Rattle.sink.proofs.Mixing.{IsMixedIn, is_mixed_in, mixed_is_in}
 use Rattle.sink.proofs.Running.{get_there, run_to, begin_of, begins_there, run_starts}
@@ -51,6 +51,7 @@ use Rattle.sink.proofs.Moving.{Moved, moved, moves_at, in_moves, moves_in, moves
 use Rattle.sink.proofs.Nodes.{at_last}
 use Rattle.sink.proofs.Seeing.{Sees, unseen, once, often, same_sees, InPlaces, all_seen, length_places}
 use Rattle.liveness.proofs.Steps.{among_numbers, in_numbers, destroys_on, place_back, place_within, ending_place, live_small}
+use Rattle.mach_ir.specs.Places.{is_open}
 
 -- ---- sights
 

@@ -79,11 +79,3 @@ held_of (mach.Mark (mark.Handler l)) t e o = refl
 held_of (mach.Mark (mark.End l)) t e o = absurd (nothing e)
 
 -- ---- places of a code
-
-pub ending_of : {i : Instr} {next code : List Instr} → Stands i next code → Ending (i ∷ next) code
-ending_of here = all
-ending_of (below s) = more (ending_of s)
-
-pub stands_of : {i : Instr} {next code : List Instr} → Ending (i ∷ next) code → Stands i next code
-stands_of all = here
-stands_of (more e) = below (stands_of e)

@@ -7,12 +7,13 @@ use Rattle.dataflow.specs.Rows.{row}
 use Rattle.mach_ir.specs.declared.reg.Reg.{Reg}
 use Rattle.mach_ir.specs.declared.mach.Instr.{Instr}
 use Rattle.bs_words.proofs.Lists.{none_in, first_in, later_in, in_cons}
-use Rattle.sink.specs.Chosen.{is_open, some_call, is_sure, move_before, move_at, all_moves}
+use Rattle.sink.specs.Chosen.{some_call, is_sure, move_before, move_at, all_moves}
 use Rattle.sink.specs.Runs.{run_start}
 use Rattle.sink.specs.declared.chosen.Move.{Move}
 use Rattle.sink.specs.declared.sights.Sight.{Sight}
 use Rattle.sink.specs.declared.sights.Sight.TheVariants.{Unseen, Once, Often}
 use Rattle.liveness.proofs.Steps.{each}
+use Rattle.mach_ir.specs.Places.{is_open}
 
 -- ---- lists in order
 

@@ -18,13 +18,13 @@ use Rattle.mach_ir.specs.declared.mach.Instr.{Instr}
 use Rattle.mach_ir.specs.declared.mach.Mach.{Mach}
 use Rattle.mach_laws.specs.Expand.{Ending, all}
 use Rattle.mach_laws.specs.Graph.{place_of, numbers, next_places, raise_places, numbers_written, IsFlowOf}
-use Rattle.mach_laws.proofs.Places.{ending_next}
+use Rattle.mach_laws.proofs.Places.{ending_next, stands_of, ending_of}
 use Rattle.mach_laws.proofs.Walking.{place_is, ending_drop}
 use Rattle.liveness.proofs.Bounds.{no_items, one_more}
 use Rattle.sink_rules.specs.Walks.{Stale, at_entry, over, on, aside}
 use Rattle.sink.specs.Graphs.{held, LivesAt, IsOver, IsEntry, IsStaleNode, AreStaleNodes}
 use Rattle.sink.specs.Tables.{AreStale}
-use Rattle.sink.proofs.Held.{held_destroys, held_of, stands_of, ending_of}
+use Rattle.sink.proofs.Held.{held_destroys, held_of}
 use Rattle.sink.proofs.Graph.{Where, inner, final, beyond, where_is, at, none_past, lead, rise, of, goes_to, rises_to}
 use Rattle.sink.proofs.Nodes.{At, AtEnd, at_last, count}
 use Rattle.liveness.proofs.Steps.{each, among_numbers, in_numbers, destroys_on, place_back, ending_place, leads_ending, raise_ending, IsWithin, next_within, aside_within, writes_small, live_small}

@@ -16,11 +16,7 @@ use Rattle.sink.specs.Runs.{run_start}
 use Rattle.sink.specs.declared.chosen.Move.{Move}
 use Rattle.sink.specs.declared.sights.Sight.{Sight}
 use Rattle.sink.specs.declared.sights.Sight.TheVariants as sight
-
-abbrev pub is_open : Loc → Bool
-is_open loc.Unset = true
-is_open (loc.Machine n) = false
-is_open (loc.Slot n) = false
+use Rattle.mach_ir.specs.Places.{is_open}
 
 -- a call that returns
 abbrev pub is_call : MachOp → Bool

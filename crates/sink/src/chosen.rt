@@ -1,13 +1,12 @@
 //! Which registers are moved to themselves, and where.
 ghost use Rattle.std.specs.Prelude.{◌≡◌, length, IfOk};
-ghost use Rattle.sink.specs.Chosen.{is_open, is_call, is_sure, move_at, all_moves};
+ghost use Rattle.sink.specs.Chosen.{is_call, is_sure, move_at, all_moves};
 
 use crate::graphs::is_held;
 use crate::mixed::is_in;
 use crate::runs::run_start;
 use crate::sights::Sight;
 use bs_bits::Bits;
-use bs_words::Loc;
 use dataflow::Rows;
 use mach_ir::{Instr, MachOp, Reg};
 use std::alloc::{AllocError, Global};
@@ -17,16 +16,6 @@ use std::alloc::{AllocError, Global};
 pub struct Move {
     pub reg: Reg,
     pub place: usize,
-}
-
-fn is_open(place: Loc) -> bool
-    ensures { result ≡ is_open place }
-{
-    match place {
-        Loc::Unset => true,
-        Loc::Machine(_) => false,
-        Loc::Slot(_) => false,
-    }
 }
 
 /// Whether it is a call that returns.
@@ -48,7 +37,7 @@ fn is_sure(code: &[Instr], stale: &Rows, mixed: &Bits, reg: Reg, place: usize) -
         None => false,
         Some(instr) => is_call(&instr.op),
     };
-    is_open(reg.loc) && calls && !stale.contains(place, reg.number) && !is_in(mixed, reg.number)
+    reg.is_open() && calls && !stale.contains(place, reg.number) && !is_in(mixed, reg.number)
 }
 
 /// The move of the register before the straight run to the one place where it was seen, if it is sure

@@ -1,6 +1,6 @@
 -- The plan that the tables tell is the chosen one, and the code is that of the plan.
 use Rattle.std.proofs.Common.{◌≡◌, ℕ, suc, ◌+◌, ◌-◌, ◌≤◌, Bool, true, false, cond, ◌&&◌, ◌||◌, ◌⊎◌, inl, inr, ⊎_elim, List, [], ◌∷◌, ◌++◌, map, length, drop, refl, sym, ap, ◌∙◌, subst, arith}
-use Rattle.std.proofs.lemmas.Bool.{cases_Bool, eq-eqb, eqb-true}
+use Rattle.std.proofs.lemmas.Bool.{cases_Bool, eq-eqb, eqb-true, and_parts}
 use Rattle.std.specs.List.{Contains}
 use Rattle.std.specs.Prelude.{nat_eq}
 use Rattle.std.proofs.lemmas.List.Elements.{All-contains}
@@ -31,7 +31,7 @@ use Rattle.spill.specs.Tables.{Wanted, here, on, aside, AreTables}
 use Rattle.spill.specs.declared.tables.Tables.{Tables}
 use Rattle.spill.proofs.Making.{not_both}
 use Rattle.liveness.proofs.Steps.{among_numbers, in_numbers, place_within, Steps, steps_of, steps_to, leads_ending}
-use Rattle.spill.proofs.WantedFlow.{both, in_reloaded, reloaded_in, reloaded_here, here_reloaded}
+use Rattle.spill.proofs.WantedFlow.{in_reloaded, reloaded_in, reloaded_here, here_reloaded}
 
 -- ---- tests on lists
 
@@ -190,7 +190,7 @@ module _ (m : Mach) (t : Tables) (are : AreTables m t) (formed : WellFormed m) w
       let i = x.instr in
       let next = x.next in
       let ending = ending_of x.stands in
-      let t = both (is_in n (numbers (written m i))) (some_has wanted n (next_places m (i ∷ next))) x.tested in
+      let t = and_parts (is_in n (numbers (written m i))) (some_has wanted n (next_places m (i ∷ next))) x.tested in
       let w : Writes m i n = among_numbers n (written m i) (in_contains n (numbers (written m i)) t.0) in
       let q = has_some wanted n (next_places m (i ∷ next)) t.1 in
       let at : drop (place_of m (i ∷ next)) m.code ≡ i ∷ next = place_is m ending in

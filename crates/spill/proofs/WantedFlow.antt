@@ -2,6 +2,7 @@
 use Rattle.std.proofs.Common.{◌≡◌, ℕ, zero, suc, ◌<◌, Bool, true, false, cond, ◌&&◌, inl, inr, ⊎_elim, List, [], ◌∷◌, length, drop, refl, sym, ap, ◌∙◌, subst, arith}
 use Rattle.std.proofs.lemmas.List.Elements.{All-contains}
 use Rattle.std.specs.List.{All, Contains}
+use Rattle.std.proofs.lemmas.Bool.{and_parts}
 use Rattle.bs_bits.specs.Set.{has}
 use Rattle.bs_words.specs.Contents.{contents}
 use Rattle.bs_words.specs.declared.types.Loc.{Loc}
@@ -20,35 +21,18 @@ use Rattle.mach_ir.specs.declared.mach.Mach.{Mach}
 use Rattle.mach_laws.specs.Expand.{Ending}
 use Rattle.mach_laws.specs.Graph.{place_of, numbers, next_places, raise_places, numbers_read, numbers_written, IsFlowOf}
 use Rattle.mach_laws.proofs.Walking.{place_is}
-use Rattle.mach_laws.proofs.Places.{stands_of, ending_of}
+use Rattle.mach_laws.proofs.Places.{stands_of, ending_of, is_unset}
 use Rattle.mach_laws.proofs.Among.{among_of}
 use Rattle.liveness.specs.Nodes.{Uses, AreNodes}
 use Rattle.liveness.proofs.Bounds.{no_items}
 use Rattle.liveness.proofs.Graph.{count_is, part_is, nodes_within}
 use Rattle.spill_rules.specs.Chosen.{Lost, IsReloaded}
 use Rattle.spill.specs.Graphs.{reloaded_among, reloaded_before, wanted_uses}
-use Rattle.spill.specs.Tables.{is_open, Wanted, here, on, aside, AreLost, AreWanted}
+use Rattle.spill.specs.Tables.{Wanted, here, on, aside, AreLost, AreWanted}
 use Rattle.liveness.proofs.Steps.{each, among_numbers, in_numbers, place_within, ending_place, Steps, steps_of, steps_to, Raised, raised_of, raises_to, leads_ending, raise_ending, reads_small, writes_small}
+use Rattle.mach_ir.specs.Places.{is_open}
 
 -- ---- operands that are reloaded
-
-pub both : (a b : Bool) → (a && b) ≡ true → (a ≡ true) × (b ≡ true)
-both true b e = (refl, e)
-both false b e = absurd (differ e)
-  where
-    differ : false ≡ true → ⊥
-    differ e = cc
-
-pub is_unset : (l : Loc) → is_open l ≡ true → l ≡ loc.Unset
-is_unset loc.Unset e = refl
-is_unset (loc.Machine n) e = absurd (differ e)
-  where
-    differ : false ≡ true → ⊥
-    differ e = cc
-is_unset (loc.Slot n) e = absurd (differ e)
-  where
-    differ : false ≡ true → ⊥
-    differ e = cc
 
 pub record IsReloadedAmong (lost : List (List Bool)) (p : ℕ) (rs : List Reg) (n : ℕ) : Type 0 where
   pub register : Reg
@@ -100,7 +84,7 @@ module _ (m : Mach) (lost : List (List Bool)) (are : AreLost m lost) where
   reloaded_here {i} {next} {n} ending c =
       let p = place_of m (i ∷ next) in
       let x = in_reloaded lost p n i.args c in
-      let t = both (is_open (x.register).loc) (has (row lost p) (x.register).number) x.tested in
+      let t = and_parts (is_open (x.register).loc) (has (row lost p) (x.register).number) x.tested in
       record {
         stands = stands_of ending;
         register = x.register;

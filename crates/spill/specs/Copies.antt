@@ -10,8 +10,8 @@ use Rattle.mach_ir.specs.declared.reg.Reg.{Reg}
 use Rattle.mach_ir.specs.declared.mach.Instr.{Instr}
 use Rattle.mach_laws.specs.Expand.{expand}
 use Rattle.spill_rules.specs.Spilled.{copied}
-use Rattle.spill.specs.Tables.{is_open}
 use Rattle.spill.specs.declared.tables.Tables.{Tables}
+use Rattle.mach_ir.specs.Places.{is_open}
 
 -- the slot's register
 abbrev pub slot_of : ℕ → Reg → Reg

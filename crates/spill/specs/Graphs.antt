@@ -11,7 +11,7 @@ use Rattle.mach_ir.specs.declared.mach.MachOp.{MachOp}
 use Rattle.mach_ir.specs.declared.mach.Mach.{Mach}
 use Rattle.mach_laws.specs.Graph.{place_of, numbers, next_places, numbers_read, numbers_written}
 use Rattle.liveness.specs.Nodes.{Uses}
-use Rattle.spill.specs.Tables.{is_open}
+use Rattle.mach_ir.specs.Places.{is_open}
 
 -- a place that leads nowhere, and reads and writes nothing
 pub record IsBare (x : place.Place) : Type 0 where

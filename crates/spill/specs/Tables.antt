@@ -11,11 +11,6 @@ use Rattle.mach_ir.specs.declared.mach.Mach.{Mach}
 use Rattle.spill_rules.specs.Chosen.{Lost, IsReloaded}
 use Rattle.spill.specs.declared.tables.Tables.{Tables}
 
-abbrev pub is_open : Loc → Bool
-is_open loc.Unset = true
-is_open (loc.Machine n) = false
-is_open (loc.Slot n) = false
-
 -- Some walk from this code on comes to a place where the register is reloaded, with no write of it
 -- before. A raise edge passes no write.
 pub data Wanted (m : Mach) (n : ℕ) : List Instr → Type 0 where

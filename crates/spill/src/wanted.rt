@@ -7,11 +7,11 @@ ghost use Rattle.liveness.specs.Nodes.{AreNodes};
 ghost use Rattle.mach_ir.specs.Formed as well;
 ghost use Rattle.mach_laws.specs.Graph.{IsFlowOf};
 ghost use Rattle.spill.specs.Graphs.{reloaded_among, wanted_uses, IsWantedPlace};
-ghost use Rattle.spill.specs.Tables.{is_open, AreLost, AreWanted};
+ghost use Rattle.spill.specs.Tables.{AreLost, AreWanted};
+ghost use Rattle.mach_ir.specs.Places.{is_open};
 
 use crate::lists::copy_of;
 use crate::places::bare_place;
-use crate::tables::is_open;
 use bs_words::List;
 use dataflow::{Flow, Place, Rows, live};
 use liveness::Backward;
@@ -22,7 +22,7 @@ use std::alloc::{AllocError, Global};
 pub fn is_reloaded(lost: &Rows, place: usize, reg: &Reg) -> bool
     ensures { result ≡ (is_open reg.now.loc && has (row lost.now.rows.items place) reg.now.number) }
 {
-    is_open(reg.loc) && lost.contains(place, reg.number)
+    reg.is_open() && lost.contains(place, reg.number)
 }
 
 /// The numbers of the operands that are reloaded at the place.

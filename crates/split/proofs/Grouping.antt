@@ -13,13 +13,14 @@ use Rattle.std.proofs.lemmas.List.{length-set, length-map, map-set, get_or-map, 
 use Rattle.std.proofs.lemmas.Option.{slice_get_within}
 use Rattle.liveness.proofs.Bounds.{split_in}
 use Rattle.liveness.proofs.Counting.{countable_of}
-use Rattle.split_rules.specs.Order.{is_open, write_of, open_writes, code_writes, writes_of}
+use Rattle.split_rules.specs.Order.{write_of, open_writes, code_writes, writes_of}
 use Rattle.split_rules.specs.Split.{split_size}
 use Rattle.bs_words.proofs.Lists.{none_in, first_in, later_in, in_cons}
 use Rattle.split.specs.Writes.{members_in, HasMember, AreRising, ends, rises, IsGrouped}
 use Rattle.split.specs.declared.writes.Group as group
 use Rattle.split_rules.specs.declared.writes.Write.{Write}
 use Rattle.split.proofs.Members.{open_write}
+use Rattle.mach_ir.specs.Places.{is_open}
 
 members_same : (gs : List group.Group) (k : ℕ) (g : group.Group) → k < length gs → members_in (set gs k g) k ≡ g.members.items
 members_same gs k g within =

@@ -16,11 +16,13 @@ use Rattle.mach_ir.specs.declared.reg.Reg.{Reg}
 use Rattle.mach_ir.specs.declared.mach.Instr.{Instr}
 use Rattle.mach_ir.specs.declared.mach.Mach.{Mach}
 use Rattle.liveness.proofs.Bounds.{split_in, killed_is_colour}
-use Rattle.split_rules.specs.Order.{is_open, write_of, open_writes, code_writes, writes_of}
+use Rattle.split_rules.specs.Order.{write_of, open_writes, code_writes, writes_of}
 use Rattle.mach_laws.proofs.Among.{number_among}
 use Rattle.split.specs.Writes.{has_left, is_at, find_at, AreRising, rises, is_first}
 use Rattle.split.specs.Names.{find_coming}
 use Rattle.split_rules.specs.declared.writes.Write.{Write}
+use Rattle.mach_ir.specs.Places.{is_open}
+use Rattle.mach_laws.proofs.Places.{is_unset}
 
 -- ---- lists
 
@@ -41,11 +43,6 @@ in_got (y ∷ ys) x c =
 
 not_both : (b : Bool) → b ≡ true → b ≡ false → ⊥
 not_both b e h = cc
-
-pub is_unset : (l : Loc) → is_open l ≡ true → l ≡ loc.Unset
-is_unset loc.Unset e = refl
-is_unset (loc.Machine n) e = absurd (not_both false e refl)
-is_unset (loc.Slot n) e = absurd (not_both false e refl)
 
 pub in_open : (k : ℕ) (rs : List Reg) (r : Reg) → Contains rs r → r.loc ≡ loc.Unset → Contains (open_writes k rs) (write_of k r)
 in_open k [] r c e = absurd (none_in r c)

@@ -18,7 +18,7 @@ use Rattle.mach_ir.specs.declared.reg.Reg.{Reg}
 use Rattle.mach_ir.specs.declared.mach.Instr.{Instr}
 use Rattle.mach_ir.specs.declared.mach.Mach.{Mach}
 use Rattle.mach_laws.specs.Expand.{Ending, all, more}
-use Rattle.mach_laws.proofs.Places.{ending_next, args_in, results_in}
+use Rattle.mach_laws.proofs.Places.{ending_next, args_in, results_in, is_unset}
 use Rattle.mach_laws.proofs.Walking.{drop_ending, place_is}
 use Rattle.mach_laws.proofs.Among.{split_among, number_among}
 use Rattle.liveness.proofs.Bounds.{killed_is_colour}
@@ -28,13 +28,14 @@ use Rattle.split_rules.specs.Writes.{Comes, Chained, IsWrite, by_entry, by_instr
 use Rattle.split_rules.proofs.Result.{comes_write, chained_equal}
 use Rattle.split_rules.proofs.Whole.{fixed_colours}
 use Rattle.split.specs.Names.{new_number, find_coming, or_name, name_of, naming, AreTables}
-use Rattle.split_rules.specs.Order.{is_open, write_of, open_writes, code_writes, writes_of, HasIndex, IsFirstOfWeb, IsFirstOfAll, IsByFirst, kept, given}
+use Rattle.split_rules.specs.Order.{write_of, open_writes, code_writes, writes_of, HasIndex, IsFirstOfWeb, IsFirstOfAll, IsByFirst, kept, given}
 use Rattle.split.specs.Writes.{all_of, members, AreRising, has_left, find_at, is_first, after}
 use Rattle.split.specs.declared.tables.Tables.{Tables}
 use Rattle.split_rules.specs.declared.writes.Write.{Write}
 use Rattle.split.proofs.Grouping.{few_writes}
 use Rattle.split.proofs.Joining.{chain_turned, chain_on}
-use Rattle.split.proofs.Members.{some_is, got_in, in_got, in_open, in_writes, is_unset, IsOpenWrite, open_write, fixed_no_write, found_at, finds_at, finds_first, first_low, first_least, one_first, at_entry, entry_at, left_within, found_coming, finds_coming}
+use Rattle.split.proofs.Members.{some_is, got_in, in_got, in_open, in_writes, IsOpenWrite, open_write, fixed_no_write, found_at, finds_at, finds_first, first_low, first_least, one_first, at_entry, entry_at, left_within, found_coming, finds_coming}
+use Rattle.mach_ir.specs.Places.{is_open}
 
 differ : (b : Bool) → b ≡ true → b ≡ false → ⊥
 differ b e h = cc

@@ -3,10 +3,9 @@ ghost use Rattle.std.specs.Prelude.{◌≡◌, ◌<◌, ◌++◌, ◌^◌, [], A
 ghost use Rattle.mach_ir.specs.Sizes.{number_limit};
 ghost use Rattle.mach_ir.specs.Walks.{IsRegister};
 ghost use Rattle.mach_ir.specs.declared.reg.Reg.{Reg};
-ghost use Rattle.split_rules.specs.Order.{is_open, open_writes, writes_of};
+ghost use Rattle.split_rules.specs.Order.{open_writes, writes_of};
 ghost use Rattle.split.specs.Writes.{all_of, members, is_first, is_at, find_at, HasMember, IsGrouped, AreWrites};
 
-use bs_words::Loc;
 use mach_ir::{Mach, Reg};
 use split_rules::Write;
 use std::alloc::{AllocError, Global};
@@ -24,21 +23,11 @@ pub struct Writes {
     pub groups: Vec<Group>,
 }
 
-fn is_open(place: Loc) -> bool
-    ensures { result ≡ is_open place }
-{
-    match place {
-        Loc::Unset => true,
-        Loc::Machine(_) => false,
-        Loc::Slot(_) => false,
-    }
-}
-
 fn push_open(writes: &mut Vec<Write>, left: u32, regs: &[Reg]) -> Result<(), AllocError>
     ensures { IfOk result (λ _. writes.new.items ≡ writes.old.items ++ open_writes left regs.now) }
 {
     for reg in regs {
-        if is_open(reg.loc) {
+        if reg.is_open() {
             writes.push(Write {
                 left,
                 number: reg.number,

@@ -7,11 +7,7 @@ use Rattle.mach_ir.specs.declared.mach.Instr.{Instr}
 use Rattle.mach_ir.specs.declared.mach.Mach.{Mach}
 use Rattle.split_rules.specs.Writes.{Chained}
 use Rattle.split_rules.specs.declared.writes.Write.{Write}
-
-abbrev pub is_open : Loc → Bool
-is_open loc.Unset = true
-is_open (loc.Machine n) = false
-is_open (loc.Slot n) = false
+use Rattle.mach_ir.specs.Places.{is_open}
 
 abbrev pub write_of : ℕ → Reg → Write
 write_of k r = record { left = k; number = r.number }

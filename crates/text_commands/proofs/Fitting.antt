@@ -1,4 +1,5 @@
 -- What the test of an entry says of its function.
+use Rattle.std.proofs.lemmas.Bool.{false_from_ne_true}
 use Rattle.std.proofs.Common.{◌≡◌, ℕ, Bool, true, false, IsTrue, List, Option, Some, map, refl, sym, subst}
 use Rattle.bs_words.specs.declared.values.Value.TheVariants.{Word}
 use Rattle.cmm_data.specs.Placement.{data_end}
@@ -6,10 +7,6 @@ use Rattle.cmm_eval.specs.Annotated.{FitsFunction, FitsEntry}
 use Rattle.cmm_meaning.specs.Evaluation.{fit_parameters}
 use Rattle.cmm_tree.specs.Tree.{FunctionTree, FileTree, functions, comps_of}
 use Rattle.std.specs.List.{slice_get}
-
-not_true : (t : Bool) → (t ≡ true → ⊥) → t ≡ false
-not_true true h = absurd (h refl)
-not_true false h = refl
 
 untrue : (b : Bool) → b ≡ false → IsTrue b → ⊥
 untrue true e t = cc
@@ -27,7 +24,7 @@ entry-fit file number f args is fit = subst (λ (o : Option FunctionTree). FitsF
 pub no-fit : (file : FileTree) (number : ℕ) (f : FunctionTree) (args words : List ℕ) (b : Bool) → slice_get (functions file) number ≡ Some f → words ≡ args
     → b ≡ false → (FitsEntry file number words → IsTrue b) → Fit file f args ≡ false
 no-fit file number f args words b is same off tells =
-    not_true (Fit file f args) (λ t. untrue b off (tells (subst (λ ws. FitsEntry file number ws) (sym same) (fit-entry file number f args is t))))
+    false_from_ne_true (Fit file f args) (λ t. untrue b off (tells (subst (λ ws. FitsEntry file number ws) (sym same) (fit-entry file number f args is t))))
 
 pub has-fit : (file : FileTree) (number : ℕ) (f : FunctionTree) (args words : List ℕ) → slice_get (functions file) number ≡ Some f → words ≡ args
     → FitsEntry file number words → Fit file f args ≡ true

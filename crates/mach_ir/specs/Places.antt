@@ -1,0 +1,19 @@
+-- Places and components of registers, compared.
+use Rattle.std.specs.Prelude.{Bool, true, false}
+use Rattle.bs_words.specs.declared.types.Comp.{Comp}
+use Rattle.bs_words.specs.declared.types.Comp.TheVariants as comp
+use Rattle.bs_words.specs.declared.types.Loc.{Loc}
+use Rattle.bs_words.specs.declared.types.Loc.TheVariants as loc
+
+-- whether no place is chosen yet
+abbrev pub is_open : Loc → Bool
+is_open loc.Unset = true
+is_open (loc.Machine n) = false
+is_open (loc.Slot n) = false
+
+abbrev pub same_comp : Comp → Comp → Bool
+same_comp comp.Int comp.Int = true
+same_comp comp.Val comp.Val = true
+same_comp comp.Addr comp.Addr = true
+same_comp comp.Float comp.Float = true
+same_comp _ _ = false
