@@ -1,5 +1,5 @@
 -- Numbers of registers in rows of registers.
-use Rattle.std.proofs.Common.{ℕ, [], List, ◌∷◌, ◌++◌, ◌⊎◌, inl, inr, ⊎_elim, ap, ◌≡◌, subst}
+use Rattle.std.proofs.Common.{ℕ, [], List, ◌∷◌, ◌++◌, ◌⊎◌, inl, inr, ⊎_elim, ap, ◌≡◌, subst, arith}
 use Rattle.std.specs.List.{Contains}
 use Rattle.mach_ir.specs.Formed.{AreDistinct}
 use Rattle.mach_ir.specs.Walks.{Among, first, later}

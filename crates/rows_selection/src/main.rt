@@ -39,19 +39,20 @@ fn main(rt: HostRuntime) -> Result<()> {
 }
 
 /// How many functions a file has.
-fn count_functions(items: &[Item]) -> Result<u32, AllocError>
-    ensures { IfOk result (λ count. count ≡ length (functions_among (map item_view items.now))) }
+fn count_functions(items: &[Item]) -> u32
+    requires few { length (functions_among (map item_view items.now)) < 2 ^ 32 }
+    ensures { result ≡ length (functions_among (map item_view items.now)) }
 {
     let mut count: u32 = 0;
     let mut rest = items;
     while let [item, others @ ..] = rest {
         match item {
-            Item::Function(_) => count = count.checked_add(1).ok_or(AllocError)?,
+            Item::Function(_) => count += 1,
             Item::Data(_) => {}
         }
         rest = others;
     }
-    Ok(count)
+    count
 }
 
 /// The Mach functions of a text, as they print, or that it has a fault.
@@ -59,7 +60,7 @@ fn selected(alloc: Global, source: &[u8]) -> Result<Vec<u8>> {
     let mut page = Vec::new(alloc);
     match front(alloc, source) {
         Ok(checked) => {
-            let count = count_functions(checked.typed().file().items.as_slice())?;
+            let count = count_functions(checked.typed().file().items.as_slice());
             for function in 0..count {
                 let mach = select(alloc, &checked, function)?;
                 page.extend_from_slice(text(alloc, &mach)?.as_slice())?;
