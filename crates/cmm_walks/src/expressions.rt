@@ -21,7 +21,7 @@ use std::alloc::AllocError;
 
 impl<'a> Cells<'a> {
     /// A call or a test, which may raise.
-    fn may_raise(&mut self, rest: u32) -> Result<u32, AllocError>
+    fn may_raise(&mut self, rest: usize) -> Result<usize, AllocError>
         ensures { IfOk result (λ cell. IsReady (cells self.old) rest →
             Adds (cells self.old) (cells self.new) cell (MayRaise ∷ []) rest) }
     {
@@ -30,7 +30,7 @@ impl<'a> Cells<'a> {
     }
 
     /// A raise.
-    pub fn raises(&mut self, rest: u32) -> Result<u32, AllocError>
+    pub fn raises(&mut self, rest: usize) -> Result<usize, AllocError>
         ensures { IfOk result (λ cell. IsReady (cells self.old) rest →
             Adds (cells self.old) (cells self.new) cell (Raises ∷ []) rest) }
     {
@@ -41,12 +41,12 @@ impl<'a> Cells<'a> {
     /// An operation on one operand.
     fn on_one(
         &mut self,
-        scope: u32,
-        slot: u32,
+        scope: usize,
+        slot: usize,
         at: u32,
         expr: &'a Expr,
-        rest: u32,
-    ) -> Result<u32, AllocError>
+        rest: usize,
+    ) -> Result<usize, AllocError>
         ensures { IfOk result (λ cell. (s : List Slotted) → IsReady (cells self.old) rest →
             IsScope (cells self.old) scope s → IsAnnotated (names s) expr.now →
             Adds (cells self.old) (cells self.new) cell (on_one s slot at
@@ -62,13 +62,13 @@ impl<'a> Cells<'a> {
     /// An operation on two operands.
     fn on_two(
         &mut self,
-        scope: u32,
-        slot: u32,
+        scope: usize,
+        slot: usize,
         at: u32,
         left: &'a Expr,
         right: &'a Expr,
-        rest: u32,
-    ) -> Result<u32, AllocError>
+        rest: usize,
+    ) -> Result<usize, AllocError>
         ensures { IfOk result (λ cell. (s : List Slotted) → IsReady (cells self.old) rest →
             IsScope (cells self.old) scope s → IsAnnotated (names s) left.now →
             IsAnnotated (names s) right.now →
@@ -88,12 +88,12 @@ impl<'a> Cells<'a> {
     /// An operation on these operands.
     fn on_all(
         &mut self,
-        scope: u32,
-        slot: u32,
+        scope: usize,
+        slot: usize,
         at: u32,
         exprs: &'a [Expr],
-        rest: u32,
-    ) -> Result<u32, AllocError>
+        rest: usize,
+    ) -> Result<usize, AllocError>
         ensures { IfOk result (λ cell. (s : List Slotted) → IsReady (cells self.old) rest →
             IsScope (cells self.old) scope s → AreAnnotated (names s) exprs.now →
             Adds (cells self.old) (cells self.new) cell (all_operands s slot
@@ -107,12 +107,12 @@ impl<'a> Cells<'a> {
     /// An allocation. It takes its operands after its frame point.
     fn alloc(
         &mut self,
-        scope: u32,
-        slot: u32,
+        scope: usize,
+        slot: usize,
         at: u32,
         exprs: &'a [Expr],
-        rest: u32,
-    ) -> Result<u32, AllocError>
+        rest: usize,
+    ) -> Result<usize, AllocError>
         ensures { IfOk result (λ cell. (s : List Slotted) → IsReady (cells self.old) rest →
             IsScope (cells self.old) scope s → AreAnnotated (names s) exprs.now →
             Adds (cells self.old) (cells self.new) cell (waiting s (slot + count
@@ -129,7 +129,7 @@ impl<'a> Cells<'a> {
     }
 
     /// What is after the operands of a call: the frame point of an app or a frame call, and a raise out of it.
-    fn called(&mut self, frame: bool, at: u32, rest: u32) -> Result<u32, AllocError>
+    fn called(&mut self, frame: bool, at: u32, rest: usize) -> Result<usize, AllocError>
         ensures { IfOk result (λ cell. IsReady (cells self.old) rest →
             Adds (cells self.old) (cells self.new) cell (called frame at) rest) }
     {
@@ -145,13 +145,13 @@ impl<'a> Cells<'a> {
     /// An external call.
     fn extcall(
         &mut self,
-        scope: u32,
-        slot: u32,
+        scope: usize,
+        slot: usize,
         at: u32,
         frame: bool,
         exprs: &'a [Expr],
-        rest: u32,
-    ) -> Result<u32, AllocError>
+        rest: usize,
+    ) -> Result<usize, AllocError>
         ensures { IfOk result (λ cell. (s : List Slotted) → IsReady (cells self.old) rest →
             IsScope (cells self.old) scope s → AreAnnotated (names s) exprs.now →
             Adds (cells self.old) (cells self.new) cell (all_operands s slot
@@ -164,7 +164,13 @@ impl<'a> Cells<'a> {
     }
 
     /// The operands of an app, and what is after them.
-    fn calls(&mut self, slot: u32, at: u32, arguments: usize, rest: u32) -> Result<u32, AllocError>
+    fn calls(
+        &mut self,
+        slot: usize,
+        at: u32,
+        arguments: usize,
+        rest: usize,
+    ) -> Result<usize, AllocError>
         ensures { IfOk result (λ cell. IsReady (cells self.old) rest →
             Adds (cells self.old) (cells self.new) cell (takes at slot
             (suc arguments) ++ called true at) rest) }
@@ -179,13 +185,13 @@ impl<'a> Cells<'a> {
     /// A call.
     fn app(
         &mut self,
-        scope: u32,
-        slot: u32,
+        scope: usize,
+        slot: usize,
         at: u32,
         callee: &'a Expr,
         exprs: &'a [Expr],
-        rest: u32,
-    ) -> Result<u32, AllocError>
+        rest: usize,
+    ) -> Result<usize, AllocError>
         ensures { IfOk result (λ cell. (s : List Slotted) → IsReady (cells self.old) rest →
             IsScope (cells self.old) scope s → IsAnnotated (names s) callee.now →
             AreAnnotated (names s) exprs.now →
@@ -204,7 +210,7 @@ impl<'a> Cells<'a> {
     }
 
     /// A use of a name.
-    fn used(&mut self, scope: u32, at: u32, name: &Name, rest: u32) -> Result<u32, AllocError>
+    fn used(&mut self, scope: usize, at: u32, name: &Name, rest: usize) -> Result<usize, AllocError>
         ensures { IfOk result (λ cell. (s : List Slotted) → IsReady (cells self.old) rest →
             IsScope (cells self.old) scope s →
             Adds (cells self.old) (cells self.new) cell (used_at at (slot_of s name.now)) rest) }
@@ -219,7 +225,13 @@ impl<'a> Cells<'a> {
     }
 
     /// A binding by an assignment.
-    fn assigned(&mut self, scope: u32, at: u32, name: &Name, rest: u32) -> Result<u32, AllocError>
+    fn assigned(
+        &mut self,
+        scope: usize,
+        at: u32,
+        name: &Name,
+        rest: usize,
+    ) -> Result<usize, AllocError>
         ensures { IfOk result (λ cell. (s : List Slotted) → IsReady (cells self.old) rest →
             IsScope (cells self.old) scope s →
             Adds (cells self.old) (cells self.new) cell (bound_at at (type_named
@@ -238,13 +250,13 @@ impl<'a> Cells<'a> {
     /// An assignment.
     fn assign(
         &mut self,
-        scope: u32,
-        slot: u32,
+        scope: usize,
+        slot: usize,
         at: u32,
         name: &Name,
         value: &'a Expr,
-        rest: u32,
-    ) -> Result<u32, AllocError>
+        rest: usize,
+    ) -> Result<usize, AllocError>
         ensures { IfOk result (λ cell. (s : List Slotted) → IsReady (cells self.old) rest →
             IsScope (cells self.old) scope s → IsAnnotated (names s) value.now →
             Adds (cells self.old) (cells self.new) cell (Evaluates s slot
@@ -259,13 +271,13 @@ impl<'a> Cells<'a> {
     /// A test of a bound.
     fn checkbound(
         &mut self,
-        scope: u32,
-        slot: u32,
+        scope: usize,
+        slot: usize,
         at: u32,
         bound: &'a Expr,
         index: &'a Expr,
-        rest: u32,
-    ) -> Result<u32, AllocError>
+        rest: usize,
+    ) -> Result<usize, AllocError>
         ensures { IfOk result (λ cell. (s : List Slotted) → IsReady (cells self.old) rest →
             IsScope (cells self.old) scope s → IsAnnotated (names s) bound.now →
             IsAnnotated (names s) index.now →
@@ -280,12 +292,12 @@ impl<'a> Cells<'a> {
     /// A raise of a value.
     fn raise_value(
         &mut self,
-        scope: u32,
-        slot: u32,
+        scope: usize,
+        slot: usize,
         at: u32,
         value: &'a Expr,
-        rest: u32,
-    ) -> Result<u32, AllocError>
+        rest: usize,
+    ) -> Result<usize, AllocError>
         ensures { IfOk result (λ cell. (s : List Slotted) → IsReady (cells self.old) rest →
             IsScope (cells self.old) scope s → IsAnnotated (names s) value.now →
             Adds (cells self.old) (cells self.new) cell (on_one s slot at
@@ -299,14 +311,14 @@ impl<'a> Cells<'a> {
     /// A choice of two.
     fn branches(
         &mut self,
-        scope: u32,
-        slot: u32,
+        scope: usize,
+        slot: usize,
         at: u32,
         condition: &'a Expr,
         on_true: &'a Expr,
         on_false: &'a Expr,
-        rest: u32,
-    ) -> Result<u32, AllocError>
+        rest: usize,
+    ) -> Result<usize, AllocError>
         ensures { IfOk result (λ cell. (s : List Slotted) → IsReady (cells self.old) rest →
             IsScope (cells self.old) scope s → IsAnnotated (names s) condition.now →
             IsAnnotated (names s) on_true.now → IsAnnotated (names s) on_false.now →
@@ -328,13 +340,13 @@ impl<'a> Cells<'a> {
     /// A choice among the cases.
     fn switch(
         &mut self,
-        scope: u32,
-        slot: u32,
+        scope: usize,
+        slot: usize,
         at: u32,
         selector: &'a Expr,
         cases: &'a [Case],
-        rest: u32,
-    ) -> Result<u32, AllocError>
+        rest: usize,
+    ) -> Result<usize, AllocError>
         ensures { IfOk result (λ cell. (s : List Slotted) → IsReady (cells self.old) rest →
             IsScope (cells self.old) scope s →
             IsAnnotated (names s) selector.now → AreCasesAnnotated (names s) cases.now →
@@ -354,13 +366,13 @@ impl<'a> Cells<'a> {
     /// An exit.
     fn exits(
         &mut self,
-        scope: u32,
-        slot: u32,
+        scope: usize,
+        slot: usize,
         at: u32,
         label: &'a Label,
         exprs: &'a [Expr],
-        rest: u32,
-    ) -> Result<u32, AllocError>
+        rest: usize,
+    ) -> Result<usize, AllocError>
         ensures { IfOk result (λ cell. (s : List Slotted) → IsReady (cells self.old) rest →
             IsScope (cells self.old) scope s → AreAnnotated (names s) exprs.now →
             Adds (cells self.old) (cells self.new) cell (all_operands s slot
@@ -375,12 +387,12 @@ impl<'a> Cells<'a> {
     /// The handlers of a catch, of which `left` are left, in a row of cells from `first` on.
     fn handlers(
         &mut self,
-        scope: u32,
-        slot: u32,
+        scope: usize,
+        slot: usize,
         handlers: &'a [Handler],
         left: &'a [Handler],
-        first: u32,
-        rest: u32,
+        first: usize,
+        rest: usize,
     ) -> Result<(), AllocError>
         ensures { IfOk result (λ _. (s : List Slotted) → rest < length (cells self.old) →
             IsScope (cells self.old) scope s →
@@ -408,19 +420,19 @@ impl<'a> Cells<'a> {
     /// A body and its handlers.
     fn catch(
         &mut self,
-        scope: u32,
-        slot: u32,
+        scope: usize,
+        slot: usize,
         body: &'a Expr,
         handlers: &'a [Handler],
-        rest: u32,
-    ) -> Result<u32, AllocError>
+        rest: usize,
+    ) -> Result<usize, AllocError>
         ensures { IfOk result (λ cell. (s : List Slotted) → IsReady (cells self.old) rest →
             IsScope (cells self.old) scope s →
             IsAnnotated (names s) body.now → AreHandlersAnnotated (names s) handlers.now →
             Adds (cells self.old) (cells self.new) cell (Evaluates s slot
             (expr_view body.now) ∷ Catches s slot false (handlers_of handlers.now) ∷ []) rest) }
     {
-        let first = number_of(self.len())?;
+        let first = self.len();
         self.handlers(scope, slot, handlers, handlers, first, rest)?;
         let in_handler = false;
         let behind_body = self.push(Item::Catches {
@@ -438,13 +450,13 @@ impl<'a> Cells<'a> {
     /// What handles a raise.
     fn handling(
         &mut self,
-        scope: u32,
-        slot: u32,
+        scope: usize,
+        slot: usize,
         name_at: u32,
         name: &'a Name,
         handler: &'a Expr,
-        rest: u32,
-    ) -> Result<u32, AllocError>
+        rest: usize,
+    ) -> Result<usize, AllocError>
         ensures { IfOk result (λ cell. (s : List Slotted) → IsReady (cells self.old) rest →
             IsScope (cells self.old) scope s → IsAnnotated (record {
               name = name.now;
@@ -466,14 +478,14 @@ impl<'a> Cells<'a> {
     /// A body, and what handles a raise out of it.
     fn try_body(
         &mut self,
-        scope: u32,
-        slot: u32,
+        scope: usize,
+        slot: usize,
         body: &'a Expr,
         name_at: u32,
         name: &'a Name,
         handler: &'a Expr,
-        rest: u32,
-    ) -> Result<u32, AllocError>
+        rest: usize,
+    ) -> Result<usize, AllocError>
         ensures { IfOk result (λ cell. (s : List Slotted) → IsReady (cells self.old) rest →
             IsScope (cells self.old) scope s → IsAnnotated (names s) body.now →
             IsAnnotated (record {
@@ -502,12 +514,12 @@ impl<'a> Cells<'a> {
     /// Bindings of a let, and then its body.
     fn enters(
         &mut self,
-        scope: u32,
-        slot: u32,
+        scope: usize,
+        slot: usize,
         bindings: &'a [Binding],
         body: &'a Expr,
-        rest: u32,
-    ) -> Result<u32, AllocError>
+        rest: usize,
+    ) -> Result<usize, AllocError>
         ensures { IfOk result (λ cell. (s : List Slotted) → IsReady (cells self.old) rest →
             IsScope (cells self.old) scope s →
             AreBindingsAnnotated (names s) bindings.now →
@@ -528,11 +540,11 @@ impl<'a> Cells<'a> {
     /// The tasks of an expression.
     pub fn form(
         &mut self,
-        scope: u32,
-        slot: u32,
+        scope: usize,
+        slot: usize,
         expr: &'a Expr,
-        rest: u32,
-    ) -> Result<u32, AllocError>
+        rest: usize,
+    ) -> Result<usize, AllocError>
         ensures { IfOk result (λ cell. (s : List Slotted) → IsReady (cells self.old) rest →
             IsScope (cells self.old) scope s → IsAnnotated (names s) expr.now →
             Adds (cells self.old) (cells self.new) cell (tasks_of s slot
@@ -590,14 +602,4 @@ impl<'a> Cells<'a> {
             } => self.try_body(scope, slot, body, *name_at, name, handler, rest),
         }
     }
-}
-
-/// The number. That it is too large counts as want of memory.
-fn number_of(count: usize) -> Result<u32, AllocError>
-    ensures { IfOk result (λ number. number ≡ count) }
-{
-    if count > u32::MAX as usize {
-        return Err(AllocError);
-    }
-    Ok(count as u32)
 }

@@ -37,7 +37,7 @@ fn some_address(nodes: &[Node]) -> bool
 }
 
 /// A number above the slot. That there is none counts as want of memory.
-fn above_slot(step: Step) -> Result<u32, AllocError>
+fn above_slot(step: Step) -> Result<usize, AllocError>
     ensures { IfOk result (λ bound. slot_below bound step) }
 {
     let slot = match step {
@@ -50,7 +50,7 @@ fn above_slot(step: Step) -> Result<u32, AllocError>
         Step::Quiet => 0,
         Step::Passes { at: _ } => 0,
     };
-    if slot == u32::MAX {
+    if slot == usize::MAX {
         return Err(AllocError);
     }
     Ok(slot + 1)
@@ -63,14 +63,21 @@ fn larger(one: u32, other: u32) -> u32
     if one < other { other } else { one }
 }
 
+fn larger_slot(one: usize, other: usize) -> usize
+    ensures first { one ≤ result }
+    ensures second { other ≤ result }
+{
+    if one < other { other } else { one }
+}
+
 /// A number above all slots.
-fn above_slots(nodes: &[Node]) -> Result<u32, AllocError>
+fn above_slots(nodes: &[Node]) -> Result<usize, AllocError>
     ensures { IfOk result (λ bound. All (λ n. slot_below bound n.step) nodes.now) }
 {
     let mut bound = 0;
     for node in nodes {
         let here = above_slot(node.step)?;
-        bound = larger(bound, here);
+        bound = larger_slot(bound, here);
     }
     Ok(bound)
 }
@@ -104,7 +111,7 @@ fn greatest_place(nodes: &[Node]) -> u32
 }
 
 /// Whether it binds an address to the slot.
-fn binds_address_to(step: Step, slot: u32) -> bool
+fn binds_address_to(step: Step, slot: usize) -> bool
     ensures { result ≡ binds_address_to slot step }
 {
     match step {
@@ -120,7 +127,7 @@ fn binds_address_to(step: Step, slot: u32) -> bool
 }
 
 /// Whether one of the nodes binds an address to the slot.
-fn some_address_to(nodes: &[Node], slot: u32, places: &[u32]) -> bool
+fn some_address_to(nodes: &[Node], slot: usize, places: &[usize]) -> bool
     ensures { result ≡ list_any (λ p. binds_address_to slot (step_at nodes.now p)) places.now }
 {
     places
@@ -134,7 +141,7 @@ struct Search<'a> {
     nodes: &'a [Node],
     before: Vec<Group>,
     mentions: Vec<Group>,
-    bound: u32,
+    bound: usize,
 }
 
 impl<'a> Search<'a> {
@@ -143,7 +150,7 @@ impl<'a> Search<'a> {
         &self,
         alloc: Global,
         goal: Goal,
-        slot: u32,
+        slot: usize,
         labels: &mut Labels,
         found: &mut Vec<Seed>,
     ) -> Result<(), AllocError>
@@ -170,7 +177,7 @@ impl<'a> Search<'a> {
     }
 
     /// The least limit for the part of the goal within which an address is live, if there is one.
-    fn least(&self, alloc: Global, entry: u32, goal: Goal) -> Result<Option<u32>, AllocError>
+    fn least(&self, alloc: Global, entry: usize, goal: Goal) -> Result<Option<u32>, AllocError>
         requires search { IsSearch self.now }
         requires fits { own_limit goal < unlabelled }
         ensures { IfOk result (λ told. IsLeastTold self.now.nodes.now entry goal told) }
@@ -186,7 +193,12 @@ impl<'a> Search<'a> {
 
     /// The least use, then the least frame point, then the least binding of an address that is live there, or
     /// `None` where none is.
-    fn first(&self, alloc: Global, entry: u32, greatest: u32) -> Result<Option<Limits>, AllocError>
+    fn first(
+        &self,
+        alloc: Global,
+        entry: usize,
+        greatest: u32,
+    ) -> Result<Option<Limits>, AllocError>
         requires search { IsSearch self.now }
         requires places { All (λ n. place_within greatest n.step) self.now.nodes.now }
         ensures { IfOk result (λ told. IsFirstTold self.now.nodes.now entry told) }
@@ -223,7 +235,7 @@ impl<'a> Search<'a> {
 
 /// The least use, then the least frame point, then the least binding of an address that is live there, or
 /// `None` where none is.
-pub fn first_live(alloc: Global, nodes: &[Node], entry: u32) -> Result<Option<Limits>, AllocError>
+pub fn first_live(alloc: Global, nodes: &[Node], entry: usize) -> Result<Option<Limits>, AllocError>
     requires { AreLinked nodes.now }
     ensures { IfOk result (λ told. IsFirstTold nodes.now entry told) }
 {

@@ -30,8 +30,8 @@ fn find_handler(
     label: &Label,
     in_handler: bool,
     handlers: &[Handler],
-    first: u32,
-) -> Result<Option<u32>, AllocError>
+    first: usize,
+) -> Result<Option<usize>, AllocError>
     ensures { IfOk result (λ found. (count : ℕ) (tasks : ℕ →
         List Task) (s : List Slotted) (slot : ℕ) (all : List declared_handler.Handler)
         (behind : List Task) → HandlersAt count tasks first s slot all behind handlers.now →
@@ -53,7 +53,7 @@ fn find_handler(
 }
 
 /// The handler that the catch of this cell has for the label.
-fn own_handler(label: &Label, item: Item<'_>) -> Result<Option<u32>, AllocError>
+fn own_handler(label: &Label, item: Item<'_>) -> Result<Option<usize>, AllocError>
     ensures { IfOk result (λ found. (count : ℕ) (scopes : ℕ → List Slotted) (tasks : ℕ →
         List Task) → IsHeld count scopes tasks item.entry →
         LeadsTo count tasks found (own_handler (label_view label.now) scopes tasks item.entry)) }
@@ -85,7 +85,7 @@ fn own_handler(label: &Label, item: Item<'_>) -> Result<Option<u32>, AllocError>
 }
 
 /// The cell after the task of this one.
-fn rest_of(item: Item<'_>) -> Option<u32>
+fn rest_of(item: Item<'_>) -> Option<usize>
     ensures { result ≡ rest_in item.entry }
 {
     match item {
@@ -108,7 +108,7 @@ fn rest_of(item: Item<'_>) -> Option<u32>
 impl<'a> Cells<'a> {
     /// The cell to which an exit leads from this one, if a handler of its label is visible.
     #[cycle(exit)]
-    pub fn exit(&self, label: &Label, cell: u32) -> Result<Option<u32>, AllocError>
+    pub fn exit(&self, label: &Label, cell: usize) -> Result<Option<usize>, AllocError>
         ensures { IfOk result (λ found. IsSound (cells self.now) →
             LeadsTo (length (cells self.now)) (tasks_at (cells self.now)) found
             (behind_exit (label_view label.now) (tasks_at (cells self.now) cell))) }
@@ -120,7 +120,12 @@ impl<'a> Cells<'a> {
     }
 
     #[cycle(exit)]
-    fn exit_in(&self, label: &Label, cell: u32, item: Item<'a>) -> Result<Option<u32>, AllocError>
+    fn exit_in(
+        &self,
+        label: &Label,
+        cell: usize,
+        item: Item<'a>,
+    ) -> Result<Option<usize>, AllocError>
         ensures { IfOk result (λ found. IsSound (cells self.now) →
             item_at (cells self.now) cell ≡ Some item.entry →
             LeadsTo (length (cells self.now)) (tasks_at (cells self.now)) found
@@ -137,9 +142,9 @@ impl<'a> Cells<'a> {
     fn exit_behind(
         &self,
         label: &Label,
-        cell: u32,
+        cell: usize,
         item: Item<'a>,
-    ) -> Result<Option<u32>, AllocError>
+    ) -> Result<Option<usize>, AllocError>
         ensures { IfOk result (λ found. IsSound (cells self.now) →
             item_at (cells self.now) cell ≡ Some item.entry →
             LeadsTo (length (cells self.now)) (tasks_at (cells self.now)) found
@@ -158,7 +163,7 @@ impl<'a> Cells<'a> {
 
     /// The cell to which a raise leads from this one, if a try of the function is active.
     #[cycle(raise)]
-    pub fn raise(&self, cell: u32) -> Option<u32>
+    pub fn raise(&self, cell: usize) -> Option<usize>
         ensures { IsSound (cells self.now) → LeadsTo (length (cells self.now)) (tasks_at
             (cells self.now)) result (behind_raise (tasks_at (cells self.now) cell)) }
     {
@@ -169,7 +174,7 @@ impl<'a> Cells<'a> {
     }
 
     #[cycle(raise)]
-    fn raise_in(&self, cell: u32, item: Item<'a>) -> Option<u32>
+    fn raise_in(&self, cell: usize, item: Item<'a>) -> Option<usize>
         ensures { IsSound (cells self.now) → item_at (cells self.now) cell ≡ Some item.entry →
             LeadsTo (length (cells self.now)) (tasks_at (cells self.now)) result
             (behind_raise (tasks_at (cells self.now) cell)) }
@@ -192,7 +197,7 @@ impl<'a> Cells<'a> {
     }
 
     #[cycle(raise)]
-    fn raise_behind(&self, cell: u32, item: Item<'a>) -> Option<u32>
+    fn raise_behind(&self, cell: usize, item: Item<'a>) -> Option<usize>
         ensures { IsSound (cells self.now) → item_at (cells self.now) cell ≡ Some item.entry →
             LeadsTo (length (cells self.now)) (tasks_at (cells self.now)) result
             (raise_rest (tasks_at (cells self.now)) (rest_in item.entry)) }

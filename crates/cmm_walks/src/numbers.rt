@@ -10,23 +10,23 @@ use cmm_tree::Declared;
 use std::alloc::AllocError;
 
 /// The number after this one. That there is none counts as want of memory.
-pub fn after(number: u32) -> Result<u32, AllocError>
+pub fn after(number: usize) -> Result<usize, AllocError>
     ensures { IfOk result (λ next. next ≡ suc number) }
 {
-    if number == u32::MAX {
+    if number == usize::MAX {
         return Err(AllocError);
     }
     Ok(number + 1)
 }
 
 /// The slot that lies `count` after this one.
-pub fn behind(slot: u32, count: usize) -> Result<u32, AllocError>
+pub fn behind(slot: usize, count: usize) -> Result<usize, AllocError>
     ensures { IfOk result (λ next. next ≡ slot + count) }
 {
-    if count > (u32::MAX - slot) as usize {
+    if count > usize::MAX - slot {
         return Err(AllocError);
     }
-    Ok(slot + count as u32)
+    Ok(slot + count)
 }
 
 /// Whether values of the type are addresses into blocks, which no allocation may outlive.

@@ -18,19 +18,19 @@ use std::alloc::AllocError;
 pub struct Found {
     pub ty: Ty,
     pub mutable: bool,
-    pub slot: u32,
+    pub slot: usize,
 }
 
 impl<'a> Cells<'a> {
     /// The scope with one more name.
     pub fn bind(
         &mut self,
-        outer: u32,
+        outer: usize,
         name: &'a Name,
         ty: Ty,
         mutable: bool,
-        slot: u32,
-    ) -> Result<u32, AllocError>
+        slot: usize,
+    ) -> Result<usize, AllocError>
         ensures { IfOk result (λ cell. (s : List Slotted) → IsSound (cells self.old) →
             IsScope (cells self.old) outer s →
             Opens (cells self.old) (cells self.new) cell
@@ -52,10 +52,10 @@ impl<'a> Cells<'a> {
     /// The scope with these parameters, in slots from this one on.
     pub fn with_slots(
         &mut self,
-        scope: u32,
-        slot: u32,
+        scope: usize,
+        slot: usize,
         params: &'a [Param],
-    ) -> Result<u32, AllocError>
+    ) -> Result<usize, AllocError>
         ensures { IfOk result (λ cell. (s : List Slotted) → IsSound (cells self.old) →
             IsScope (cells self.old) scope s →
             Opens (cells self.old) (cells self.new) cell (with_slots slot
@@ -75,7 +75,7 @@ impl<'a> Cells<'a> {
 
     /// The innermost binding of the name.
     #[cycle(find)]
-    pub fn find(&self, scope: u32, name: &Name) -> Option<Found>
+    pub fn find(&self, scope: usize, name: &Name) -> Option<Found>
         ensures { (s : List Slotted) → IsSound (cells self.now) →
             IsScope (cells self.now) scope s → result ≡ found_in s name.now }
     {
@@ -87,7 +87,7 @@ impl<'a> Cells<'a> {
 
     /// The innermost binding of the name, in the scope that this cell is.
     #[cycle(find)]
-    fn find_in(&self, scope: u32, item: Item<'a>, name: &Name) -> Option<Found>
+    fn find_in(&self, scope: usize, item: Item<'a>, name: &Name) -> Option<Found>
         ensures { (s : List Slotted) → IsSound (cells self.now) →
             IsScope (cells self.now) scope s →
             item_at (cells self.now) scope ≡ Some item.entry → result ≡ found_in s name.now }
@@ -124,7 +124,7 @@ impl<'a> Cells<'a> {
     }
 
     /// Whether it is a name that is not mutable.
-    fn is_immutable(&self, scope: u32, name: &Name) -> bool
+    fn is_immutable(&self, scope: usize, name: &Name) -> bool
         ensures { (s : List Slotted) → IsSound (cells self.now) →
             IsScope (cells self.now) scope s → result ≡ is_immutable (names s) name.now }
     {
@@ -135,7 +135,7 @@ impl<'a> Cells<'a> {
     }
 
     /// Whether it is an integer, a symbol, an immutable name, or an operator over two light expressions.
-    fn is_light(&self, scope: u32, expr: &Expr) -> bool
+    fn is_light(&self, scope: usize, expr: &Expr) -> bool
         ensures { (s : List Slotted) → IsSound (cells self.now) →
             IsScope (cells self.now) scope s → result ≡ is_light (names s) (expr_view expr.now) }
     {
@@ -170,7 +170,7 @@ impl<'a> Cells<'a> {
     }
 
     /// Whether it is a light expression whose outermost operator is `+a`.
-    pub fn is_light_address(&self, scope: u32, expr: &Expr) -> bool
+    pub fn is_light_address(&self, scope: usize, expr: &Expr) -> bool
         ensures { (s : List Slotted) → IsSound (cells self.now) →
             IsScope (cells self.now) scope s →
             result ≡ is_light_address (names s) (expr_view expr.now) }

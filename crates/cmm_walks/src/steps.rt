@@ -18,20 +18,20 @@ use std::alloc::{AllocError, Global};
 /// What a handler evaluates once its parameters are bound, and where it then goes on.
 #[derive(Clone, Copy)]
 struct Handled<'a> {
-    scope: u32,
-    free: u32,
+    scope: usize,
+    free: usize,
     body: &'a Expr,
-    caught: u32,
+    caught: usize,
 }
 
 impl<'a> Cells<'a> {
     /// The node of an expression.
     fn evaluate(
         &mut self,
-        scope: u32,
-        slot: u32,
+        scope: usize,
+        slot: usize,
         expr: &'a Expr,
-        rest: u32,
+        rest: usize,
     ) -> Result<Node, AllocError>
         ensures { IfOk result (λ node. (s : List Slotted) → IsReady (cells self.old) rest →
             IsScope (cells self.old) scope s → IsAnnotated (names s) expr.now →
@@ -45,11 +45,11 @@ impl<'a> Cells<'a> {
     /// The node of bindings and what is evaluated in their scope.
     fn enter(
         &mut self,
-        scope: u32,
-        slot: u32,
+        scope: usize,
+        slot: usize,
         bindings: &'a [Binding],
         body: &'a Expr,
-        rest: u32,
+        rest: usize,
     ) -> Result<Node, AllocError>
         ensures { IfOk result (λ node. (s : List Slotted) → IsReady (cells self.old) rest →
             IsScope (cells self.old) scope s →
@@ -66,11 +66,11 @@ impl<'a> Cells<'a> {
     /// The node of a choice of two.
     fn either(
         &mut self,
-        scope: u32,
-        slot: u32,
+        scope: usize,
+        slot: usize,
         on_true: &'a Expr,
         on_false: &'a Expr,
-        rest: u32,
+        rest: usize,
     ) -> Result<Node, AllocError>
         ensures { IfOk result (λ node. (s : List Slotted) → IsReady (cells self.old) rest →
             IsScope (cells self.old) scope s → IsAnnotated (names s) on_true.now →
@@ -87,11 +87,11 @@ impl<'a> Cells<'a> {
     /// Cells for the bodies of the cases, each with `rest` after it.
     fn bodies(
         &mut self,
-        scope: u32,
-        slot: u32,
+        scope: usize,
+        slot: usize,
         cases: &'a [Case],
-        rest: u32,
-        next: &mut Vec<u32>,
+        rest: usize,
+        next: &mut Vec<usize>,
     ) -> Result<(), AllocError>
         ensures { IfOk result (λ _. (s : List Slotted) → IsReady (cells self.old) rest →
             IsScope (cells self.old) scope s →
@@ -114,10 +114,10 @@ impl<'a> Cells<'a> {
     fn one_of(
         &mut self,
         alloc: Global,
-        scope: u32,
-        slot: u32,
+        scope: usize,
+        slot: usize,
         cases: &'a [Case],
-        rest: u32,
+        rest: usize,
     ) -> Result<Node, AllocError>
         ensures { IfOk result (λ node. (s : List Slotted) → IsReady (cells self.old) rest →
             IsScope (cells self.old) scope s → AreCasesAnnotated (names s) cases.now →
@@ -130,7 +130,7 @@ impl<'a> Cells<'a> {
     }
 
     /// The node of a call or a test.
-    fn go_on_or_raise(&mut self, rest: u32) -> Result<Node, AllocError>
+    fn go_on_or_raise(&mut self, rest: usize) -> Result<Node, AllocError>
         ensures { IfOk result (λ node. IsReady (cells self.old) rest →
             Steps (cells self.old) (cells self.new) (MayRaise ∷ tasks_at
             (cells self.old) rest) node) }
@@ -140,7 +140,7 @@ impl<'a> Cells<'a> {
     }
 
     /// The node of a raise.
-    fn leave_by_raise(&self, rest: u32) -> Node
+    fn leave_by_raise(&self, rest: usize) -> Node
         ensures { IsSound (cells self.now) →
             Steps (cells self.now) (cells self.now) (Raises ∷ tasks_at
             (cells self.now) rest) result }
@@ -152,7 +152,7 @@ impl<'a> Cells<'a> {
     }
 
     /// The node of an exit.
-    fn leave_by_exit(&self, label: &Label, rest: u32) -> Result<Node, AllocError>
+    fn leave_by_exit(&self, label: &Label, rest: usize) -> Result<Node, AllocError>
         ensures { IfOk result (λ node. IsSound (cells self.now) →
             Steps (cells self.now) (cells self.now) (Exits
             (label_view label.now) ∷ tasks_at (cells self.now) rest) node) }
@@ -167,7 +167,7 @@ impl<'a> Cells<'a> {
     /// The node of the first parameter of a handler.
     fn enter_bound(
         &mut self,
-        slot: u32,
+        slot: usize,
         param: &'a Param,
         others: &'a [Param],
         handled: Handled<'a>,
@@ -192,11 +192,11 @@ impl<'a> Cells<'a> {
     /// The node of a handler in the scope of its parameters.
     fn enter_handler(
         &mut self,
-        inner: u32,
-        slot: u32,
+        inner: usize,
+        slot: usize,
         params: &'a [Param],
         body: &'a Expr,
-        caught: u32,
+        caught: usize,
     ) -> Result<Node, AllocError>
         ensures { IfOk result (λ node. (s : List Slotted) → IsReady (cells self.old) caught →
             IsScope (cells self.old) inner s → IsAnnotated (names s) body.now →
@@ -223,12 +223,12 @@ impl<'a> Cells<'a> {
     /// The node of a handler.
     fn handle(
         &mut self,
-        scope: u32,
-        slot: u32,
+        scope: usize,
+        slot: usize,
         handlers: &'a [Handler],
         own: &'a Handler,
-        first: u32,
-        rest: u32,
+        first: usize,
+        rest: usize,
     ) -> Result<Node, AllocError>
         ensures { IfOk result (λ node. (s : List Slotted) → IsReady (cells self.old) rest →
             IsScope (cells self.old) scope s →

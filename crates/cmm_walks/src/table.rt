@@ -21,12 +21,12 @@ use std::alloc::{AllocError, Global};
 #[derive(Drop)]
 pub struct Table {
     pub nodes: Vec<Node>,
-    pub entry: u32,
+    pub entry: usize,
 }
 
 impl<'a> Cells<'a> {
     /// The cell at which a walk of the function begins.
-    fn begin(&mut self, function: &'a Function) -> Result<u32, AllocError>
+    fn begin(&mut self, function: &'a Function) -> Result<usize, AllocError>
         ensures { IfOk result (λ cell. cells self.old ≡ [] →
             IsAnnotated (with_parameters (params_view
             (contents function.now.params)) []) function.now.body →
@@ -47,7 +47,7 @@ impl<'a> Cells<'a> {
             Filled (cells self.old) (cells self.new) nodes.items (length (cells self.new))) }
     {
         let mut nodes = Vec::new(alloc);
-        let mut done: u32 = 0;
+        let mut done: usize = 0;
         while let Some(item) = self.get(done) {
             let node = self.step(alloc, item)?;
             nodes.push(node)?;

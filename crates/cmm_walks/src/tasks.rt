@@ -18,7 +18,7 @@ use std::alloc::AllocError;
 
 impl<'a> Cells<'a> {
     /// The event comes.
-    pub fn does(&mut self, action: Action, rest: u32) -> Result<u32, AllocError>
+    pub fn does(&mut self, action: Action, rest: usize) -> Result<usize, AllocError>
         ensures { IfOk result (λ cell. IsReady (cells self.old) rest →
             Adds (cells self.old) (cells self.new) cell (Does (event_of action) ∷ []) rest) }
     {
@@ -29,11 +29,11 @@ impl<'a> Cells<'a> {
     /// The expression is evaluated in this scope, with the slots from this one on free.
     pub fn eval(
         &mut self,
-        scope: u32,
-        slot: u32,
+        scope: usize,
+        slot: usize,
         expr: &'a Expr,
-        rest: u32,
-    ) -> Result<u32, AllocError>
+        rest: usize,
+    ) -> Result<usize, AllocError>
         ensures { IfOk result (λ cell. (s : List Slotted) → IsReady (cells self.old) rest →
             IsScope (cells self.old) scope s → IsAnnotated (names s) expr.now →
             Adds (cells self.old) (cells self.new) cell (Evaluates s slot
@@ -51,12 +51,12 @@ impl<'a> Cells<'a> {
     /// An operand is evaluated, with the slots from `free` on, and bound to its own slot.
     fn operand(
         &mut self,
-        scope: u32,
-        free: u32,
-        slot: u32,
+        scope: usize,
+        free: usize,
+        slot: usize,
         expr: &'a Expr,
-        rest: u32,
-    ) -> Result<u32, AllocError>
+        rest: usize,
+    ) -> Result<usize, AllocError>
         ensures { IfOk result (λ cell. (s : List Slotted) → IsReady (cells self.old) rest →
             IsScope (cells self.old) scope s → IsAnnotated (names s) expr.now →
             Adds (cells self.old) (cells self.new) cell (operand s free slot
@@ -70,7 +70,13 @@ impl<'a> Cells<'a> {
     }
 
     /// The operation at this place takes so many operands, the first of them in this slot.
-    pub fn takes(&mut self, at: u32, slot: u32, count: usize, rest: u32) -> Result<u32, AllocError>
+    pub fn takes(
+        &mut self,
+        at: u32,
+        slot: usize,
+        count: usize,
+        rest: usize,
+    ) -> Result<usize, AllocError>
         ensures { IfOk result (λ cell. IsReady (cells self.old) rest →
             Adds (cells self.old) (cells self.new) cell (takes at slot count) rest) }
     {
@@ -86,12 +92,12 @@ impl<'a> Cells<'a> {
     /// An operand, unless it is a light address.
     pub fn wait_one(
         &mut self,
-        scope: u32,
-        free: u32,
-        slot: u32,
+        scope: usize,
+        free: usize,
+        slot: usize,
         expr: &'a Expr,
-        rest: u32,
-    ) -> Result<u32, AllocError>
+        rest: usize,
+    ) -> Result<usize, AllocError>
         ensures { IfOk result (λ cell. (s : List Slotted) → IsReady (cells self.old) rest →
             IsScope (cells self.old) scope s → IsAnnotated (names s) expr.now →
             Adds (cells self.old) (cells self.new) cell (cond (is_light_address
@@ -107,12 +113,12 @@ impl<'a> Cells<'a> {
     /// An operand, if it is a light address.
     pub fn fill_one(
         &mut self,
-        scope: u32,
-        free: u32,
-        slot: u32,
+        scope: usize,
+        free: usize,
+        slot: usize,
         expr: &'a Expr,
-        rest: u32,
-    ) -> Result<u32, AllocError>
+        rest: usize,
+    ) -> Result<usize, AllocError>
         ensures { IfOk result (λ cell. (s : List Slotted) → IsReady (cells self.old) rest →
             IsScope (cells self.old) scope s → IsAnnotated (names s) expr.now →
             Adds (cells self.old) (cells self.new) cell (cond (is_light_address
@@ -128,12 +134,12 @@ impl<'a> Cells<'a> {
     /// The operands that are no light addresses, right to left.
     pub fn wait(
         &mut self,
-        scope: u32,
-        free: u32,
-        slot: u32,
+        scope: usize,
+        free: usize,
+        slot: usize,
         exprs: &'a [Expr],
-        rest: u32,
-    ) -> Result<u32, AllocError>
+        rest: usize,
+    ) -> Result<usize, AllocError>
         ensures { IfOk result (λ cell. (s : List Slotted) → IsReady (cells self.old) rest →
             IsScope (cells self.old) scope s → AreAnnotated (names s) exprs.now →
             Adds (cells self.old) (cells self.new) cell (waiting s free slot
@@ -153,12 +159,12 @@ impl<'a> Cells<'a> {
     /// The light addresses, right to left.
     pub fn fill(
         &mut self,
-        scope: u32,
-        free: u32,
-        slot: u32,
+        scope: usize,
+        free: usize,
+        slot: usize,
         exprs: &'a [Expr],
-        rest: u32,
-    ) -> Result<u32, AllocError>
+        rest: usize,
+    ) -> Result<usize, AllocError>
         ensures { IfOk result (λ cell. (s : List Slotted) → IsReady (cells self.old) rest →
             IsScope (cells self.old) scope s → AreAnnotated (names s) exprs.now →
             Adds (cells self.old) (cells self.new) cell (filled s free slot
@@ -178,11 +184,11 @@ impl<'a> Cells<'a> {
     /// All operands, the first of them in this slot.
     pub fn all_operands(
         &mut self,
-        scope: u32,
-        slot: u32,
+        scope: usize,
+        slot: usize,
         exprs: &'a [Expr],
-        rest: u32,
-    ) -> Result<u32, AllocError>
+        rest: usize,
+    ) -> Result<usize, AllocError>
         ensures { IfOk result (λ cell. (s : List Slotted) → IsReady (cells self.old) rest →
             IsScope (cells self.old) scope s → AreAnnotated (names s) exprs.now →
             Adds (cells self.old) (cells self.new) cell (all_operands s slot
@@ -197,11 +203,11 @@ impl<'a> Cells<'a> {
     /// One expression after the other.
     pub fn in_order(
         &mut self,
-        scope: u32,
-        slot: u32,
+        scope: usize,
+        slot: usize,
         exprs: &'a [Expr],
-        rest: u32,
-    ) -> Result<u32, AllocError>
+        rest: usize,
+    ) -> Result<usize, AllocError>
         ensures { IfOk result (λ cell. (s : List Slotted) → IsReady (cells self.old) rest →
             IsScope (cells self.old) scope s → AreAnnotated (names s) exprs.now →
             Adds (cells self.old) (cells self.new) cell (in_order s slot
@@ -220,10 +226,10 @@ impl<'a> Cells<'a> {
     /// Parameters are bound at their names.
     pub fn parameters_bound(
         &mut self,
-        slot: u32,
+        slot: usize,
         params: &[Param],
-        rest: u32,
-    ) -> Result<u32, AllocError>
+        rest: usize,
+    ) -> Result<usize, AllocError>
         ensures { IfOk result (λ cell. IsReady (cells self.old) rest →
             Adds (cells self.old) (cells self.new) cell (parameters_bound slot
             (params_view params.now)) rest) }
@@ -244,12 +250,12 @@ impl<'a> Cells<'a> {
     /// The first binding of a let, and the others in its scope; then the body.
     pub fn entering(
         &mut self,
-        scope: u32,
-        slot: u32,
+        scope: usize,
+        slot: usize,
         bindings: &'a [Binding],
         body: &'a Expr,
-        rest: u32,
-    ) -> Result<u32, AllocError>
+        rest: usize,
+    ) -> Result<usize, AllocError>
         ensures { IfOk result (λ cell. (s : List Slotted) → IsReady (cells self.old) rest →
             IsScope (cells self.old) scope s →
             AreBindingsAnnotated (names s) bindings.now →
@@ -272,13 +278,13 @@ impl<'a> Cells<'a> {
     /// A binding of a let, and the others in its scope; then the body.
     fn enter_one(
         &mut self,
-        scope: u32,
-        slot: u32,
+        scope: usize,
+        slot: usize,
         first: &'a Binding,
         others: &'a [Binding],
         body: &'a Expr,
-        rest: u32,
-    ) -> Result<u32, AllocError>
+        rest: usize,
+    ) -> Result<usize, AllocError>
         ensures { IfOk result (λ cell. (s : List Slotted) → IsReady (cells self.old) rest →
             IsScope (cells self.old) scope s →
             AreBindingsAnnotated (names s) (first.now ∷ others.now) →

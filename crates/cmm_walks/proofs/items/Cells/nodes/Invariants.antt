@@ -8,6 +8,6 @@ use Rattle.cmm_walks.proofs.items.Cells.nodes.Given as goal
 abbrev pub invariant-loop-item : goal.invariant-loop-item
 invariant-loop-item l = IsSound (cells l.fn.self) → Filled (cells l.fn.self) (cells l.self) l.nodes.items l.done
 
--- cells have numbers of 32 bits
+-- cells have numbers of 64 bits
 abbrev pub decreases-loop-item : goal.decreases-loop-item
-decreases-loop-item l = 4294967296 - l.done
+decreases-loop-item l = 18446744073709551616 - l.done
