@@ -1,5 +1,5 @@
 //! Cells for the tasks of an expression.
-ghost use Rattle.std.specs.Prelude.{◌≡◌, suc, ◌∷◌, ◌++◌, ◌+◌, ◌<◌, [], List, IfOk, length, true, false};
+ghost use Rattle.std.specs.Prelude.{◌≡◌, suc, ◌∷◌, ◌++◌, ◌+◌, ◌<◌, ◌≤◌, [], List, IfOk, length, true, false};
 ghost use Rattle.bs_words.specs.declared.types.Ty.TheVariants as ty;
 ghost use Rattle.cmm_tree.specs.Tree.{More};
 ghost use Rattle.cmm_tree.specs.View.{expr_view, label_view};
@@ -14,7 +14,7 @@ ghost use Rattle.cmm_walks.specs.Cells.{cells};
 ghost use Rattle.cmm_walks.specs.Sound.{IsReady, IsScope, Adds, AddsHandlers};
 
 use crate::items::{Action, Cells, Item};
-use crate::numbers::{after, behind, is_address};
+use crate::numbers::is_address;
 use bs_words::{Name, Ty};
 use cmm_tree::{Binding, Case, Expr, Form, Handler, Label};
 use std::alloc::AllocError;
@@ -22,8 +22,9 @@ use std::alloc::AllocError;
 impl<'a> Cells<'a> {
     /// A call or a test, which may raise.
     fn may_raise(&mut self, rest: usize) -> Result<usize, AllocError>
-        ensures { IfOk result (λ cell. IsReady (cells self.old) rest →
+        ensures adds { IfOk result (λ cell. IsReady (cells self.old) rest →
             Adds (cells self.old) (cells self.new) cell (MayRaise ∷ []) rest) }
+        ensures more { IfOk result (λ _. length (cells self.new) ≡ suc (length (cells self.old))) }
     {
         let cell = self.push(Item::MayRaise { rest })?;
         Ok(cell)
@@ -31,8 +32,9 @@ impl<'a> Cells<'a> {
 
     /// A raise.
     pub fn raises(&mut self, rest: usize) -> Result<usize, AllocError>
-        ensures { IfOk result (λ cell. IsReady (cells self.old) rest →
+        ensures adds { IfOk result (λ cell. IsReady (cells self.old) rest →
             Adds (cells self.old) (cells self.new) cell (Raises ∷ []) rest) }
+        ensures more { IfOk result (λ _. length (cells self.new) ≡ suc (length (cells self.old))) }
     {
         let cell = self.push(Item::Raises { rest })?;
         Ok(cell)
@@ -47,12 +49,13 @@ impl<'a> Cells<'a> {
         expr: &'a Expr,
         rest: usize,
     ) -> Result<usize, AllocError>
+        requires { slot ≤ length (cells self.old) }
         ensures { IfOk result (λ cell. (s : List Slotted) → IsReady (cells self.old) rest →
             IsScope (cells self.old) scope s → IsAnnotated (names s) expr.now →
             Adds (cells self.old) (cells self.new) cell (on_one s slot at
             (expr_view expr.now)) rest) }
     {
-        let free = behind(slot, 1)?;
+        let free = slot + 1;
         let taken = self.takes(at, slot, 1, rest)?;
         let filled = self.fill_one(scope, free, slot, expr, taken)?;
         let cell = self.wait_one(scope, free, slot, expr, filled)?;
@@ -69,14 +72,15 @@ impl<'a> Cells<'a> {
         right: &'a Expr,
         rest: usize,
     ) -> Result<usize, AllocError>
+        requires { slot ≤ length (cells self.old) }
         ensures { IfOk result (λ cell. (s : List Slotted) → IsReady (cells self.old) rest →
             IsScope (cells self.old) scope s → IsAnnotated (names s) left.now →
             IsAnnotated (names s) right.now →
             Adds (cells self.old) (cells self.new) cell (on_two s slot at
             (expr_view left.now) (expr_view right.now)) rest) }
     {
-        let free = behind(slot, 2)?;
-        let second = after(slot)?;
+        let free = slot + 2;
+        let second = slot + 1;
         let taken = self.takes(at, slot, 2, rest)?;
         let first_filled = self.fill_one(scope, free, slot, left, taken)?;
         let filled = self.fill_one(scope, free, second, right, first_filled)?;
@@ -94,6 +98,7 @@ impl<'a> Cells<'a> {
         exprs: &'a [Expr],
         rest: usize,
     ) -> Result<usize, AllocError>
+        requires { slot ≤ length (cells self.old) }
         ensures { IfOk result (λ cell. (s : List Slotted) → IsReady (cells self.old) rest →
             IsScope (cells self.old) scope s → AreAnnotated (names s) exprs.now →
             Adds (cells self.old) (cells self.new) cell (all_operands s slot
@@ -113,6 +118,7 @@ impl<'a> Cells<'a> {
         exprs: &'a [Expr],
         rest: usize,
     ) -> Result<usize, AllocError>
+        requires { slot ≤ length (cells self.old) }
         ensures { IfOk result (λ cell. (s : List Slotted) → IsReady (cells self.old) rest →
             IsScope (cells self.old) scope s → AreAnnotated (names s) exprs.now →
             Adds (cells self.old) (cells self.new) cell (waiting s (slot + count
@@ -120,7 +126,7 @@ impl<'a> Cells<'a> {
             (slot + count (row_of exprs.now)) slot (row_of exprs.now) ++ takes at slot
             (count (row_of exprs.now))))) rest) }
     {
-        let free = behind(slot, exprs.len())?;
+        let free = slot + exprs.len();
         let taken = self.takes(at, slot, exprs.len(), rest)?;
         let filled = self.fill(scope, free, slot, exprs, taken)?;
         let passed = self.does(Action::Passes { at }, filled)?;
@@ -130,8 +136,9 @@ impl<'a> Cells<'a> {
 
     /// What is after the operands of a call: the frame point of an app or a frame call, and a raise out of it.
     fn called(&mut self, frame: bool, at: u32, rest: usize) -> Result<usize, AllocError>
-        ensures { IfOk result (λ cell. IsReady (cells self.old) rest →
+        ensures adds { IfOk result (λ cell. IsReady (cells self.old) rest →
             Adds (cells self.old) (cells self.new) cell (called frame at) rest) }
+        ensures more { IfOk result (λ _. length (cells self.old) ≤ length (cells self.new)) }
     {
         if frame {
             let may_raise = self.may_raise(rest)?;
@@ -152,6 +159,7 @@ impl<'a> Cells<'a> {
         exprs: &'a [Expr],
         rest: usize,
     ) -> Result<usize, AllocError>
+        requires { slot ≤ length (cells self.old) }
         ensures { IfOk result (λ cell. (s : List Slotted) → IsReady (cells self.old) rest →
             IsScope (cells self.old) scope s → AreAnnotated (names s) exprs.now →
             Adds (cells self.old) (cells self.new) cell (all_operands s slot
@@ -171,11 +179,14 @@ impl<'a> Cells<'a> {
         arguments: usize,
         rest: usize,
     ) -> Result<usize, AllocError>
-        ensures { IfOk result (λ cell. IsReady (cells self.old) rest →
+        requires { slot + suc arguments ≤ usize.MAX }
+        ensures adds { IfOk result (λ cell. IsReady (cells self.old) rest →
             Adds (cells self.old) (cells self.new) cell (takes at slot
             (suc arguments) ++ called true at) rest) }
+        ensures more { IfOk result (λ _.
+            length (cells self.old) + suc arguments ≤ length (cells self.new)) }
     {
-        let second = after(slot)?;
+        let second = slot + 1;
         let called = self.called(true, at, rest)?;
         let others = self.takes(at, second, arguments, called)?;
         let cell = self.does(Action::Uses { slot, at }, others)?;
@@ -192,6 +203,7 @@ impl<'a> Cells<'a> {
         exprs: &'a [Expr],
         rest: usize,
     ) -> Result<usize, AllocError>
+        requires { slot ≤ length (cells self.old) }
         ensures { IfOk result (λ cell. (s : List Slotted) → IsReady (cells self.old) rest →
             IsScope (cells self.old) scope s → IsAnnotated (names s) callee.now →
             AreAnnotated (names s) exprs.now →
@@ -199,8 +211,8 @@ impl<'a> Cells<'a> {
             (expr_view callee.now) (row_of exprs.now)) ++ (takes at slot (suc (count
             (row_of exprs.now))) ++ called true at)) rest) }
     {
-        let second = after(slot)?;
-        let free = behind(second, exprs.len())?;
+        let second = slot + 1;
+        let free = second + exprs.len();
         let taken = self.calls(slot, at, exprs.len(), rest)?;
         let first_filled = self.fill_one(scope, free, slot, callee, taken)?;
         let filled = self.fill(scope, free, second, exprs, first_filled)?;
@@ -257,6 +269,7 @@ impl<'a> Cells<'a> {
         value: &'a Expr,
         rest: usize,
     ) -> Result<usize, AllocError>
+        requires { slot ≤ length (cells self.old) }
         ensures { IfOk result (λ cell. (s : List Slotted) → IsReady (cells self.old) rest →
             IsScope (cells self.old) scope s → IsAnnotated (names s) value.now →
             Adds (cells self.old) (cells self.new) cell (Evaluates s slot
@@ -278,6 +291,7 @@ impl<'a> Cells<'a> {
         index: &'a Expr,
         rest: usize,
     ) -> Result<usize, AllocError>
+        requires { slot ≤ length (cells self.old) }
         ensures { IfOk result (λ cell. (s : List Slotted) → IsReady (cells self.old) rest →
             IsScope (cells self.old) scope s → IsAnnotated (names s) bound.now →
             IsAnnotated (names s) index.now →
@@ -298,6 +312,7 @@ impl<'a> Cells<'a> {
         value: &'a Expr,
         rest: usize,
     ) -> Result<usize, AllocError>
+        requires { slot ≤ length (cells self.old) }
         ensures { IfOk result (λ cell. (s : List Slotted) → IsReady (cells self.old) rest →
             IsScope (cells self.old) scope s → IsAnnotated (names s) value.now →
             Adds (cells self.old) (cells self.new) cell (on_one s slot at
@@ -319,6 +334,7 @@ impl<'a> Cells<'a> {
         on_false: &'a Expr,
         rest: usize,
     ) -> Result<usize, AllocError>
+        requires { slot ≤ length (cells self.old) }
         ensures { IfOk result (λ cell. (s : List Slotted) → IsReady (cells self.old) rest →
             IsScope (cells self.old) scope s → IsAnnotated (names s) condition.now →
             IsAnnotated (names s) on_true.now → IsAnnotated (names s) on_false.now →
@@ -347,6 +363,7 @@ impl<'a> Cells<'a> {
         cases: &'a [Case],
         rest: usize,
     ) -> Result<usize, AllocError>
+        requires { slot ≤ length (cells self.old) }
         ensures { IfOk result (λ cell. (s : List Slotted) → IsReady (cells self.old) rest →
             IsScope (cells self.old) scope s →
             IsAnnotated (names s) selector.now → AreCasesAnnotated (names s) cases.now →
@@ -373,6 +390,7 @@ impl<'a> Cells<'a> {
         exprs: &'a [Expr],
         rest: usize,
     ) -> Result<usize, AllocError>
+        requires { slot ≤ length (cells self.old) }
         ensures { IfOk result (λ cell. (s : List Slotted) → IsReady (cells self.old) rest →
             IsScope (cells self.old) scope s → AreAnnotated (names s) exprs.now →
             Adds (cells self.old) (cells self.new) cell (all_operands s slot
@@ -426,6 +444,7 @@ impl<'a> Cells<'a> {
         handlers: &'a [Handler],
         rest: usize,
     ) -> Result<usize, AllocError>
+        requires { slot ≤ length (cells self.old) }
         ensures { IfOk result (λ cell. (s : List Slotted) → IsReady (cells self.old) rest →
             IsScope (cells self.old) scope s →
             IsAnnotated (names s) body.now → AreHandlersAnnotated (names s) handlers.now →
@@ -457,6 +476,7 @@ impl<'a> Cells<'a> {
         handler: &'a Expr,
         rest: usize,
     ) -> Result<usize, AllocError>
+        requires { slot ≤ length (cells self.old) }
         ensures { IfOk result (λ cell. (s : List Slotted) → IsReady (cells self.old) rest →
             IsScope (cells self.old) scope s → IsAnnotated (record {
               name = name.now;
@@ -466,7 +486,7 @@ impl<'a> Cells<'a> {
             Adds (cells self.old) (cells self.new) cell
             (handling s slot name_at name.now (expr_view handler.now)) rest) }
     {
-        let next = after(slot)?;
+        let next = slot + 1;
         let inner = self.bind(scope, name, Ty::Val, false, slot)?;
         let handled = self.eval(inner, next, handler, rest)?;
         let address = false;
@@ -486,6 +506,7 @@ impl<'a> Cells<'a> {
         handler: &'a Expr,
         rest: usize,
     ) -> Result<usize, AllocError>
+        requires { slot ≤ length (cells self.old) }
         ensures { IfOk result (λ cell. (s : List Slotted) → IsReady (cells self.old) rest →
             IsScope (cells self.old) scope s → IsAnnotated (names s) body.now →
             IsAnnotated (record {
@@ -520,6 +541,7 @@ impl<'a> Cells<'a> {
         body: &'a Expr,
         rest: usize,
     ) -> Result<usize, AllocError>
+        requires { slot ≤ length (cells self.old) }
         ensures { IfOk result (λ cell. (s : List Slotted) → IsReady (cells self.old) rest →
             IsScope (cells self.old) scope s →
             AreBindingsAnnotated (names s) bindings.now →
@@ -545,6 +567,7 @@ impl<'a> Cells<'a> {
         expr: &'a Expr,
         rest: usize,
     ) -> Result<usize, AllocError>
+        requires { slot ≤ length (cells self.old) }
         ensures { IfOk result (λ cell. (s : List Slotted) → IsReady (cells self.old) rest →
             IsScope (cells self.old) scope s → IsAnnotated (names s) expr.now →
             Adds (cells self.old) (cells self.new) cell (tasks_of s slot

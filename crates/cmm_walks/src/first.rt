@@ -1,5 +1,5 @@
 //! The first address that is live at a frame point.
-ghost use Rattle.std.specs.Prelude.{◌≡◌, ◌<◌, ◌≤◌, ◌↔◌, ℕ, length, true, Contains, IfOk, MatchOption, IsTrue};
+ghost use Rattle.std.specs.Prelude.{◌≡◌, ◌<◌, ◌≤◌, ◌↔◌, ℕ, suc, length, true, Contains, IfOk, MatchOption, IsTrue};
 ghost use Rattle.std.specs.List.{All, list_any};
 ghost use Rattle.cmm_walks.specs.Groups.{AreBefore, AreMentions};
 ghost use Rattle.cmm_walks.specs.Labels.{unlabelled, IsUnlabelled};
@@ -36,24 +36,20 @@ fn some_address(nodes: &[Node]) -> bool
     nodes.iter().any(|node| binds_address(node.step))
 }
 
-/// A number above the slot. That there is none counts as want of memory.
-fn above_slot(step: Step) -> Result<usize, AllocError>
-    ensures { IfOk result (λ bound. slot_below bound step) }
+/// The slot, or 0.
+fn slot_of(step: Step) -> usize
+    ensures { slot_below (suc result) step }
 {
-    let slot = match step {
+    match step {
+        Step::Quiet => 0,
         Step::Binds {
             slot,
             address: _,
             at: _,
         } => slot,
         Step::Uses { slot, at: _ } => slot,
-        Step::Quiet => 0,
         Step::Passes { at: _ } => 0,
-    };
-    if slot == usize::MAX {
-        return Err(AllocError);
     }
-    Ok(slot + 1)
 }
 
 fn larger(one: u32, other: u32) -> u32
@@ -70,16 +66,16 @@ fn larger_slot(one: usize, other: usize) -> usize
     if one < other { other } else { one }
 }
 
-/// A number above all slots.
-fn above_slots(nodes: &[Node]) -> Result<usize, AllocError>
-    ensures { IfOk result (λ bound. All (λ n. slot_below bound n.step) nodes.now) }
+/// A slot that no node's passes.
+fn greatest_slot(nodes: &[Node]) -> usize
+    ensures { All (λ n. slot_below (suc result) n.step) nodes.now }
 {
-    let mut bound = 0;
+    let mut greatest = 0;
     for node in nodes {
-        let here = above_slot(node.step)?;
-        bound = larger_slot(bound, here);
+        let here = slot_of(node.step);
+        greatest = larger_slot(greatest, here);
     }
-    Ok(bound)
+    greatest
 }
 
 /// The place, or 0.
@@ -242,10 +238,10 @@ pub fn first_live(alloc: Global, nodes: &[Node], entry: usize) -> Result<Option<
     if !some_address(nodes) {
         return Ok(None);
     }
-    let bound = above_slots(nodes)?;
     let greatest = greatest_place(nodes);
     let before = nodes_before(alloc, nodes)?;
-    let mentions = nodes_by_slot(alloc, nodes, bound)?;
+    let mentions = nodes_by_slot(alloc, nodes, greatest_slot(nodes))?;
+    let bound = mentions.len();
     let search = Search {
         nodes,
         before,

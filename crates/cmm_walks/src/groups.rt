@@ -1,11 +1,10 @@
 //! Numbers of nodes in groups: those before each node, and those that name each slot.
-ghost use Rattle.std.specs.Prelude.{◌≡◌, ◌<◌, ◌↔◌, ◌⊎◌, ℕ, [], length, IfOk, Contains};
+ghost use Rattle.std.specs.Prelude.{◌≡◌, ◌<◌, ◌↔◌, ◌⊎◌, ℕ, suc, [], length, IfOk, Contains};
 ghost use Rattle.std.specs.List.{All};
 ghost use Rattle.cmm_walks.specs.Groups.{members, Added, HasSlotAdded, AreBefore, AreMentions};
 ghost use Rattle.cmm_walks.specs.Table.{slot_below, AreLinked, AreNodes};
 
 use crate::node::{Node, Step};
-use crate::numbers::after;
 use std::alloc::{AllocError, Global};
 
 /// Numbers of nodes.
@@ -60,7 +59,7 @@ pub fn nodes_before(alloc: Global, nodes: &[Node]) -> Result<Vec<Group>, AllocEr
     let mut number: usize = 0;
     for node in nodes {
         add_to_all(&mut before, node.next.as_slice(), number)?;
-        number = after(number)?;
+        number += 1;
     }
     Ok(before)
 }
@@ -88,16 +87,24 @@ fn add_slot(groups: &mut Vec<Group>, step: Step, number: usize) -> Result<(), Al
     }
 }
 
-/// The nodes that name each slot below the bound.
-pub fn nodes_by_slot(alloc: Global, nodes: &[Node], bound: usize) -> Result<Vec<Group>, AllocError>
-    requires { AreNodes bound nodes.now }
-    ensures { IfOk result (λ mentions. AreMentions nodes.now mentions.items) }
+/// The nodes that name each slot up to the greatest.
+pub fn nodes_by_slot(
+    alloc: Global,
+    nodes: &[Node],
+    greatest: usize,
+) -> Result<Vec<Group>, AllocError>
+    requires { AreNodes (suc greatest) nodes.now }
+    ensures len { IfOk result (λ mentions. length mentions.items ≡ suc greatest) }
+    ensures named { IfOk result (λ mentions. AreMentions nodes.now mentions.items) }
 {
-    let mut mentions = groups(alloc, bound)?;
+    let mut mentions = groups(alloc, greatest)?;
+    mentions.push(Group {
+        members: Vec::new(alloc),
+    })?;
     let mut number: usize = 0;
     for node in nodes {
         add_slot(&mut mentions, node.step, number)?;
-        number = after(number)?;
+        number += 1;
     }
     Ok(mentions)
 }

@@ -1,5 +1,5 @@
-//! Slots, and the types of what is bound to them.
-ghost use Rattle.std.specs.Prelude.{◌≡◌, ◌+◌, suc, IfOk};
+//! The types of what is bound to slots.
+ghost use Rattle.std.specs.Prelude.{◌≡◌};
 ghost use Rattle.std.specs.Option.{option_map};
 ghost use Rattle.cmm_tree.specs.View.{declared_view};
 ghost use Rattle.cmm_types.specs.Types.{type_bound, is_mutable};
@@ -7,27 +7,6 @@ ghost use Rattle.cmm_walks.specs.Walks.{is_address};
 
 use bs_words::{Comp, Ty};
 use cmm_tree::Declared;
-use std::alloc::AllocError;
-
-/// The number after this one. That there is none counts as want of memory.
-pub fn after(number: usize) -> Result<usize, AllocError>
-    ensures { IfOk result (λ next. next ≡ suc number) }
-{
-    if number == usize::MAX {
-        return Err(AllocError);
-    }
-    Ok(number + 1)
-}
-
-/// The slot that lies `count` after this one.
-pub fn behind(slot: usize, count: usize) -> Result<usize, AllocError>
-    ensures { IfOk result (λ next. next ≡ slot + count) }
-{
-    if count > usize::MAX - slot {
-        return Err(AllocError);
-    }
-    Ok(slot + count)
-}
 
 /// Whether values of the type are addresses into blocks, which no allocation may outlive.
 pub fn is_address(ty: Ty) -> bool

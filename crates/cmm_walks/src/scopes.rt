@@ -1,5 +1,5 @@
 //! The names in scope, and the slot of each.
-ghost use Rattle.std.specs.Prelude.{◌≡◌, ◌∷◌, ◌&&◌, List, Some, IfOk};
+ghost use Rattle.std.specs.Prelude.{◌≡◌, ◌∷◌, ◌&&◌, ◌+◌, ◌≤◌, suc, length, List, Some, IfOk};
 ghost use Rattle.cmm_tree.specs.View.{expr_view, params_view};
 ghost use Rattle.cmm_types.specs.Light.{is_light_operator, is_immutable, is_light, is_light_address};
 ghost use Rattle.cmm_walks.specs.Walks.{Slotted, names, with_slots};
@@ -8,7 +8,6 @@ ghost use Rattle.cmm_walks.specs.Sound.{IsSound, IsScope, Opens};
 ghost use Rattle.cmm_walks.specs.Found.{found_in};
 
 use crate::items::{Cells, Item};
-use crate::numbers::after;
 use bs_words::{IntOp, Name, Ty};
 use cmm_tree::{Expr, Form, Param};
 use std::alloc::AllocError;
@@ -31,13 +30,14 @@ impl<'a> Cells<'a> {
         mutable: bool,
         slot: usize,
     ) -> Result<usize, AllocError>
-        ensures { IfOk result (λ cell. (s : List Slotted) → IsSound (cells self.old) →
+        ensures opens { IfOk result (λ cell. (s : List Slotted) → IsSound (cells self.old) →
             IsScope (cells self.old) outer s →
             Opens (cells self.old) (cells self.new) cell
             (record {
               scoped = record { name = name.now; type = ty; mutable = mutable };
               slot = slot;
             } ∷ s)) }
+        ensures more { IfOk result (λ _. length (cells self.new) ≡ suc (length (cells self.old))) }
     {
         let cell = self.push(Item::Named {
             name,
@@ -56,16 +56,18 @@ impl<'a> Cells<'a> {
         slot: usize,
         params: &'a [Param],
     ) -> Result<usize, AllocError>
-        ensures { IfOk result (λ cell. (s : List Slotted) → IsSound (cells self.old) →
+        requires { slot + length params.now ≤ usize.MAX }
+        ensures opens { IfOk result (λ cell. (s : List Slotted) → IsSound (cells self.old) →
             IsScope (cells self.old) scope s →
             Opens (cells self.old) (cells self.new) cell (with_slots slot
             (params_view params.now) s)) }
+        ensures more { IfOk result (λ _. length (cells self.old) + length params.now ≤ length (cells self.new)) }
     {
         match params {
             [] => Ok(scope),
             [first, others @ ..] => {
                 let ty = first.comp.ty();
-                let next = after(slot)?;
+                let next = slot + 1;
                 let inner = self.bind(scope, &first.name, ty, false, slot)?;
                 let cell = self.with_slots(inner, next, others)?;
                 Ok(cell)

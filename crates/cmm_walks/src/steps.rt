@@ -1,5 +1,5 @@
 //! The nodes of a function: each cell's task, and the cells that may come next.
-ghost use Rattle.std.specs.Prelude.{◌+◌, ◌∷◌, ◌++◌, [], List, length, IfOk};
+ghost use Rattle.std.specs.Prelude.{◌+◌, ◌≤◌, ◌∷◌, ◌++◌, suc, [], List, length, IfOk};
 ghost use Rattle.cmm_tree.specs.View.{expr_view, params_view, label_view};
 ghost use Rattle.cmm_types.specs.Annotated.{IsAnnotated};
 ghost use Rattle.cmm_types.specs.Lists.{AreBindingsAnnotated, AreCasesAnnotated, AreHandlersAnnotated};
@@ -7,11 +7,11 @@ ghost use Rattle.cmm_tree.specs.Rows.{bindings_of, cases_of};
 ghost use Rattle.cmm_types.specs.Types.{with_bindings, with_parameters};
 ghost use Rattle.cmm_walks.specs.Walks.{Slotted, Evaluates, Enters, OneOf, MayRaise, Raises, Exits, names, bodies, parameters_bound};
 ghost use Rattle.cmm_walks.specs.Cells.{cells, scope_at, tasks_at, tasks_in, handler_tasks};
-ghost use Rattle.cmm_walks.specs.Sound.{IsSound, IsBelow, IsHeld, IsReady, IsScope, HandlersAt, Steps, AddsBodies};
+ghost use Rattle.cmm_walks.specs.Sound.{free_in, IsSound, IsBelow, IsHeld, IsReady, IsScope, HandlersAt, Steps, AddsBodies};
 
 use crate::items::{Action, Cells, Item};
 use crate::node::{Node, any_of, forked, last, quiet, telling};
-use crate::numbers::{after, behind, is_address};
+use crate::numbers::is_address;
 use cmm_tree::{Binding, Case, Expr, Handler, Label, Param};
 use std::alloc::{AllocError, Global};
 
@@ -33,6 +33,7 @@ impl<'a> Cells<'a> {
         expr: &'a Expr,
         rest: usize,
     ) -> Result<Node, AllocError>
+        requires { slot ≤ length (cells self.old) }
         ensures { IfOk result (λ node. (s : List Slotted) → IsReady (cells self.old) rest →
             IsScope (cells self.old) scope s → IsAnnotated (names s) expr.now →
             Steps (cells self.old) (cells self.new) (Evaluates s slot
@@ -51,6 +52,7 @@ impl<'a> Cells<'a> {
         body: &'a Expr,
         rest: usize,
     ) -> Result<Node, AllocError>
+        requires { slot ≤ length (cells self.old) }
         ensures { IfOk result (λ node. (s : List Slotted) → IsReady (cells self.old) rest →
             IsScope (cells self.old) scope s →
             AreBindingsAnnotated (names s) bindings.now →
@@ -72,6 +74,7 @@ impl<'a> Cells<'a> {
         on_false: &'a Expr,
         rest: usize,
     ) -> Result<Node, AllocError>
+        requires { slot ≤ length (cells self.old) }
         ensures { IfOk result (λ node. (s : List Slotted) → IsReady (cells self.old) rest →
             IsScope (cells self.old) scope s → IsAnnotated (names s) on_true.now →
             IsAnnotated (names s) on_false.now →
@@ -96,6 +99,7 @@ impl<'a> Cells<'a> {
         ensures { IfOk result (λ _. (s : List Slotted) → IsReady (cells self.old) rest →
             IsScope (cells self.old) scope s →
             AreCasesAnnotated (names s) cases.now →
+            slot ≤ length (cells self.old) →
             AddsBodies (cells self.old) (cells self.new) s slot (tasks_at
             (cells self.old) rest) next.old.items next.new.items (bodies (cases_of cases.now))) }
     {
@@ -119,6 +123,7 @@ impl<'a> Cells<'a> {
         cases: &'a [Case],
         rest: usize,
     ) -> Result<Node, AllocError>
+        requires { slot ≤ length (cells self.old) }
         ensures { IfOk result (λ node. (s : List Slotted) → IsReady (cells self.old) rest →
             IsScope (cells self.old) scope s → AreCasesAnnotated (names s) cases.now →
             Steps (cells self.old) (cells self.new) (OneOf s slot (bodies
@@ -152,15 +157,14 @@ impl<'a> Cells<'a> {
     }
 
     /// The node of an exit.
-    fn leave_by_exit(&self, label: &Label, rest: usize) -> Result<Node, AllocError>
-        ensures { IfOk result (λ node. IsSound (cells self.now) →
-            Steps (cells self.now) (cells self.now) (Exits
-            (label_view label.now) ∷ tasks_at (cells self.now) rest) node) }
+    fn leave_by_exit(&self, label: &Label, rest: usize) -> Node
+        requires { IsSound (cells self.now) }
+        ensures { Steps (cells self.now) (cells self.now) (Exits
+            (label_view label.now) ∷ tasks_at (cells self.now) rest) result }
     {
-        let found = self.exit(label, rest)?;
-        match found {
-            None => Ok(last()),
-            Some(cell) => Ok(quiet(cell)),
+        match self.exit(label, rest) {
+            None => last(),
+            Some(cell) => quiet(cell),
         }
     }
 
@@ -172,16 +176,18 @@ impl<'a> Cells<'a> {
         others: &'a [Param],
         handled: Handled<'a>,
     ) -> Result<Node, AllocError>
+        requires { slot + suc (length others.now) ≤ usize.MAX }
         ensures { IfOk result (λ node. (s : List Slotted) →
             IsReady (cells self.old) handled.entry.caught →
             IsScope (cells self.old) handled.entry.scope s →
             IsAnnotated (names s) handled.entry.body.now →
+            handled.entry.free ≤ length (cells self.old) →
             Steps (cells self.old) (cells self.new) (parameters_bound slot
             (params_view (param.now ∷ others.now)) ++ (Evaluates s handled.entry.free
             (expr_view handled.entry.body.now)
             ∷ tasks_at (cells self.old) handled.entry.caught)) node) }
     {
-        let next = after(slot)?;
+        let next = slot + 1;
         let evaluated = self.eval(handled.scope, handled.free, handled.body, handled.caught)?;
         let bound = self.parameters_bound(next, others, evaluated)?;
         let address = is_address(param.comp.ty());
@@ -198,6 +204,7 @@ impl<'a> Cells<'a> {
         body: &'a Expr,
         caught: usize,
     ) -> Result<Node, AllocError>
+        requires { slot + length params.now ≤ length (cells self.old) }
         ensures { IfOk result (λ node. (s : List Slotted) → IsReady (cells self.old) caught →
             IsScope (cells self.old) inner s → IsAnnotated (names s) body.now →
             Steps (cells self.old) (cells self.new) (parameters_bound slot
@@ -205,7 +212,7 @@ impl<'a> Cells<'a> {
             (params_view params.now)) (expr_view body.now) ∷ tasks_at
             (cells self.old) caught)) node) }
     {
-        let free = behind(slot, params.len())?;
+        let free = slot + params.len();
         match params {
             [] => self.evaluate(inner, free, body, caught),
             [param, others @ ..] => {
@@ -230,6 +237,7 @@ impl<'a> Cells<'a> {
         first: usize,
         rest: usize,
     ) -> Result<Node, AllocError>
+        requires { slot ≤ length (cells self.old) }
         ensures { IfOk result (λ node. (s : List Slotted) → IsReady (cells self.old) rest →
             IsScope (cells self.old) scope s →
             AreHandlersAnnotated (names s) handlers.now →
@@ -257,6 +265,8 @@ impl<'a> Cells<'a> {
 
     /// The node of a cell.
     pub fn step(&mut self, alloc: Global, item: Item<'a>) -> Result<Node, AllocError>
+        requires sound { IsSound (cells self.old) }
+        requires placed { free_in item ≤ length (cells self.old) }
         ensures { IfOk result (λ node. IsSound (cells self.old) →
             IsBelow (length (cells self.old)) item.entry →
             IsHeld (length (cells self.old)) (scope_at (cells self.old)) (tasks_at
@@ -296,7 +306,7 @@ impl<'a> Cells<'a> {
             } => self.one_of(alloc, scope, slot, cases, rest),
             Item::MayRaise { rest } => self.go_on_or_raise(rest),
             Item::Raises { rest } => Ok(self.leave_by_raise(rest)),
-            Item::Exits { label, rest } => self.leave_by_exit(label, rest),
+            Item::Exits { label, rest } => Ok(self.leave_by_exit(label, rest)),
             Item::Catches { rest, .. } => Ok(quiet(rest)),
             Item::Handler {
                 scope,

@@ -1,5 +1,5 @@
 //! Cells for the tasks of a walk.
-ghost use Rattle.std.specs.Prelude.{◌≡◌, ◌∷◌, [], List, IfOk, length, cond};
+ghost use Rattle.std.specs.Prelude.{◌≡◌, ◌∷◌, ◌+◌, ◌≤◌, suc, [], List, IfOk, length, cond};
 ghost use Rattle.cmm_tree.specs.View.{expr_view, params_view};
 ghost use Rattle.cmm_types.specs.Annotated.{IsAnnotated};
 ghost use Rattle.cmm_types.specs.Light.{is_light_address};
@@ -12,15 +12,16 @@ ghost use Rattle.cmm_walks.specs.Cells.{cells, event_of};
 ghost use Rattle.cmm_walks.specs.Sound.{IsReady, IsScope, Adds};
 
 use crate::items::{Action, Cells, Item};
-use crate::numbers::{after, behind, is_address, is_mutable, type_bound};
+use crate::numbers::{is_address, is_mutable, type_bound};
 use cmm_tree::{Binding, Expr, Param};
 use std::alloc::AllocError;
 
 impl<'a> Cells<'a> {
     /// The event comes.
     pub fn does(&mut self, action: Action, rest: usize) -> Result<usize, AllocError>
-        ensures { IfOk result (λ cell. IsReady (cells self.old) rest →
+        ensures adds { IfOk result (λ cell. IsReady (cells self.old) rest →
             Adds (cells self.old) (cells self.new) cell (Does (event_of action) ∷ []) rest) }
+        ensures more { IfOk result (λ _. length (cells self.new) ≡ suc (length (cells self.old))) }
     {
         let cell = self.push(Item::Does { action, rest })?;
         Ok(cell)
@@ -36,6 +37,7 @@ impl<'a> Cells<'a> {
     ) -> Result<usize, AllocError>
         ensures { IfOk result (λ cell. (s : List Slotted) → IsReady (cells self.old) rest →
             IsScope (cells self.old) scope s → IsAnnotated (names s) expr.now →
+            slot ≤ length (cells self.old) →
             Adds (cells self.old) (cells self.new) cell (Evaluates s slot
             (expr_view expr.now) ∷ []) rest) }
     {
@@ -59,6 +61,7 @@ impl<'a> Cells<'a> {
     ) -> Result<usize, AllocError>
         ensures { IfOk result (λ cell. (s : List Slotted) → IsReady (cells self.old) rest →
             IsScope (cells self.old) scope s → IsAnnotated (names s) expr.now →
+            free ≤ length (cells self.old) →
             Adds (cells self.old) (cells self.new) cell (operand s free slot
             (expr_view expr.now)) rest) }
     {
@@ -77,13 +80,15 @@ impl<'a> Cells<'a> {
         count: usize,
         rest: usize,
     ) -> Result<usize, AllocError>
-        ensures { IfOk result (λ cell. IsReady (cells self.old) rest →
+        requires { slot + count ≤ usize.MAX }
+        ensures adds { IfOk result (λ cell. IsReady (cells self.old) rest →
             Adds (cells self.old) (cells self.new) cell (takes at slot count) rest) }
+        ensures more { IfOk result (λ _. length (cells self.old) + count ≤ length (cells self.new)) }
     {
         if count == 0 {
             return Ok(rest);
         }
-        let next = after(slot)?;
+        let next = slot + 1;
         let others = self.takes(at, next, count - 1, rest)?;
         let cell = self.does(Action::Uses { slot, at }, others)?;
         Ok(cell)
@@ -100,6 +105,7 @@ impl<'a> Cells<'a> {
     ) -> Result<usize, AllocError>
         ensures { IfOk result (λ cell. (s : List Slotted) → IsReady (cells self.old) rest →
             IsScope (cells self.old) scope s → IsAnnotated (names s) expr.now →
+            free ≤ length (cells self.old) →
             Adds (cells self.old) (cells self.new) cell (cond (is_light_address
             (names s) (expr_view expr.now)) [] (operand s free slot (expr_view expr.now))) rest) }
     {
@@ -121,6 +127,7 @@ impl<'a> Cells<'a> {
     ) -> Result<usize, AllocError>
         ensures { IfOk result (λ cell. (s : List Slotted) → IsReady (cells self.old) rest →
             IsScope (cells self.old) scope s → IsAnnotated (names s) expr.now →
+            free ≤ length (cells self.old) →
             Adds (cells self.old) (cells self.new) cell (cond (is_light_address
             (names s) (expr_view expr.now)) (operand s free slot (expr_view expr.now)) []) rest) }
     {
@@ -140,15 +147,17 @@ impl<'a> Cells<'a> {
         exprs: &'a [Expr],
         rest: usize,
     ) -> Result<usize, AllocError>
+        requires { slot + length exprs.now ≤ free }
         ensures { IfOk result (λ cell. (s : List Slotted) → IsReady (cells self.old) rest →
             IsScope (cells self.old) scope s → AreAnnotated (names s) exprs.now →
+            free ≤ length (cells self.old) →
             Adds (cells self.old) (cells self.new) cell (waiting s free slot
             (row_of exprs.now)) rest) }
     {
         match exprs {
             [] => Ok(rest),
             [first, others @ ..] => {
-                let next = after(slot)?;
+                let next = slot + 1;
                 let here = self.wait_one(scope, free, slot, first, rest)?;
                 let cell = self.wait(scope, free, next, others, here)?;
                 Ok(cell)
@@ -165,15 +174,17 @@ impl<'a> Cells<'a> {
         exprs: &'a [Expr],
         rest: usize,
     ) -> Result<usize, AllocError>
+        requires { slot + length exprs.now ≤ free }
         ensures { IfOk result (λ cell. (s : List Slotted) → IsReady (cells self.old) rest →
             IsScope (cells self.old) scope s → AreAnnotated (names s) exprs.now →
+            free ≤ length (cells self.old) →
             Adds (cells self.old) (cells self.new) cell (filled s free slot
             (row_of exprs.now)) rest) }
     {
         match exprs {
             [] => Ok(rest),
             [first, others @ ..] => {
-                let next = after(slot)?;
+                let next = slot + 1;
                 let here = self.fill_one(scope, free, slot, first, rest)?;
                 let cell = self.fill(scope, free, next, others, here)?;
                 Ok(cell)
@@ -189,12 +200,14 @@ impl<'a> Cells<'a> {
         exprs: &'a [Expr],
         rest: usize,
     ) -> Result<usize, AllocError>
+        requires { slot + length exprs.now ≤ usize.MAX }
         ensures { IfOk result (λ cell. (s : List Slotted) → IsReady (cells self.old) rest →
             IsScope (cells self.old) scope s → AreAnnotated (names s) exprs.now →
+            slot + length exprs.now ≤ length (cells self.old) →
             Adds (cells self.old) (cells self.new) cell (all_operands s slot
             (row_of exprs.now)) rest) }
     {
-        let free = behind(slot, exprs.len())?;
+        let free = slot + exprs.len();
         let filled = self.fill(scope, free, slot, exprs, rest)?;
         let cell = self.wait(scope, free, slot, exprs, filled)?;
         Ok(cell)
@@ -208,6 +221,7 @@ impl<'a> Cells<'a> {
         exprs: &'a [Expr],
         rest: usize,
     ) -> Result<usize, AllocError>
+        requires { slot ≤ length (cells self.old) }
         ensures { IfOk result (λ cell. (s : List Slotted) → IsReady (cells self.old) rest →
             IsScope (cells self.old) scope s → AreAnnotated (names s) exprs.now →
             Adds (cells self.old) (cells self.new) cell (in_order s slot
@@ -230,6 +244,7 @@ impl<'a> Cells<'a> {
         params: &[Param],
         rest: usize,
     ) -> Result<usize, AllocError>
+        requires { slot + length params.now ≤ usize.MAX }
         ensures { IfOk result (λ cell. IsReady (cells self.old) rest →
             Adds (cells self.old) (cells self.new) cell (parameters_bound slot
             (params_view params.now)) rest) }
@@ -237,7 +252,7 @@ impl<'a> Cells<'a> {
         match params {
             [] => Ok(rest),
             [first, others @ ..] => {
-                let next = after(slot)?;
+                let next = slot + 1;
                 let later = self.parameters_bound(next, others, rest)?;
                 let address = is_address(first.comp.ty());
                 let at = first.at;
@@ -256,6 +271,7 @@ impl<'a> Cells<'a> {
         body: &'a Expr,
         rest: usize,
     ) -> Result<usize, AllocError>
+        requires { slot ≤ length (cells self.old) }
         ensures { IfOk result (λ cell. (s : List Slotted) → IsReady (cells self.old) rest →
             IsScope (cells self.old) scope s →
             AreBindingsAnnotated (names s) bindings.now →
@@ -285,6 +301,7 @@ impl<'a> Cells<'a> {
         body: &'a Expr,
         rest: usize,
     ) -> Result<usize, AllocError>
+        requires { slot ≤ length (cells self.old) }
         ensures { IfOk result (λ cell. (s : List Slotted) → IsReady (cells self.old) rest →
             IsScope (cells self.old) scope s →
             AreBindingsAnnotated (names s) (first.now ∷ others.now) →
@@ -295,7 +312,7 @@ impl<'a> Cells<'a> {
     {
         let ty = type_bound(first.declared, first.value.ty);
         let mutable = is_mutable(first.declared);
-        let next = after(slot)?;
+        let next = slot + 1;
         let inner = self.bind(scope, &first.name, ty, mutable, slot)?;
         let later = self.push(Item::Enters {
             scope: inner,
