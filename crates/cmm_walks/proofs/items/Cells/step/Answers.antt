@@ -63,9 +63,7 @@ returns-in-Raises c = λ sound.
 pub returns-in-Exits : goal.returns-in-Exits
 returns-in-Exits c =
     let v = cells c.args.self.now in
-    IfOk-weaker c.leave_by_exit.result _ _
-    (λ node k. λ sound. item-as v v node c.args.item _ c.in-Exits.is (λ b h. k sound))
-    c.leave_by_exit.ensures
+    λ sound. item-as v v c.leave_by_exit.result c.args.item _ c.in-Exits.is (λ b h. c.leave_by_exit.ensures)
 
 pub returns-in-Catches : goal.returns-in-Catches
 returns-in-Catches c = λ sound.
