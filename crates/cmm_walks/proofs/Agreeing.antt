@@ -79,11 +79,11 @@ pub filled-more : (old a b : List Item) (nodes nodes' : List node.Node) (done : 
     → done ≡ length nodes
     → item_at a done ≡ Some x
     → nodes' ≡ nodes ++ (n ∷ [])
-    → (IsSound a → IsBelow (length a) x → IsHeld (length a) (scope_at a) (tasks_at a) x → Steps a b (tasks_in (scope_at a) (tasks_at a) x) n)
+    → (IsBelow (length a) x → IsHeld (length a) (scope_at a) (tasks_at a) x → Steps a b (tasks_in (scope_at a) (tasks_at a) x) n)
     → Filled old b nodes' (length nodes')
 filled-more old a b nodes nodes' done x n f q at pushed step_of =
     let within : done < length a = item-within a done x at in
-    let s = step_of f.sound (below-more done (length a) x (omega arith) (f.sound.below done x at)) (f.sound.held done x at) in
+    let s = step_of (below-more done (length a) x (omega arith) (f.sound.below done x at)) (f.sound.held done x at) in
     let tasks : tasks_at b done ≡ tasks_in (scope_at a) (tasks_at a) x = tasks-extend a b done s.extends within ∙ tasks-are a done x f.sound at in
     let len : length a ≤ length b = extends-length a b s.extends in
     let P : List node.Node → Type 0 = λ l. Filled old b l (length l) in

@@ -13,8 +13,8 @@ ghost use Rattle.cmm_types.specs.Types.{type_named, with_bindings};
 ghost use Rattle.cmm_walks.specs.Cells.{cells};
 ghost use Rattle.cmm_walks.specs.Sound.{IsReady, IsScope, Adds, AddsHandlers};
 
+use crate::bound_types::is_address;
 use crate::items::{Action, Cells, Item};
-use crate::numbers::is_address;
 use bs_words::{Name, Ty};
 use cmm_tree::{Binding, Case, Expr, Form, Handler, Label};
 use std::alloc::AllocError;

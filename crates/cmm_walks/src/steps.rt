@@ -9,9 +9,9 @@ ghost use Rattle.cmm_walks.specs.Walks.{Slotted, Evaluates, Enters, OneOf, MayRa
 ghost use Rattle.cmm_walks.specs.Cells.{cells, scope_at, tasks_at, tasks_in, handler_tasks};
 ghost use Rattle.cmm_walks.specs.Sound.{free_in, IsSound, IsBelow, IsHeld, IsReady, IsScope, HandlersAt, Steps, AddsBodies};
 
+use crate::bound_types::is_address;
 use crate::items::{Action, Cells, Item};
 use crate::node::{Node, any_of, forked, last, quiet, telling};
-use crate::numbers::is_address;
 use cmm_tree::{Binding, Case, Expr, Handler, Label, Param};
 use std::alloc::{AllocError, Global};
 
@@ -267,8 +267,7 @@ impl<'a> Cells<'a> {
     pub fn step(&mut self, alloc: Global, item: Item<'a>) -> Result<Node, AllocError>
         requires sound { IsSound (cells self.old) }
         requires placed { free_in item ≤ length (cells self.old) }
-        ensures { IfOk result (λ node. IsSound (cells self.old) →
-            IsBelow (length (cells self.old)) item.entry →
+        ensures { IfOk result (λ node. IsBelow (length (cells self.old)) item.entry →
             IsHeld (length (cells self.old)) (scope_at (cells self.old)) (tasks_at
             (cells self.old)) item.entry →
             Steps (cells self.old) (cells self.new) (tasks_in (scope_at

@@ -11,8 +11,8 @@ ghost use Rattle.cmm_walks.specs.Walks.{all_operands, in_order, parameters_bound
 ghost use Rattle.cmm_walks.specs.Cells.{cells, event_of};
 ghost use Rattle.cmm_walks.specs.Sound.{IsReady, IsScope, Adds};
 
+use crate::bound_types::{is_address, is_mutable, type_bound};
 use crate::items::{Action, Cells, Item};
-use crate::numbers::{is_address, is_mutable, type_bound};
 use cmm_tree::{Binding, Expr, Param};
 use std::alloc::AllocError;
 

@@ -1,6 +1,5 @@
 use Rattle.cmm_walks.proofs.Arena.{plus-one}
-use Rattle.std.proofs.Common.{◌+◌}
-use Rattle.std.proofs.Common.{◌∷◌, [], ◌∙◌, ◌++◌, append_assoc}
+use Rattle.std.proofs.Common.{◌+◌, ◌∷◌, [], ◌∙◌, ◌++◌, append_assoc}
 use Rattle.cmm_tree.specs.View.{expr_view, params_view}
 use Rattle.cmm_walks.specs.Cells.{cells, tasks_at}
 use Rattle.cmm_walks.specs.Walks.{Binds, Evaluates, parameters_bound}

@@ -1,5 +1,4 @@
-use Rattle.std.proofs.Common.{refl}
-use Rattle.std.proofs.Common.{[]}
+use Rattle.std.proofs.Common.{refl, []}
 use Rattle.std.proofs.lemmas.Result.{IfOk-weaker}
 use Rattle.cmm_tree.specs.View.{expr_view}
 use Rattle.cmm_walks.specs.Cells.{cells, tasks_at}

@@ -1,6 +1,5 @@
 use Rattle.cmm_walks.proofs.Arena.{plus-one}
-use Rattle.std.proofs.Common.{arith}
-use Rattle.std.proofs.Common.{ap, ◌∷◌, [], false, ℕ}
+use Rattle.std.proofs.Common.{arith, ap, ◌∷◌, [], false, ℕ}
 use Rattle.bs_words.specs.declared.types.Ty.TheVariants as ty
 use Rattle.cmm_tree.specs.View.{expr_view}
 use Rattle.cmm_walks.specs.Walks.{Does, Binds, Evaluates}
