@@ -1,5 +1,5 @@
 -- Calls: of functions of the file, and of what lies outside.
-use Rattle.std.proofs.Common.{◌≡◌, ◌≢◌, ◌∙◌, ℕ, zero, suc, ◌+◌, Bool, true, false, cond, List, [], ◌∷◌, ◌++◌, Option, Some, None, length, map, refl, ap, sym, subst, arith}
+use Rattle.std.proofs.Common.{◌≡◌, ◌∙◌, ℕ, zero, suc, ◌+◌, ◌<◌, drop, get_or, Bool, true, false, List, [], ◌∷◌, ◌++◌, Option, Some, None, length, map, refl, ap, sym, subst, arith}
 use Rattle.std.specs.Prelude.{◌↔◌, IsTrue, option_copied, option_map, slice_get}
 use Rattle.std.proofs.lemmas.List.{map-append}
 use Rattle.std.proofs.lemmas.Option.{slice_get-map}
@@ -8,9 +8,6 @@ use Rattle.bs_words.specs.Observed.{Made}
 use Rattle.bs_words.specs.declared.types.Ret.{Ret}
 use Rattle.bs_words.specs.declared.types.Ret.TheVariants as ret
 use Rattle.bs_words.specs.declared.types.Comp.{Comp}
-use Rattle.bs_words.specs.Fits.{fits, misfit}
-use Rattle.bs_words.specs.declared.types.Ty.TheVariants as ty
-use Rattle.bs_words.specs.declared.values.Kind.{Kind}
 use Rattle.bs_words.specs.declared.values.Call.{Call}
 use Rattle.bs_words.specs.declared.values.Obs.{Obs}
 use Rattle.bs_words.specs.declared.values.Value.{Value}
@@ -22,21 +19,25 @@ use Rattle.cmm_tree.specs.declared.file.File.{File}
 use Rattle.cmm_data.specs.Placement.{data_end}
 use Rattle.cmm_tree.specs.declared.expr.Form.{Form}
 use Rattle.cmm_tree.specs.declared.file.Function.{Function}
+use Rattle.cmm_tree.specs.declared.file.DataList.{DataList}
+use Rattle.cmm_tree.specs.declared.file.Item.{Item}
+use Rattle.cmm_tree.specs.declared.file.Item.TheVariants as item
 use Rattle.std.specs.Borrow.{Bor}
 use Rattle.cmm_meaning.specs.State.{World, Here, bound, deepened}
-use Rattle.cmm_meaning.specs.Evaluation.{NoAnswer, NotProper, Evaluation, Gives, Raises, Stops, Surroundings, back_from_call, as_written, stack_below, fit_parameters, scoped_parameter, tested}
-use Rattle.cmm_meaning.specs.Run.{nobody, answered, frame_answered, answered_as, given_back, made}
-use Rattle.cmm_eval.specs.Outside.{call_seen, returned}
-use Rattle.cmm_eval.specs.Passing.{ComesBack, TakesPlace}
-use Rattle.cmm_eval.specs.Views.{call_view, here_view}
-use Rattle.cmm_eval.specs.Filled.{expression, resume}
-use Rattle.cmm_eval.specs.Annotated.{FitsFunction, FitsEntry}
-use Rattle.cmm_eval.specs.Stands.{functions_in, activated_held}
-use Rattle.cmm_eval.specs.declared.frame.Frame.{Frame}
-use Rattle.cmm_eval.specs.declared.frame.Step.TheVariants as step
-use Rattle.cmm_eval.specs.declared.here.Here as here
-use Rattle.cmm_eval.proofs.HeldCalls.{function_seen}
-use Rattle.cmm_eval.specs.declared.tests.Tests.{Tests}
+use Rattle.cmm_meaning.specs.Evaluation.{NoAnswer, Evaluation, Gives, Stops, Surroundings, back_from_call, as_written, stack_below, fit_parameters, scoped_parameter}
+use Rattle.cmm_meaning.specs.Run.{nobody, answered, frame_answered, answered_as, made}
+use Rattle.eval_frames.specs.Outside.{call_seen, returned}
+use Rattle.eval_frames.specs.Passing.{ComesBack, TakesPlace}
+use Rattle.eval_frames.specs.Views.{call_view, here_view}
+use Rattle.eval_frames.specs.Filled.{expression, resume}
+use Rattle.eval_frames.specs.Annotated.{FitsFunction, FitsEntry}
+use Rattle.eval_frames.specs.Around.{functions_in, activated_held}
+use Rattle.eval_frames.specs.declared.frame.Frame.{Frame}
+use Rattle.eval_frames.specs.declared.frame.Step.TheVariants as step
+use Rattle.eval_frames.specs.declared.here.Here as here
+use Rattle.eval_frames.proofs.HeldCalls.{function_seen}
+use Rattle.eval_frames.proofs.Listed.{from_here}
+use Rattle.eval_frames.specs.declared.tests.Tests.{Tests}
 use Rattle.cmm_eval.proofs.Turns.{pushed}
 use Rattle.cmm_eval.proofs.Passing.{Meets, returns_none, returns_written}
 
@@ -98,28 +99,6 @@ pub frame_asks_one : (s : Surroundings) (frames : List Frame) (end : ℕ) (writt
 frame_asks_one s frames end written call h w a left e none =
     sym (ap (λ (l : List ℕ). resume s frames (returned written h (frame_answered end written call l w))) (e ∙ ap (λ l. a ∷ l) none)
     ∙ ap (λ x. resume s frames (returned written h x)) (one_asks end written call a w))
-
--- a first answer of 0 gives the second
-pub frame_gives : (end : ℕ) (written : Ret) (call : Made) (first second : ℕ) (answers : List ℕ) (h : Here) (w : World) → first ≡ 0 →
-    Gives (given_back written second) h (made call answers w)
-    ≡ returned written h (frame_answered end written call (first ∷ second ∷ answers) w)
-frame_gives end ret.Unit call zero second answers h w e = refl
-frame_gives end (ret.Comp c) call zero second answers h w e = refl
-frame_gives end written call (suc n) second answers h w e = absurd (omega arith)
-
-raise_returns : (b : Bool) (written : Ret) (v : Value) (kind : Kind) (h : Here) (w : World) →
-    cond b (Raises v h w) (Stops (NotProper kind) w)
-    ≡ returned written h (cond b (Raises v nobody w) (Stops (NotProper kind) w))
-raise_returns true written v kind h w = refl
-raise_returns false written v kind h w = refl
-
--- another one raises it
-pub frame_raises : (end : ℕ) (written : Ret) (call : Made) (first second : ℕ) (answers : List ℕ) (h : Here) (w : World) → first ≢ 0 →
-    tested end ty.Val (Word second) (made call answers w) (Raises (Word second) h (made call answers w))
-    ≡ returned written h (frame_answered end written call (first ∷ second ∷ answers) w)
-frame_raises end written call zero second answers h w some = absurd (some refl)
-frame_raises end written call (suc n) second answers h w some =
-    raise_returns (fits end ty.Val (Word second)) written (Word second) (misfit ty.Val) h (made call answers w)
 
 -- the call has been made, and what it gives or raises stands
 pub frame_taken : (s : Surroundings) (frames : List Frame) (end : ℕ) (written : Ret) (call : Made) (h : Here) (w : World) (first second : ℕ)
@@ -204,3 +183,32 @@ pub entry_tested : (file : File) (k : ℕ) (f : Function) (arguments : List ℕ)
 entry_tested file k f arguments b e p =
     subst (λ (o : Option FunctionTree). IsTrue b ↔ FitsFunction (data_end (file_view file)) o arguments) (sym (function_seen file k ∙ ap (option_map function_view) e))
     ((λ t. sym p ∙ t), (λ t. p ∙ t))
+
+-- ---- the functions among the items of a file
+
+-- those of the first so many items, and then those of the others
+abbrev pub AreFound : List Item → ℕ → List (Bor Function) → Type 0
+AreFound items k fs = map (λ (f : Bor Function). f.now) fs ++ functions_in (drop k items) ≡ functions_in items
+
+found_last : (fs : List (Bor Function)) (f : Bor Function) (rest : List Function) →
+    map (λ (g : Bor Function). g.now) (fs ++ f ∷ []) ++ rest ≡ map (λ (g : Bor Function). g.now) fs ++ f.now ∷ rest
+found_last [] f rest = refl
+found_last (g ∷ fs) f rest = ap (λ (l : List Function). g.now ∷ l) (found_last fs f rest)
+
+pub function_found : (items : List Item) (k : ℕ) (i : Item) (f : Bor Function) (fs gs : List (Bor Function)) →
+    k < length items → i ≡ get_or items k i → i ≡ item.Function f.now → gs ≡ fs ++ f ∷ [] → AreFound items k fs → AreFound items (k + 1) gs
+function_found items k i f fs gs less at is more so =
+    let rest = functions_in (drop (k + 1) items) in
+    let here : drop k items ≡ item.Function f.now ∷ drop (k + 1) items = from_here items k i less at ∙ ap (λ (j : Item). j ∷ drop (k + 1) items) is in
+    ap (λ (l : List (Bor Function)). map (λ (g : Bor Function). g.now) l ++ rest) more
+    ∙ found_last fs f rest
+    ∙ sym (ap (λ (l : List Item). map (λ (g : Bor Function). g.now) fs ++ functions_in l) here)
+    ∙ so
+
+pub data_passed : (items : List Item) (k : ℕ) (i : Item) (d : DataList) (fs gs : List (Bor Function)) →
+    k < length items → i ≡ get_or items k i → i ≡ item.Data d → gs ≡ fs → AreFound items k fs → AreFound items (k + 1) gs
+data_passed items k i d fs gs less at is same so =
+    let here : drop k items ≡ item.Data d ∷ drop (k + 1) items = from_here items k i less at ∙ ap (λ (j : Item). j ∷ drop (k + 1) items) is in
+    ap (λ (l : List (Bor Function)). map (λ (g : Bor Function). g.now) l ++ functions_in (drop (k + 1) items)) same
+    ∙ sym (ap (λ (l : List Item). map (λ (g : Bor Function). g.now) fs ++ functions_in l) here)
+    ∙ so

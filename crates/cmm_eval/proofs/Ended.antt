@@ -15,21 +15,21 @@ use Rattle.cmm_tree.specs.declared.expr.Case.{Case}
 use Rattle.cmm_tree.specs.declared.expr.Expr.{Expr}
 use Rattle.cmm_tree.specs.declared.expr.Form.{Form}
 use Rattle.cmm_tree.specs.declared.expr.Form as form
-use Rattle.cmm_types.specs.Types.{Scoped}
+use Rattle.cmm_meaning.specs.Known.{Scoped}
 use Rattle.cmm_meaning.specs.State.{World, Here, back_in}
 use Rattle.cmm_meaning.specs.Evaluation.{Body, NotProper, Evaluation, Gives, Raises, Stops, Surroundings, with_value, proper, tested, with_bound, back, chosen}
 use Rattle.cmm_meaning.specs.Choices.{Chosen, case_for}
-use Rattle.cmm_eval.specs.Held.{choices_held}
-use Rattle.cmm_eval.specs.Filled.{or_improper, expression, taken_by, left_of, right_of, joined_by, operated_by, scoped_binding, bindings_from, first_bound, handler_of, cases_ready, does, resume}
-use Rattle.cmm_eval.specs.declared.frame.Frame.{Frame}
-use Rattle.cmm_eval.specs.declared.frame.Step.{Step}
-use Rattle.cmm_eval.specs.declared.frame.Step.TheVariants as step
-use Rattle.cmm_eval.specs.declared.here.Here as here
-use Rattle.cmm_eval.specs.declared.here.Bound.{Bound}
-use Rattle.cmm_eval.specs.declared.tests.Tests.{Tests}
-use Rattle.cmm_eval.specs.Views.{bound_view, bounds_view}
+use Rattle.eval_frames.specs.Held.{choices_held}
+use Rattle.eval_frames.specs.Filled.{or_improper, expression, taken_by, left_of, right_of, joined_by, operated_by, scoped_binding, bindings_from, first_bound, handler_of, cases_ready, does, resume}
+use Rattle.eval_frames.specs.declared.frame.Frame.{Frame}
+use Rattle.eval_frames.specs.declared.frame.Step.{Step}
+use Rattle.eval_frames.specs.declared.frame.Step.TheVariants as step
+use Rattle.eval_frames.specs.declared.here.Here as here
+use Rattle.eval_frames.specs.declared.here.Bound.{Bound}
+use Rattle.eval_frames.specs.declared.tests.Tests.{Tests}
+use Rattle.eval_frames.specs.Views.{bound_view, bounds_view}
 use Rattle.cmm_eval.proofs.Turns.{pushed}
-use Rattle.cmm_eval.proofs.Listed.{choices_is}
+use Rattle.eval_frames.proofs.Listed.{choices_is}
 
 -- as many bindings as the code has
 pub bounds_count : (xs : List Bound) → length xs ≡ length (bounds_view xs)

@@ -9,8 +9,8 @@ use Rattle.cmm_tree.specs.declared.expr.Handler.{Handler}
 use Rattle.cmm_meaning.specs.State.{World, Here, back_in}
 use Rattle.cmm_meaning.specs.Evaluation.{Body, NotProper, Stop, Evaluation, Exits, Stops, Surroundings, entered, scoped_parameter, with_bound, back, handled, caught}
 use Rattle.cmm_meaning.specs.Choices.{Ready, ready_for}
-use Rattle.cmm_eval.specs.Filled.{expression, handlers_of, handler_ready, does}
-use Rattle.cmm_eval.specs.declared.frame.Step.TheVariants as step
+use Rattle.eval_frames.specs.Filled.{expression, handlers_of, handler_ready, does}
+use Rattle.eval_frames.specs.declared.frame.Step.TheVariants as step
 
 pub none_of : {A : Type 0} (o : Option A) → ((a : A) → o ≡ Some a → ⊥) → o ≡ None
 none_of None h = refl

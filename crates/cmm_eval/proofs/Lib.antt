@@ -1,12 +1,4 @@
 pub mod Resumed
-pub mod Bounds
-pub mod Same
-pub mod HeldChosen
-pub mod HeldSame
-pub mod HeldCalls
-pub mod HeldAround
-pub mod Parameters
-pub mod Listed
 pub mod Operands
 pub mod Ordered
 pub mod Turns

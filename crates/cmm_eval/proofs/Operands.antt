@@ -9,14 +9,14 @@ use Rattle.cmm_tree.specs.View.{form_view}
 use Rattle.cmm_tree.specs.declared.expr.Expr.{Expr}
 use Rattle.cmm_tree.specs.declared.expr.Form.{Form}
 use Rattle.cmm_tree.specs.declared.expr.Form as form
-use Rattle.cmm_types.specs.Light.{is_light_address}
+use Rattle.cmm_meaning.specs.Known.{is_light_address}
 use Rattle.cmm_meaning.specs.State.{World, Here, scope}
 use Rattle.cmm_meaning.specs.Evaluation.{Evaluated, Evaluation, Gives, Exits, Raises, Stops, Surroundings, and_then, with_value, unless_light, now_or_before}
-use Rattle.cmm_eval.specs.declared.group.Group.TheVariants as group
-use Rattle.cmm_eval.specs.Groups.{group_of}
-use Rattle.cmm_eval.specs.Held.{held, inside, waiting_held, filled_held}
-use Rattle.cmm_eval.proofs.Listed.{then_same}
-use Rattle.cmm_eval.specs.Filled.{operands_of, operated_by, fills_in, after_waiting, waits_for}
+use Rattle.eval_frames.specs.declared.group.Group.TheVariants as group
+use Rattle.eval_frames.specs.Groups.{group_of}
+use Rattle.eval_frames.specs.Held.{held, inside, waiting_held, filled_held}
+use Rattle.eval_frames.proofs.Listed.{then_same}
+use Rattle.eval_frames.specs.Filled.{operands_of, operated_by, fills_in, after_waiting, waits_for}
 
 -- ---- what goes on
 

@@ -7,11 +7,11 @@ use Rattle.bs_words.specs.declared.values.Value.{Value}
 use Rattle.cmm_tree.specs.declared.expr.Expr.{Expr}
 use Rattle.cmm_tree.specs.declared.expr.Form.{Form}
 use Rattle.cmm_tree.specs.View.{expr_view}
-use Rattle.cmm_types.specs.Light.{is_light_address}
+use Rattle.cmm_meaning.specs.Known.{is_light_address}
 use Rattle.cmm_meaning.specs.State.{World, Here, scope}
 use Rattle.cmm_meaning.specs.Evaluation.{Evaluation, Surroundings, with_value, both, unless_light, now_or_before, first_of, rest_of}
-use Rattle.cmm_eval.specs.Filled.{expression, fills_in, waits_for, left_of, right_of, joined_by, does}
-use Rattle.cmm_eval.specs.declared.frame.Step.TheVariants as step
+use Rattle.eval_frames.specs.Filled.{expression, fills_in, waits_for, left_of, right_of, joined_by, does}
+use Rattle.eval_frames.specs.declared.frame.Step.TheVariants as step
 
 -- the first of two operands begins
 pub both_begun : (s : Surroundings) (f : Form) (t : Bool) (l r : Expr) (tail : Bool) (h : Here) (w : World) → left_of s f h w ≡ expression s l false h w →

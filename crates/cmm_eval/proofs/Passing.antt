@@ -8,17 +8,17 @@ use Rattle.cmm_meaning.specs.State.{World, Here}
 use Rattle.cmm_meaning.specs.Evaluation.{Evaluation, Gives, Exits, Raises, Stops, Surroundings, and_then, back_from_call, as_written}
 use Rattle.cmm_meaning.specs.Run.{finished}
 use Rattle.cmm_meaning.specs.Layout.{Layout}
-use Rattle.cmm_eval.specs.Outside.{returned}
-use Rattle.cmm_eval.specs.Filled.{does, fills, resume}
-use Rattle.cmm_eval.specs.Meets.{judged, verdict_on, meets}
-use Rattle.cmm_eval.specs.Passing.{returns, NeverExits, Passes, TakesPlace}
-use Rattle.cmm_eval.specs.Views.{here_view}
-use Rattle.cmm_eval.specs.declared.frame.Frame.{Frame}
-use Rattle.cmm_eval.specs.declared.frame.Step.TheVariants as step
-use Rattle.cmm_eval.specs.declared.here.Here as here
-use Rattle.cmm_eval.specs.declared.tests.Tests.{Tests}
-use Rattle.cmm_eval.specs.declared.tests.Verdict.{Verdict}
-use Rattle.cmm_eval.specs.declared.tests.Verdict.TheVariants as verdict
+use Rattle.eval_frames.specs.Outside.{returned}
+use Rattle.eval_frames.specs.Filled.{does, fills, resume}
+use Rattle.eval_frames.specs.Meets.{judged, verdict_on, meets}
+use Rattle.eval_frames.specs.Passing.{returns, NeverExits, Passes, TakesPlace}
+use Rattle.eval_frames.specs.Views.{here_view}
+use Rattle.eval_frames.specs.declared.frame.Frame.{Frame}
+use Rattle.eval_frames.specs.declared.frame.Step.TheVariants as step
+use Rattle.eval_frames.specs.declared.here.Here as here
+use Rattle.eval_frames.specs.declared.tests.Tests.{Tests}
+use Rattle.eval_frames.specs.declared.tests.Verdict.{Verdict}
+use Rattle.eval_frames.specs.declared.tests.Verdict.TheVariants as verdict
 use Rattle.cmm_eval.proofs.Resumed.{resume_push}
 
 -- ---- what tests are of a function

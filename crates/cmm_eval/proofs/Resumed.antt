@@ -3,12 +3,12 @@ use Rattle.std.proofs.Common.{◌≡◌, ◌∙◌, zero, suc, List, [], ◌∷�
 use Rattle.cmm_meaning.specs.State.{World, Here}
 use Rattle.cmm_meaning.specs.Evaluation.{Stop, Evaluation, Stops, Surroundings}
 use Rattle.cmm_tree.specs.declared.expr.Form.{Form}
-use Rattle.cmm_eval.specs.Filled.{does, fills, resume}
+use Rattle.eval_frames.specs.Filled.{does, fills, resume}
 use Rattle.cmm_eval.specs.Stands.{goes_on_in}
-use Rattle.cmm_eval.specs.Views.{here_view, world_view}
-use Rattle.cmm_eval.specs.declared.frame.Frame.{Frame}
-use Rattle.cmm_eval.specs.declared.frame.Step.{Step}
-use Rattle.cmm_eval.specs.declared.frame.Step.TheVariants as step
+use Rattle.eval_frames.specs.Views.{here_view, world_view}
+use Rattle.eval_frames.specs.declared.frame.Frame.{Frame}
+use Rattle.eval_frames.specs.declared.frame.Step.{Step}
+use Rattle.eval_frames.specs.declared.frame.Step.TheVariants as step
 use Rattle.cmm_eval.specs.declared.machine.Machine.{Machine}
 
 pub resume_push : (s : Surroundings) (frames : List Frame) (f : Frame) (e : Evaluation) →

@@ -6,12 +6,12 @@ use Rattle.cmm_tree.specs.declared.expr.Form.{Form}
 use Rattle.cmm_tree.specs.declared.expr.Form as form
 use Rattle.cmm_meaning.specs.State.{World, Here}
 use Rattle.cmm_meaning.specs.Evaluation.{OutOfFuel, NotProper, Evaluation, Stops, Surroundings, spend, typed}
-use Rattle.cmm_eval.specs.declared.group.Group.{Group}
-use Rattle.cmm_eval.specs.declared.group.Group.TheVariants as group
-use Rattle.cmm_eval.specs.declared.frame.Frame.{Frame}
-use Rattle.cmm_eval.specs.Groups.{group_of}
-use Rattle.cmm_eval.specs.Held.{is_float_form, node_held, inside}
-use Rattle.cmm_eval.specs.Filled.{expression, fills, resume}
+use Rattle.eval_frames.specs.declared.group.Group.{Group}
+use Rattle.eval_frames.specs.declared.group.Group.TheVariants as group
+use Rattle.eval_frames.specs.declared.frame.Frame.{Frame}
+use Rattle.eval_frames.specs.Groups.{group_of}
+use Rattle.eval_frames.specs.Held.{is_float_form, node_held, inside}
+use Rattle.eval_frames.specs.Filled.{expression, fills, resume}
 use Rattle.cmm_eval.proofs.Resumed.{resume_push}
 
 -- a frame that is added, and what is evaluated in it

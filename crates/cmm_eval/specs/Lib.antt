@@ -1,10 +1,3 @@
-pub mod Views
-pub mod Sums
-pub mod Groups
-pub mod Held
-pub mod Meets
-pub mod Filled
-pub mod Outside
-pub mod Passing
 pub mod Annotated
 pub mod Stands
+pub mod Views

@@ -1,32 +1,27 @@
 //! What a node does once all its operands are there: calls among others.
-ghost use Rattle.std.specs.Prelude.{◌≡◌, [], ℕ, true, false, IfOk, Some, reverse, map, IsTrue, IsFalse};
-ghost use Rattle.bs_words.specs.declared.types.Ty.TheVariants as ty;
-ghost use Rattle.bs_words.specs.Contents.{contents};
+ghost use Rattle.std.specs.Prelude.{◌≡◌, ℕ, true, false, IfOk, Some, reverse, IsTrue, IsFalse};
 ghost use Rattle.bs_words.specs.Memory.{allocated, next_block};
-ghost use Rattle.cmm_tree.specs.View.{params_view};
-ghost use Rattle.cmm_meaning.specs.Layout as meaning;
-ghost use Rattle.cmm_meaning.specs.State as state;
-ghost use Rattle.cmm_meaning.specs.State.{bound};
 ghost use Rattle.cmm_meaning.specs.Evaluation as evaluation;
-ghost use Rattle.cmm_meaning.specs.Evaluation.{Gives, Raises, and_then, proper, tested, applied, stack_below, scoped_parameter};
-ghost use Rattle.cmm_meaning.specs.Run.{answered_as, given_back};
-ghost use Rattle.cmm_eval.specs.Outside.{EndsFrameCall, call_seen, returned};
-ghost use Rattle.cmm_eval.specs.Filled.{operated_by, standing};
-ghost use Rattle.cmm_eval.specs.Passing.{ComesBack, TakesPlace};
-ghost use Rattle.cmm_eval.specs.Views.{here_view, layout_view, call_view};
-ghost use Rattle.cmm_eval.specs.Stands.{IsAround, around_view, stands, goes_on, stands_in, goes_on_in, activated_held};
+ghost use Rattle.cmm_meaning.specs.Evaluation.{Gives, proper, applied, stack_below};
+ghost use Rattle.cmm_meaning.specs.Run.{answered_as};
+ghost use Rattle.eval_frames.specs.Outside.{call_seen, returned};
+ghost use Rattle.eval_frames.specs.Filled.{operated_by};
+ghost use Rattle.eval_frames.specs.Passing.{ComesBack, TakesPlace};
+ghost use Rattle.eval_frames.specs.Views.{here_view, layout_view, call_view};
+ghost use Rattle.eval_frames.specs.Around.{IsAround, around_view, activated_held};
+ghost use Rattle.cmm_eval.specs.Stands.{stands, goes_on, stands_in, goes_on_in};
 
-use crate::around::Surroundings;
-use crate::bind::{bind_params, fit_parameters};
-use crate::frame::{Now, Step};
-use crate::here::Here;
-use crate::layout::Layout;
-use crate::machine::{Machine, not_proper};
-use crate::tests::Tests;
-use crate::world::Stop;
-use bs_words::{Call, Kind, List, Name, Obs, Ret, Ty, Value};
+use crate::machine::Machine;
+use bs_words::{Call, Kind, Name, Ret, Value};
 use cmm_tree::{Form, Function};
-use cmm_values::{fits, misfit};
+use eval_frames::around::Surroundings;
+use eval_frames::bind::fit_parameters;
+use eval_frames::calls::{activation, frame_ended, shown};
+use eval_frames::frame::{Now, Step};
+use eval_frames::given::not_proper;
+use eval_frames::here::Here;
+use eval_frames::tests::Tests;
+use eval_frames::world::Stop;
 use std::alloc::{AllocError, Global};
 
 /// A function that is called, and the bytes of its frame.
@@ -302,88 +297,4 @@ impl<'a> Machine<'a> {
         self.world.answers = left;
         Ok(frame_ended(end, written, *first, *second))
     }
-}
-
-/// How a frame call with these two answers ends: where the first is 0 the second is its value, and else
-/// it is raised.
-#[tactic(auto, using(crate::proofs::Called::frame_gives, crate::proofs::Called::frame_raises))]
-fn frame_ended<'a>(end: u64, written: Ret, first: u64, second: u64) -> Now<'a>
-    ensures { EndsFrameCall end written first second result }
-{
-    if first == 0 {
-        Now::Gives(given_back(written, second))
-    } else {
-        raised(end, Value::Word(second))
-    }
-}
-
-/// What a frame call gives of its second answer: with no result, nothing.
-fn given_back(written: Ret, answer: u64) -> Option<Value>
-    ensures { result ≡ given_back written answer }
-{
-    match written {
-        Ret::Unit => None,
-        Ret::Comp(_) => Some(Value::Word(answer)),
-    }
-}
-
-/// A value is raised, which must fit val.
-pub(crate) fn raised<'a>(end: u64, value: Value) -> Now<'a>
-    ensures { (s : evaluation.Surroundings) → (h : state.Here) → (w : state.World) →
-        standing s result h w ≡ tested end ty.Val value w (Raises value h w) }
-{
-    if fits(end, Ty::Val, value) {
-        Now::Raises(value)
-    } else {
-        not_proper(misfit(Ty::Val))
-    }
-}
-
-/// An activation of a function on these arguments.
-pub(crate) fn activation<'a>(
-    alloc: Global,
-    function: &'a Function,
-    below: u64,
-    frame: u64,
-    arguments: &[Value],
-) -> Result<Here<'a>, AllocError>
-    ensures { IfOk result (λ here. here_view here ≡ record {
-      names = bound
-          (map scoped_parameter (params_view (contents function.entry.now.params))) arguments.now
-          [];
-      below = below;
-      frame = frame;
-      tries = 0;
-    }) }
-{
-    let mut here = Here {
-        names: Vec::new(alloc),
-        below,
-        frame,
-        tries: 0,
-    };
-    bind_params(&mut here, function.params.as_slice(), arguments)?;
-    Ok(here)
-}
-
-/// What is seen of a value.
-pub(crate) fn observed(layout: &Layout, value: Value) -> Obs
-    ensures { result ≡ meaning.observed (layout_view layout.now) value }
-{
-    match value {
-        Value::Word(word) => Obs::Word(word),
-        Value::Block { serial, .. } => Obs::Block(serial),
-        Value::Function(function) => Obs::Word(layout.address_of(function)),
-    }
-}
-
-fn shown(alloc: Global, layout: &Layout, values: &[Value]) -> Result<List<Obs>, AllocError>
-    ensures { IfOk result (λ seen. contents seen ≡ map (meaning.observed
-        (layout_view layout.now)) values.now) }
-{
-    let mut seen = Vec::new(alloc);
-    for value in values {
-        seen.push(observed(layout, *value))?;
-    }
-    Ok(List::from_vec(seen))
 }

@@ -8,25 +8,25 @@ ghost use Rattle.cmm_data.specs.Faults.{data_fault_of};
 ghost use Rattle.cmm_meaning.specs.State as state;
 ghost use Rattle.cmm_meaning.specs.Evaluation as evaluation;
 ghost use Rattle.cmm_meaning.specs.Run.{cmm_run, finished, reported};
-ghost use Rattle.cmm_eval.specs.Annotated.{IsTyped, FitsEntry};
-ghost use Rattle.cmm_eval.specs.Filled.{HasEnded, standing};
-ghost use Rattle.cmm_eval.specs.Stands.{functions_in};
-ghost use Rattle.cmm_eval.specs.Views.{eval_view, layout_view, outcome_view};
+ghost use Rattle.eval_frames.specs.Annotated.{IsTyped, FitsEntry};
+ghost use Rattle.eval_frames.specs.Filled.{HasEnded, standing};
+ghost use Rattle.eval_frames.specs.Around.{functions_in};
+ghost use Rattle.eval_frames.specs.Views.{eval_view, layout_view, outcome_view};
 
-use crate::around::Surroundings;
-use crate::bind::fit_parameters;
-use crate::calls::{activation, observed};
-use crate::frame::{Now, Step};
-use crate::here::Here;
-use crate::layout::Layout;
 use crate::machine::Machine;
-use crate::outcome::{Eval, Outcome};
-use crate::tests::Tests;
-use crate::world::{Stop, World};
 use bs_words::{Kind, Value};
 use cmm_data::SymbolTable;
 use cmm_tree::{File, Function, Item};
 use cmm_values::Memory;
+use eval_frames::around::Surroundings;
+use eval_frames::bind::fit_parameters;
+use eval_frames::calls::{activation, observed};
+use eval_frames::frame::{Now, Step};
+use eval_frames::here::Here;
+use eval_frames::layout::Layout;
+use eval_frames::outcome::{Eval, Outcome};
+use eval_frames::tests::Tests;
+use eval_frames::world::{Stop, World};
 use std::alloc::{AllocError, Global};
 
 /// The run of function `entry` of a file, on argument words, with these answers to external calls and so
@@ -150,8 +150,9 @@ fn functions_of(alloc: Global, file: &File) -> Result<Vec<&Function>, AllocError
 {
     let mut functions = Vec::new(alloc);
     for item in file.items.as_slice() {
-        if let Item::Function(function) = item {
-            functions.push(function)?;
+        match item {
+            Item::Function(function) => functions.push(function)?,
+            Item::Data(_) => {}
         }
     }
     Ok(functions)

@@ -1,25 +1,23 @@
 //! What a frame makes of a value, or of none.
-ghost use Rattle.std.specs.Prelude.{◌≡◌, IfOk, None, Some, cond, nat_lt};
-ghost use Rattle.bs_words.specs.Operators.{word_in};
-ghost use Rattle.cmm_meaning.specs.State as state;
+ghost use Rattle.std.specs.Prelude.{◌≡◌, IfOk, None, Some};
 ghost use Rattle.cmm_meaning.specs.Evaluation as evaluation;
-ghost use Rattle.cmm_meaning.specs.Evaluation.{Gives, Raises, proper, bound_error};
-ghost use Rattle.cmm_eval.specs.declared.frame.Step.{Step};
-ghost use Rattle.cmm_eval.specs.Filled.{WantsValue, does, fills, standing, taken_by, joined_by, body_of, first_bound};
-ghost use Rattle.cmm_eval.specs.Stands.{IsAround, around_view, stands, goes_on, stands_in, goes_on_in};
+ghost use Rattle.cmm_meaning.specs.Evaluation.{Gives};
+ghost use Rattle.eval_frames.specs.declared.frame.Step.{Step};
+ghost use Rattle.eval_frames.specs.Filled.{WantsValue, does, fills, taken_by, joined_by, body_of, first_bound};
+ghost use Rattle.eval_frames.specs.Around.{IsAround, around_view};
+ghost use Rattle.cmm_eval.specs.Stands.{stands, goes_on, stands_in, goes_on_in};
 
-use crate::around::Surroundings;
-use crate::bind::bind_value;
-use crate::calls::raised;
-use crate::cases::case_for;
-use crate::frame::{Frame, Now, Row, Step};
-use crate::group::{Group, group_of};
-use crate::leaf::{both_operands, earlier};
-use crate::machine::{Machine, not_proper, of_type};
-use crate::rows::operands_of;
-use bs_words::{DATA_START, Kind, Value};
+use crate::machine::Machine;
+use bs_words::{Kind, Value};
 use cmm_tree::{Binding, Form};
 use cmm_values::{apply, condition_of, fits, misfit, word_in};
+use eval_frames::around::Surroundings;
+use eval_frames::bind::bind_value;
+use eval_frames::cases::case_for;
+use eval_frames::frame::{Frame, Now, Row, Step};
+use eval_frames::given::{checked, given, not_proper, of_type, raised};
+use eval_frames::group::{Group, group_of};
+use eval_frames::operands::{both_operands, earlier, operands_of};
 use std::alloc::AllocError;
 
 impl<'a> Machine<'a> {
@@ -300,37 +298,5 @@ impl<'a> Machine<'a> {
             | Form::Exit { .. }
             | Form::Try { .. } => Ok(not_proper(Kind::BadValue)),
         }
-    }
-}
-
-fn given<'a>(value: Result<Value, Kind>) -> Now<'a>
-    ensures { (s : evaluation.Surroundings) → (h : state.Here) → (w : state.World) →
-        standing s result h w ≡ proper value w (λ v. Gives (Some v) h w) }
-{
-    match value {
-        Ok(value) => Now::Gives(Some(value)),
-        Err(kind) => not_proper(kind),
-    }
-}
-
-// A test of an index, which raises the address of the built-in symbol where it fails.
-fn checked<'a>(bound: Value, index: Value) -> Now<'a>
-    ensures { (s : evaluation.Surroundings) → (h : state.Here) → (w : state.World) →
-        standing s result h w ≡ proper (word_in bound) w (λ bound.
-        proper (word_in index) w (λ index.
-        cond (nat_lt index bound) (Gives None h w) (Raises bound_error h w))) }
-{
-    match word_in(bound) {
-        Err(kind) => not_proper(kind),
-        Ok(bound) => match word_in(index) {
-            Err(kind) => not_proper(kind),
-            Ok(index) => {
-                if index < bound {
-                    Now::Gives(None)
-                } else {
-                    Now::Raises(Value::Word(DATA_START))
-                }
-            }
-        },
     }
 }

@@ -3,24 +3,15 @@
 //! It keeps its activations on a stack of its own, so that memory alone bounds how deep they nest.
 #![tactic(auto)]
 
-mod around;
 mod bind;
 mod calls;
 mod cases;
 mod evaluation;
 mod fill;
-mod frame;
-mod group;
-mod here;
-mod layout;
 mod leaf;
-mod light;
 mod machine;
-mod outcome;
 mod rows;
-mod tests;
-mod world;
 
+pub use eval_frames::layout::Layout;
+pub use eval_frames::outcome::{Eval, Outcome};
 pub use evaluation::{eval, fits_entry};
-pub use layout::Layout;
-pub use outcome::{Eval, Outcome};

@@ -1,23 +1,21 @@
 //! The machine: an activation, the world, and what is still to be done.
-ghost use Rattle.std.specs.Prelude.{◌≡◌, ◌^◌, ◌<◌, ◌+◌, ◌++◌, ◌∷◌, [], IfOk, Some};
-ghost use Rattle.cmm_meaning.specs.State as state;
-ghost use Rattle.cmm_meaning.specs.Evaluation as evaluation;
-ghost use Rattle.cmm_meaning.specs.Evaluation.{of_type, tested, Gives};
-ghost use Rattle.cmm_eval.specs.Views.{here_view, world_view};
-ghost use Rattle.cmm_eval.specs.Groups.{group_of};
-ghost use Rattle.cmm_eval.specs.Held.{inside};
-ghost use Rattle.cmm_eval.specs.Filled.{HasEnded, expression, standing, fills};
-ghost use Rattle.cmm_eval.specs.Stands.{IsAround, around_view, stands, goes_on};
+ghost use Rattle.std.specs.Prelude.{◌≡◌, ◌^◌, ◌<◌, ◌+◌, ◌++◌, ◌∷◌, [], IfOk};
+ghost use Rattle.eval_frames.specs.Views.{here_view, world_view};
+ghost use Rattle.eval_frames.specs.Groups.{group_of};
+ghost use Rattle.eval_frames.specs.Held.{inside};
+ghost use Rattle.eval_frames.specs.Filled.{HasEnded, expression, standing, fills};
+ghost use Rattle.eval_frames.specs.Around.{IsAround, around_view};
+ghost use Rattle.cmm_eval.specs.Stands.{stands, goes_on};
 
-use crate::around::Surroundings;
-use crate::frame::{Frame, Now, Step};
-use crate::group::{Group, group_of};
-use crate::here::Here;
-use crate::rows::operands_of;
-use crate::world::{Stop, World};
-use bs_words::{Kind, Ty, Value};
+use bs_words::Kind;
 use cmm_tree::{Expr, Form};
-use cmm_values::{fits, misfit};
+use eval_frames::around::Surroundings;
+use eval_frames::frame::{Frame, Now, Step};
+use eval_frames::given::not_proper;
+use eval_frames::group::{Group, group_of};
+use eval_frames::here::Here;
+use eval_frames::operands::operands_of;
+use eval_frames::world::{Stop, World};
 use std::alloc::AllocError;
 
 /// A run that has come so far.
@@ -151,38 +149,5 @@ impl<'a> Machine<'a> {
             Now::Stops(why) => Ok(Now::Stops(why)),
             Now::Begins { .. } => unreachable!(),
         }
-    }
-}
-
-/// A run that is improper.
-pub(crate) fn not_proper<'a>(kind: Kind) -> Now<'a>
-    ensures { result ≡ Now.Stops (Stop.NotProper kind) }
-{
-    Now::Stops(Stop::NotProper(kind))
-}
-
-/// What a node of this type gives; where the type is no value, a value is dropped.
-pub(crate) fn of_type<'a>(end: u64, ty: Ty, value: Option<Value>) -> Now<'a>
-    ensures { (s : evaluation.Surroundings) → (h : state.Here) → (w : state.World) →
-        standing s result h w ≡ of_type end ty value h w }
-{
-    match ty {
-        Ty::NoValue => Now::Gives(None),
-        Ty::Never | Ty::Int | Ty::Val | Ty::Addr => match value {
-            Some(value) => tested(end, ty, value),
-            None => not_proper(Kind::BadValue),
-        },
-    }
-}
-
-/// The value, which must fit the type.
-fn tested<'a>(end: u64, ty: Ty, value: Value) -> Now<'a>
-    ensures { (s : evaluation.Surroundings) → (h : state.Here) → (w : state.World) →
-        standing s result h w ≡ tested end ty value w (Gives (Some value) h w) }
-{
-    if fits(end, ty, value) {
-        Now::Gives(Some(value))
-    } else {
-        not_proper(misfit(ty))
     }
 }

@@ -1,23 +1,21 @@
 //! Rows of operands, elements of sequences, and scopes that are entered.
-ghost use Rattle.std.specs.Prelude.{◌≡◌, ◌^◌, ◌<◌, ◌+◌, Bool, false, List, Option, IfOk, reverse, option_copied};
-ghost use Rattle.bs_words.specs.declared.values.Value.{Value};
-ghost use Rattle.cmm_meaning.specs.State as state;
+ghost use Rattle.std.specs.Prelude.{◌≡◌, ◌^◌, ◌<◌, ◌+◌, false, IfOk, reverse};
 ghost use Rattle.cmm_meaning.specs.State.{taken, within_try, deepened};
-ghost use Rattle.cmm_eval.specs.Views.{here_view};
-ghost use Rattle.cmm_eval.specs.Filled.{expression, elements_from, waits_for, after_callee, after_waiting, row_fills, operands_of};
-ghost use Rattle.cmm_eval.specs.Groups.{group_of};
-ghost use Rattle.cmm_eval.specs.Held.{inside};
-ghost use Rattle.cmm_eval.specs.declared.group.Group.{Group};
-ghost use Rattle.cmm_eval.specs.Stands.{IsAround, around_view, stands, goes_on, stands_in, goes_on_in};
+ghost use Rattle.eval_frames.specs.Filled.{expression, elements_from, waits_for, after_waiting, row_fills};
+ghost use Rattle.eval_frames.specs.Groups.{group_of};
+ghost use Rattle.eval_frames.specs.Held.{inside};
+ghost use Rattle.eval_frames.specs.declared.group.Group.{Group};
+ghost use Rattle.eval_frames.specs.Around.{IsAround, around_view};
+ghost use Rattle.cmm_eval.specs.Stands.{stands, goes_on, stands_in, goes_on_in};
 ghost use Rattle.cmm_meaning.specs.Evaluation as evaluation;
 
-use crate::around::Surroundings;
-use crate::frame::{Now, Row, Step};
-use crate::here::Here;
-use crate::light::is_light_address;
 use crate::machine::Machine;
 use bs_words::Value;
 use cmm_tree::{Expr, Form};
+use eval_frames::around::Surroundings;
+use eval_frames::frame::{Now, Row, Step};
+use eval_frames::light::is_light_address;
+use eval_frames::operands::{operands_of, prompt_callee};
 use std::alloc::AllocError;
 
 impl<'a> Machine<'a> {
@@ -247,74 +245,5 @@ impl<'a> Machine<'a> {
             }
         }
         self.operate(around, form, tail, callee, values)
-    }
-}
-
-/// The callee of a call, unless it waits.
-fn prompt_callee<'a>(here: &Here<'_>, form: &'a Form) -> Option<&'a Expr>
-    ensures { (s : evaluation.Surroundings) → (tail : Bool) → (before : List (Option Value)) →
-        (w : state.World) → after_waiting s form.entry.now tail before
-        (here_view here.now) w ≡ after_callee s form.entry.now tail
-        (option_copied result) before (here_view here.now) w }
-{
-    match form {
-        Form::App { callee, .. } => {
-            if is_light_address(here, callee) {
-                None
-            } else {
-                Some(callee)
-            }
-        }
-        Form::Integer(_)
-        | Form::Pointer(_)
-        | Form::Symbol(_)
-        | Form::Name(_)
-        | Form::Nothing
-        | Form::Float { .. }
-        | Form::Let(_, _)
-        | Form::Assign { .. }
-        | Form::Operator(_, _, _)
-        | Form::Load(_, _)
-        | Form::Store(_, _, _)
-        | Form::Alloc { .. }
-        | Form::Extcall { .. }
-        | Form::Checkbound(_, _)
-        | Form::Raise(_)
-        | Form::Seq(_)
-        | Form::If(_, _, _)
-        | Form::Switch { .. }
-        | Form::Catch(_, _)
-        | Form::Exit { .. }
-        | Form::Try { .. } => None,
-    }
-}
-
-/// The operands of a node with a row of them.
-pub(crate) fn operands_of(form: &Form) -> &[Expr]
-    ensures { result.now ≡ operands_of form.now }
-{
-    match form {
-        Form::Alloc { operands, .. } => operands.as_slice(),
-        Form::App { arguments, .. } => arguments.as_slice(),
-        Form::Extcall { arguments, .. } => arguments.as_slice(),
-        Form::Exit { arguments, .. } => arguments.as_slice(),
-        Form::Integer(_)
-        | Form::Pointer(_)
-        | Form::Symbol(_)
-        | Form::Name(_)
-        | Form::Nothing
-        | Form::Float { .. }
-        | Form::Let(_, _)
-        | Form::Assign { .. }
-        | Form::Operator(_, _, _)
-        | Form::Load(_, _)
-        | Form::Store(_, _, _)
-        | Form::Checkbound(_, _)
-        | Form::Raise(_)
-        | Form::Seq(_)
-        | Form::If(_, _, _)
-        | Form::Switch { .. }
-        | Form::Catch(_, _)
-        | Form::Try { .. } => &[],
     }
 }

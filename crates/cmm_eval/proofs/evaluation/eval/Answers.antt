@@ -13,13 +13,13 @@ use Rattle.cmm_data.proofs.Laws.{end_of_data-first_memory}
 use Rattle.cmm_meaning.specs.State.{World, Here, bound, deepened}
 use Rattle.cmm_meaning.specs.Evaluation.{scoped_parameter}
 use Rattle.cmm_meaning.specs.Run.{finished, first_world, nobody}
-use Rattle.cmm_eval.specs.Stands.{functions_in, activated_held, whole}
-use Rattle.cmm_eval.specs.Views.{layout_view, here_view, world_view, outcome_view, call_view}
-use Rattle.cmm_eval.specs.declared.here.Here as here
-use Rattle.cmm_eval.specs.declared.world.World as world
+use Rattle.eval_frames.specs.Around.{functions_in, activated_held, whole}
+use Rattle.eval_frames.specs.Views.{layout_view, here_view, world_view, outcome_view, call_view}
+use Rattle.eval_frames.specs.declared.here.Here as here
+use Rattle.eval_frames.specs.declared.world.World as world
 use Rattle.cmm_eval.proofs.Called.{copied_get, entry_missing, first_stands}
 use Rattle.cmm_eval.proofs.Passing.{finished_back}
-use Rattle.cmm_eval.proofs.HeldCalls.{run_held}
+use Rattle.eval_frames.proofs.HeldCalls.{run_held}
 use Rattle.cmm_eval.proofs.evaluation.eval.Goals as goal
 
 not_true : IsTrue false → ⊥

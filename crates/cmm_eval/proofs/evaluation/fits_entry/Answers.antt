@@ -10,7 +10,7 @@ use Rattle.cmm_tree.specs.declared.file.Param.{Param}
 use Rattle.cmm_data.specs.Placement.{data_end}
 use Rattle.cmm_data.proofs.Laws.{end_of_data-first_memory}
 use Rattle.cmm_meaning.specs.Evaluation.{fit_parameters}
-use Rattle.cmm_eval.specs.Stands.{functions_in}
+use Rattle.eval_frames.specs.Around.{functions_in}
 use Rattle.cmm_eval.proofs.Called.{copied_get, entry_missing, entry_tested}
 use Rattle.cmm_eval.proofs.evaluation.fits_entry.Goals as goal
 

@@ -1,5 +1,5 @@
 use Rattle.std.proofs.Common.{◌≡◌, ◌++◌, map, drop}
-use Rattle.cmm_eval.specs.Stands.{functions_in}
+use Rattle.eval_frames.specs.Around.{functions_in}
 use Rattle.cmm_eval.proofs.evaluation.functions_of.Given as goal
 
 -- the functions so far, and those of the items that are left

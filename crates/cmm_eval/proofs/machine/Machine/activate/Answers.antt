@@ -1,8 +1,8 @@
 use Rattle.std.proofs.Common.{◌≡◌, ℕ, ◌+◌, ◌∙◌, ap}
 use Rattle.cmm_meaning.specs.State.{deepened}
-use Rattle.cmm_eval.specs.Views.{here_view, world_view}
-use Rattle.cmm_eval.specs.declared.here.Here as here
-use Rattle.cmm_eval.specs.declared.world.World as world
+use Rattle.eval_frames.specs.Views.{here_view, world_view}
+use Rattle.eval_frames.specs.declared.here.Here as here
+use Rattle.eval_frames.specs.declared.world.World as world
 use Rattle.cmm_eval.proofs.Called.{activated_is}
 use Rattle.cmm_eval.proofs.machine.Machine.activate.Goals as goal
 

@@ -7,12 +7,13 @@ use Rattle.cmm_tree.specs.declared.file.Param.{Param}
 use Rattle.std.proofs.lemmas.Option.{slice_get_past, slice_get-get_or}
 use Rattle.bs_words.specs.declared.values.Value.{Value}
 use Rattle.cmm_meaning.specs.Evaluation.{Surroundings, and_then, fit_parameters, back_from_call, as_written, stack_below, applied}
-use Rattle.cmm_eval.specs.Filled.{resume}
-use Rattle.cmm_eval.specs.Stands.{around_view, stands, goes_on, stands_in, goes_on_in, activated_held}
-use Rattle.cmm_eval.specs.Views.{layout_view, here_view, world_view}
-use Rattle.cmm_eval.specs.declared.frame.Now.{Now}
+use Rattle.eval_frames.specs.Filled.{resume}
+use Rattle.eval_frames.specs.Around.{around_view, activated_held}
+use Rattle.cmm_eval.specs.Stands.{stands, goes_on, stands_in, goes_on_in}
+use Rattle.eval_frames.specs.Views.{layout_view, here_view, world_view}
+use Rattle.eval_frames.specs.declared.frame.Now.{Now}
 use Rattle.cmm_eval.proofs.Ended.{if_ok_then}
-use Rattle.cmm_eval.proofs.HeldAround.{call_missing, call_misfit, call_fit}
+use Rattle.eval_frames.proofs.HeldAround.{call_missing, call_misfit, call_fit}
 use Rattle.cmm_eval.proofs.machine.Machine.apply.Goals as goal
 
 pub returns-in_default-get : goal.returns-in_default-get

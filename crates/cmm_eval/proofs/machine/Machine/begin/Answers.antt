@@ -1,14 +1,15 @@
 use Rattle.std.proofs.Common.{◌≡◌, ◌≢◌, ◌∙◌, ◌-◌, true, false, ap}
 use denote.Enum.Bare.{sameb}
-use Rattle.cmm_eval.specs.contracts.group.Group.{the_type}
-use Rattle.cmm_eval.specs.Groups.{group_of}
-use Rattle.cmm_eval.specs.Held.{inside}
-use Rattle.cmm_eval.specs.Filled.{expression, resume}
-use Rattle.cmm_eval.specs.Stands.{around_view, stands, goes_on}
-use Rattle.cmm_eval.specs.Views.{here_view, world_view}
-use Rattle.cmm_eval.specs.declared.group.Group.TheVariants as group
-use Rattle.cmm_eval.specs.declared.here.Here as here
-use Rattle.cmm_eval.specs.declared.world.World as world
+use Rattle.eval_frames.specs.contracts.group.Group.{the_type}
+use Rattle.eval_frames.specs.Groups.{group_of}
+use Rattle.eval_frames.specs.Held.{inside}
+use Rattle.eval_frames.specs.Filled.{expression, resume}
+use Rattle.eval_frames.specs.Around.{around_view}
+use Rattle.cmm_eval.specs.Stands.{stands, goes_on}
+use Rattle.eval_frames.specs.Views.{here_view, world_view}
+use Rattle.eval_frames.specs.declared.group.Group.TheVariants as group
+use Rattle.eval_frames.specs.declared.here.Here as here
+use Rattle.eval_frames.specs.declared.world.World as world
 use Rattle.cmm_eval.proofs.Ended.{if_ok_then}
 use Rattle.cmm_eval.proofs.Turns.{pushed, node_begins}
 use Rattle.cmm_eval.proofs.machine.Machine.begin.Goals as goal

@@ -1,8 +1,8 @@
 use Rattle.std.proofs.Common.{◌≡◌, ℕ, ◌+◌, suc, false, ap, ◌∙◌, add-one}
 use Rattle.cmm_meaning.specs.State.{World, Here, taken, deepened}
 use Rattle.cmm_meaning.specs.Evaluation.{Evaluation}
-use Rattle.cmm_eval.specs.Filled.{expression, resume}
-use Rattle.cmm_eval.specs.Views.{here_view, world_view}
+use Rattle.eval_frames.specs.Filled.{expression, resume}
+use Rattle.eval_frames.specs.Views.{here_view, world_view}
 use Rattle.cmm_eval.proofs.Ordered.{sum_is}
 use Rattle.cmm_eval.proofs.machine.Machine.begin_try.Goals as goal
 

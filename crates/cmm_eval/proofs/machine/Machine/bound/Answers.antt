@@ -1,9 +1,10 @@
 use Rattle.std.proofs.Common.{◌∙◌, ap, sym, Option}
 use Rattle.bs_words.specs.declared.values.Kind.{Kind}
-use Rattle.cmm_eval.specs.Filled.{or_improper, resume, bindings_from}
-use Rattle.cmm_eval.specs.Stands.{around_view, stands}
-use Rattle.cmm_eval.specs.Views.{here_view, world_view}
-use Rattle.cmm_eval.specs.declared.frame.Now.{Now}
+use Rattle.eval_frames.specs.Filled.{or_improper, resume, bindings_from}
+use Rattle.eval_frames.specs.Around.{around_view}
+use Rattle.cmm_eval.specs.Stands.{stands}
+use Rattle.eval_frames.specs.Views.{here_view, world_view}
+use Rattle.eval_frames.specs.declared.frame.Now.{Now}
 use Rattle.cmm_eval.proofs.Ended.{if_ok_then, first_is_bound}
 use Rattle.cmm_eval.proofs.machine.Machine.bound.Goals as goal
 

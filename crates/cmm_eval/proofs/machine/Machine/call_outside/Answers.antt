@@ -3,10 +3,10 @@ use Rattle.bs_words.specs.Observed.{Made}
 use Rattle.bs_words.specs.declared.values.Call.{Call}
 use Rattle.cmm_meaning.specs.Evaluation.{Evaluation}
 use Rattle.cmm_meaning.specs.Run.{answered_as}
-use Rattle.cmm_eval.specs.Filled.{resume}
-use Rattle.cmm_eval.specs.Outside.{call_seen, returned}
-use Rattle.cmm_eval.specs.Stands.{around_view}
-use Rattle.cmm_eval.specs.Views.{layout_view, here_view, world_view, call_view}
+use Rattle.eval_frames.specs.Filled.{resume}
+use Rattle.eval_frames.specs.Outside.{call_seen, returned}
+use Rattle.eval_frames.specs.Around.{around_view}
+use Rattle.eval_frames.specs.Views.{layout_view, here_view, world_view, call_view}
 use Rattle.cmm_eval.proofs.Called.{call_is}
 use Rattle.cmm_eval.proofs.Ended.{if_ok_then}
 use Rattle.cmm_eval.proofs.machine.Machine.call_outside.Goals as goal

@@ -1,7 +1,7 @@
 use Rattle.std.proofs.Common.{false, option_copied, ap, sym, ◌∙◌}
-use Rattle.cmm_eval.specs.Filled.{expression, after_callee, after_waiting}
-use Rattle.cmm_eval.specs.Stands.{around_view}
-use Rattle.cmm_eval.specs.Views.{here_view, world_view}
+use Rattle.eval_frames.specs.Filled.{expression, after_callee, after_waiting}
+use Rattle.eval_frames.specs.Around.{around_view}
+use Rattle.eval_frames.specs.Views.{here_view, world_view}
 use Rattle.cmm_eval.proofs.Resumed.{stands_pushed_at}
 use Rattle.cmm_eval.proofs.machine.Machine.callee.Goals as goal
 

@@ -1,8 +1,8 @@
 use Rattle.std.proofs.Common.{◌≡◌, ◌∙◌, ◌∷◌, [], ◌++◌, List, ap}
-use Rattle.cmm_eval.specs.Passing.{ComesBack}
-use Rattle.cmm_eval.specs.Views.{here_view}
-use Rattle.cmm_eval.specs.declared.frame.Frame.{Frame}
-use Rattle.cmm_eval.specs.declared.frame.Step.TheVariants as step
+use Rattle.eval_frames.specs.Passing.{ComesBack}
+use Rattle.eval_frames.specs.Views.{here_view}
+use Rattle.eval_frames.specs.declared.frame.Frame.{Frame}
+use Rattle.eval_frames.specs.declared.frame.Step.TheVariants as step
 use Rattle.cmm_eval.specs.declared.machine.Machine.{Machine}
 use Rattle.cmm_eval.proofs.Called.{back_pushed, back_replaced}
 use Rattle.cmm_eval.proofs.Ended.{if_ok_then}

@@ -1,9 +1,9 @@
 use Rattle.std.proofs.Common.{◌≡◌, [], false, length, ap, eq-eqb}
-use Rattle.cmm_eval.specs.Filled.{expression, elements_from}
-use Rattle.cmm_eval.specs.Views.{here_view, world_view}
-use Rattle.cmm_eval.specs.declared.frame.Step.TheVariants as step
+use Rattle.eval_frames.specs.Filled.{expression, elements_from}
+use Rattle.eval_frames.specs.Views.{here_view, world_view}
+use Rattle.eval_frames.specs.declared.frame.Step.TheVariants as step
 use Rattle.cmm_eval.proofs.Resumed.{stands_pushed_at}
-use Rattle.cmm_eval.proofs.Listed.{elements_first}
+use Rattle.eval_frames.proofs.Listed.{elements_first}
 use Rattle.cmm_eval.proofs.machine.Machine.elements.Goals as goal
 
 pub returns-in_ok-push-in-Some : goal.returns-in_ok-push-in-Some

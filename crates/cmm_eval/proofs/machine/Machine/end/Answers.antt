@@ -1,8 +1,8 @@
 use Rattle.std.proofs.Common.{◌∙◌, ap, sym}
-use Rattle.cmm_eval.specs.Filled.{resume, fills, standing}
-use Rattle.cmm_eval.specs.Stands.{around_view}
-use Rattle.cmm_eval.specs.Views.{here_view, world_view, stop_view}
-use Rattle.cmm_eval.specs.declared.frame.Now.{Now}
+use Rattle.eval_frames.specs.Filled.{resume, fills, standing}
+use Rattle.eval_frames.specs.Around.{around_view}
+use Rattle.eval_frames.specs.Views.{here_view, world_view, stop_view}
+use Rattle.eval_frames.specs.declared.frame.Now.{Now}
 use Rattle.cmm_eval.proofs.Resumed.{does_stops}
 use Rattle.cmm_eval.proofs.machine.Machine.end.Goals as goal
 

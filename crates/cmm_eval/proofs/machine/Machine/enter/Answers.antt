@@ -2,10 +2,11 @@ use Rattle.std.proofs.Common.{◌≡◌, ◌∙◌, List, Option, ap, sym}
 use Rattle.std.specs.Prelude.{reverse}
 use Rattle.bs_words.specs.declared.values.Value.{Value}
 use Rattle.cmm_tree.specs.declared.expr.Expr.{Expr}
-use Rattle.cmm_eval.specs.Held.{inside}
-use Rattle.cmm_eval.specs.Filled.{operands_of, waits_for, resume}
-use Rattle.cmm_eval.specs.Stands.{around_view, stands, goes_on}
-use Rattle.cmm_eval.specs.Views.{here_view, world_view}
+use Rattle.eval_frames.specs.Held.{inside}
+use Rattle.eval_frames.specs.Filled.{operands_of, waits_for, resume}
+use Rattle.eval_frames.specs.Around.{around_view}
+use Rattle.cmm_eval.specs.Stands.{stands, goes_on}
+use Rattle.eval_frames.specs.Views.{here_view, world_view}
 use Rattle.cmm_eval.proofs.Ended.{if_ok_then}
 use Rattle.cmm_eval.proofs.Operands.{row_waits}
 use Rattle.cmm_eval.proofs.machine.Machine.enter.Goals as goal

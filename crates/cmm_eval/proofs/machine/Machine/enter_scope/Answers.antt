@@ -3,12 +3,12 @@ use Rattle.cmm_tree.specs.declared.expr.Form.{Form}
 use Rattle.cmm_tree.specs.declared.expr.Expr.{Expr}
 use Rattle.cmm_meaning.specs.State.{World, Here, taken, within_try, deepened}
 use Rattle.cmm_meaning.specs.Evaluation.{Evaluation, Surroundings, and_then, caught, tried}
-use Rattle.cmm_eval.specs.Filled.{expression, bindings_from, body_of, handlers_of, handler_of}
-use Rattle.cmm_eval.specs.Held.{inside}
-use Rattle.cmm_eval.specs.Views.{here_view, world_view}
-use Rattle.cmm_eval.specs.declared.frame.Step.TheVariants as step
+use Rattle.eval_frames.specs.Filled.{expression, bindings_from, body_of, handlers_of, handler_of}
+use Rattle.eval_frames.specs.Held.{inside}
+use Rattle.eval_frames.specs.Views.{here_view, world_view}
+use Rattle.eval_frames.specs.declared.frame.Step.TheVariants as step
 use Rattle.cmm_eval.proofs.Resumed.{stands_pushed_at}
-use Rattle.cmm_eval.proofs.Listed.{let_is}
+use Rattle.eval_frames.proofs.Listed.{let_is}
 use Rattle.cmm_eval.proofs.Ended.{if_ok_then, bounds_count}
 use Rattle.cmm_eval.proofs.machine.Machine.enter_scope.Goals as goal
 

@@ -1,9 +1,10 @@
 use Rattle.std.proofs.Common.{◌≡◌, ◌-◌, ◌<◌, ◌≤◌, Some, None, false, length, take, vec_len, reverse, ap, sym, ◌∙◌, arith}
 use Rattle.std.specs.Option.{option_flatten}
 use Rattle.cmm_tree.specs.declared.expr.Expr.{Expr}
-use Rattle.cmm_eval.specs.Filled.{expression, fills_in}
-use Rattle.cmm_eval.specs.Stands.{around_view, goes_on_in}
-use Rattle.cmm_eval.specs.Views.{here_view, world_view}
+use Rattle.eval_frames.specs.Filled.{expression, fills_in}
+use Rattle.eval_frames.specs.Around.{around_view}
+use Rattle.cmm_eval.specs.Stands.{goes_on_in}
+use Rattle.eval_frames.specs.Views.{here_view, world_view}
 use Rattle.cmm_eval.proofs.Resumed.{stands_pushed_at}
 use Rattle.cmm_eval.proofs.Ordered.{last_first, popped, item_at, fill_before, fill_now}
 use Rattle.cmm_eval.proofs.machine.Machine.fill_in.Goals as goal

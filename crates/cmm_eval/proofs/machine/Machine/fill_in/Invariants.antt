@@ -2,7 +2,7 @@ use Rattle.std.proofs.Common.{◌≡◌, ◌≤◌, take, length}
 use Rattle.std.specs.Prelude.{reverse}
 use Rattle.cmm_meaning.specs.State.{World, Here}
 use Rattle.cmm_meaning.specs.Evaluation.{Surroundings}
-use Rattle.cmm_eval.specs.Filled.{fills_in}
+use Rattle.eval_frames.specs.Filled.{fills_in}
 use Rattle.cmm_eval.proofs.machine.Machine.fill_in.Given as goal
 
 -- what is left is to be filled in

@@ -1,6 +1,6 @@
 use Rattle.std.proofs.Common.{map}
-use Rattle.cmm_eval.specs.Filled.{standing}
-use Rattle.cmm_eval.specs.Views.{here_view, world_view, call_view}
+use Rattle.eval_frames.specs.Filled.{standing}
+use Rattle.eval_frames.specs.Views.{here_view, world_view, call_view}
 use Rattle.cmm_eval.proofs.Called.{calls_more, frame_taken}
 use Rattle.cmm_eval.proofs.machine.Machine.frame_call.Goals as goal
 

@@ -3,11 +3,12 @@ use Rattle.cmm_tree.specs.View.{label_view, params_view}
 use Rattle.cmm_meaning.specs.State.{Here, back_in}
 use Rattle.cmm_meaning.specs.Evaluation.{NotProper, Evaluation, Exits, Stops, entered, scoped_parameter, with_bound, back, caught}
 use Rattle.cmm_meaning.specs.Choices.{ready_for}
-use Rattle.cmm_eval.specs.Filled.{or_improper, expression, handlers_of, handler_ready, does, resume}
-use Rattle.cmm_eval.specs.Stands.{around_view, stands}
-use Rattle.cmm_eval.specs.Views.{here_view, world_view}
-use Rattle.cmm_eval.specs.declared.here.Here as here
-use Rattle.cmm_eval.specs.declared.world.World as world
+use Rattle.eval_frames.specs.Filled.{or_improper, expression, handlers_of, handler_ready, does, resume}
+use Rattle.eval_frames.specs.Around.{around_view}
+use Rattle.cmm_eval.specs.Stands.{stands}
+use Rattle.eval_frames.specs.Views.{here_view, world_view}
+use Rattle.eval_frames.specs.declared.here.Here as here
+use Rattle.eval_frames.specs.declared.world.World as world
 use Rattle.cmm_eval.proofs.Turns.{pushed}
 use Rattle.cmm_eval.proofs.Leaving.{none_of, misfits, handler_begins}
 use Rattle.cmm_eval.proofs.machine.Machine.leave.Goals as goal

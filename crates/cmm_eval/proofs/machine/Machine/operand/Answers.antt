@@ -1,9 +1,9 @@
 use Rattle.std.proofs.Common.{false, sym}
-use Rattle.cmm_eval.specs.Filled.{expression}
-use Rattle.cmm_eval.specs.Held.{inside}
-use Rattle.cmm_eval.specs.Stands.{around_view}
-use Rattle.cmm_eval.specs.Views.{here_view, world_view}
-use Rattle.cmm_eval.specs.declared.frame.Step.TheVariants as step
+use Rattle.eval_frames.specs.Filled.{expression}
+use Rattle.eval_frames.specs.Held.{inside}
+use Rattle.eval_frames.specs.Around.{around_view}
+use Rattle.eval_frames.specs.Views.{here_view, world_view}
+use Rattle.eval_frames.specs.declared.frame.Step.TheVariants as step
 use Rattle.cmm_eval.proofs.Resumed.{stands_pushed_at}
 use Rattle.cmm_eval.proofs.machine.Machine.operand.Goals as goal
 

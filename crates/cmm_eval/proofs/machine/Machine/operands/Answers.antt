@@ -1,11 +1,11 @@
 use Rattle.std.proofs.Common.{false, sym, ap, ◌∙◌}
 use Rattle.cmm_tree.specs.declared.expr.Expr.{Expr}
 use Rattle.cmm_meaning.specs.Evaluation.{both}
-use Rattle.cmm_eval.specs.Filled.{expression, left_of, right_of, joined_by, does}
-use Rattle.cmm_eval.specs.Held.{inside}
-use Rattle.cmm_eval.specs.Stands.{around_view}
-use Rattle.cmm_eval.specs.Views.{here_view, world_view}
-use Rattle.cmm_eval.specs.declared.frame.Step.TheVariants as step
+use Rattle.eval_frames.specs.Filled.{expression, left_of, right_of, joined_by, does}
+use Rattle.eval_frames.specs.Held.{inside}
+use Rattle.eval_frames.specs.Around.{around_view}
+use Rattle.eval_frames.specs.Views.{here_view, world_view}
+use Rattle.eval_frames.specs.declared.frame.Step.TheVariants as step
 use Rattle.cmm_eval.proofs.Resumed.{stands_pushed_at}
 use Rattle.cmm_eval.proofs.Ordered.{both_begun}
 use Rattle.cmm_eval.proofs.machine.Machine.operands.Goals as goal

@@ -1,8 +1,8 @@
 use Rattle.std.proofs.Common.{false}
 use Rattle.std.specs.Prelude.{reverse}
-use Rattle.cmm_eval.specs.Filled.{expression, operated_by}
-use Rattle.cmm_eval.specs.Stands.{around_view}
-use Rattle.cmm_eval.specs.declared.frame.Step.TheVariants as step
+use Rattle.eval_frames.specs.Filled.{expression, operated_by}
+use Rattle.eval_frames.specs.Around.{around_view}
+use Rattle.eval_frames.specs.declared.frame.Step.TheVariants as step
 use Rattle.cmm_eval.proofs.Resumed.{stands_pushed}
 use Rattle.cmm_eval.proofs.Ended.{late_callee}
 use Rattle.cmm_eval.proofs.machine.Machine.operate.Goals as goal

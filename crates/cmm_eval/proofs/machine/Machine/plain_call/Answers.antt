@@ -1,5 +1,5 @@
 use Rattle.std.proofs.Common.{map}
-use Rattle.cmm_eval.specs.Views.{here_view, world_view, call_view}
+use Rattle.eval_frames.specs.Views.{here_view, world_view, call_view}
 use Rattle.cmm_eval.proofs.Called.{none_left, calls_more, answered_none, answered_word, answered_asks}
 use Rattle.cmm_eval.proofs.machine.Machine.plain_call.Goals as goal
 

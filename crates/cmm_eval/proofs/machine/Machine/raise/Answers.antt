@@ -1,12 +1,12 @@
 use Rattle.std.proofs.Common.{◌≡◌, inl, inr, refl, subst, sym, ap, ◌∙◌, [], ◌∷◌, length, vec_len, arith}
 use Rattle.cmm_tree.specs.declared.expr.Form.{Form}
 use Rattle.cmm_meaning.specs.Evaluation.{Raises, back, with_bound}
-use Rattle.cmm_eval.specs.Views.{here_view, world_view}
-use Rattle.cmm_eval.specs.Filled.{does, resume, expression, handler_of}
-use Rattle.cmm_eval.specs.declared.frame.Step.{Step}
-use Rattle.cmm_eval.specs.declared.frame.Step.TheVariants as step
-use Rattle.cmm_eval.specs.declared.here.Here as here
-use Rattle.cmm_eval.specs.declared.world.World as world
+use Rattle.eval_frames.specs.Views.{here_view, world_view}
+use Rattle.eval_frames.specs.Filled.{does, resume, expression, handler_of}
+use Rattle.eval_frames.specs.declared.frame.Step.{Step}
+use Rattle.eval_frames.specs.declared.frame.Step.TheVariants as step
+use Rattle.eval_frames.specs.declared.here.Here as here
+use Rattle.eval_frames.specs.declared.world.World as world
 use Rattle.cmm_eval.proofs.Ended.{bounds_count, raised, raise_passes, try_handles}
 use Rattle.cmm_eval.proofs.machine.Machine.raise.Goals as goal
 

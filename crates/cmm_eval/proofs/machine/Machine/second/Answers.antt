@@ -1,7 +1,7 @@
 use Rattle.std.proofs.Common.{Some, false}
 use Rattle.cmm_meaning.specs.Evaluation.{Gives}
-use Rattle.cmm_eval.specs.Filled.{expression, does}
-use Rattle.cmm_eval.specs.declared.frame.Step.TheVariants as step
+use Rattle.eval_frames.specs.Filled.{expression, does}
+use Rattle.eval_frames.specs.declared.frame.Step.TheVariants as step
 use Rattle.cmm_eval.proofs.Resumed.{stands_pushed}
 use Rattle.cmm_eval.proofs.Ended.{second_begins}
 use Rattle.cmm_eval.proofs.machine.Machine.second.Goals as goal

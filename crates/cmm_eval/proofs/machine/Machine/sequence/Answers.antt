@@ -1,9 +1,9 @@
 use Rattle.std.proofs.Common.{ap, sym, ◌∙◌}
-use Rattle.cmm_eval.specs.Filled.{elements_from, resume}
-use Rattle.cmm_eval.specs.Held.{inside}
-use Rattle.cmm_eval.specs.Views.{here_view, world_view}
+use Rattle.eval_frames.specs.Filled.{elements_from, resume}
+use Rattle.eval_frames.specs.Held.{inside}
+use Rattle.eval_frames.specs.Views.{here_view, world_view}
 use Rattle.cmm_eval.proofs.Ended.{if_ok_then}
-use Rattle.cmm_eval.proofs.Listed.{sequence_is}
+use Rattle.eval_frames.proofs.Listed.{sequence_is}
 use Rattle.cmm_eval.proofs.machine.Machine.sequence.Goals as goal
 
 pub returns : goal.returns

@@ -4,10 +4,11 @@ use Rattle.cmm_tree.specs.declared.expr.Case.{Case}
 use Rattle.cmm_tree.specs.declared.expr.Form.{Form}
 use Rattle.cmm_meaning.specs.Evaluation.{chosen}
 use Rattle.cmm_meaning.specs.Choices.{case_for}
-use Rattle.cmm_eval.specs.Filled.{resume, taken_by, cases_ready}
-use Rattle.cmm_eval.specs.Stands.{around_view, stands}
-use Rattle.cmm_eval.specs.Views.{here_view, world_view}
-use Rattle.cmm_eval.specs.declared.frame.Now.{Now}
+use Rattle.eval_frames.specs.Filled.{resume, taken_by, cases_ready}
+use Rattle.eval_frames.specs.Around.{around_view}
+use Rattle.cmm_eval.specs.Stands.{stands}
+use Rattle.eval_frames.specs.Views.{here_view, world_view}
+use Rattle.eval_frames.specs.declared.frame.Now.{Now}
 use Rattle.cmm_eval.proofs.Ended.{switch_chooses}
 use Rattle.cmm_eval.proofs.machine.Machine.take.Goals as goal
 

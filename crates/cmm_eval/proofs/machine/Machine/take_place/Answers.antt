@@ -1,10 +1,10 @@
 use Rattle.std.proofs.Common.{◌≡◌, ◌∙◌, ◌-◌, ◌<◌, ◌∷◌, ◌++◌, List, length, take, drop, ap, sym, subst, arith}
 use Rattle.std.proofs.lemmas.List.{take-append-drop, take_more_set}
-use Rattle.cmm_eval.specs.Filled.{resume}
-use Rattle.cmm_eval.specs.Passing.{returns}
-use Rattle.cmm_eval.specs.declared.frame.Frame.{Frame}
-use Rattle.cmm_eval.specs.declared.frame.Step.{Step}
-use Rattle.cmm_eval.specs.declared.frame.Step.TheVariants as step
+use Rattle.eval_frames.specs.Filled.{resume}
+use Rattle.eval_frames.specs.Passing.{returns}
+use Rattle.eval_frames.specs.declared.frame.Frame.{Frame}
+use Rattle.eval_frames.specs.declared.frame.Step.{Step}
+use Rattle.eval_frames.specs.declared.frame.Step.TheVariants as step
 use Rattle.cmm_eval.specs.declared.machine.Machine.{Machine}
 use Rattle.cmm_eval.proofs.Passing.{Follows, follows_more, place_taken, frame_at}
 use Rattle.cmm_eval.proofs.machine.Machine.take_place.Goals as goal

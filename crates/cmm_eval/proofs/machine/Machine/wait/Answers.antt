@@ -1,11 +1,12 @@
 use Rattle.std.proofs.Common.{◌≡◌, ◌-◌, ◌<◌, ◌≤◌, ◌∷◌, Some, true, false, length, take, reverse, ap, sym, subst, ◌∙◌, arith}
 use Rattle.cmm_tree.specs.View.{expr_view}
-use Rattle.cmm_types.specs.Light.{is_light_address}
+use Rattle.cmm_meaning.specs.Known.{is_light_address}
 use Rattle.cmm_meaning.specs.State.{Here, scope}
 use Rattle.cmm_meaning.specs.Evaluation.{with_value}
-use Rattle.cmm_eval.specs.Filled.{expression, waits_for}
-use Rattle.cmm_eval.specs.Stands.{around_view, goes_on_in}
-use Rattle.cmm_eval.specs.Views.{here_view, world_view}
+use Rattle.eval_frames.specs.Filled.{expression, waits_for}
+use Rattle.eval_frames.specs.Around.{around_view}
+use Rattle.cmm_eval.specs.Stands.{goes_on_in}
+use Rattle.eval_frames.specs.Views.{here_view, world_view}
 use Rattle.cmm_eval.proofs.Resumed.{stands_pushed_at}
 use Rattle.cmm_eval.proofs.Ordered.{last_first, wait_light, wait_other}
 use Rattle.cmm_eval.proofs.machine.Machine.wait.Goals as goal

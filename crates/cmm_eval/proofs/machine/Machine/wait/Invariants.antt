@@ -2,8 +2,8 @@ use Rattle.std.proofs.Common.{◌≡◌, ◌≤◌, take, length}
 use Rattle.std.specs.Prelude.{reverse}
 use Rattle.cmm_meaning.specs.State.{World}
 use Rattle.cmm_meaning.specs.Evaluation.{Surroundings}
-use Rattle.cmm_eval.specs.Filled.{waits_for}
-use Rattle.cmm_eval.specs.Views.{here_view}
+use Rattle.eval_frames.specs.Filled.{waits_for}
+use Rattle.eval_frames.specs.Views.{here_view}
 use Rattle.cmm_eval.proofs.machine.Machine.wait.Given as goal
 
 -- what is left still waits

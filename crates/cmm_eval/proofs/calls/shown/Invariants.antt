@@ -1,9 +1,0 @@
-use Rattle.std.proofs.Common.{◌≡◌, ◌++◌, map, drop}
-use Rattle.cmm_meaning.specs.Layout.{observed}
-use Rattle.cmm_eval.specs.Views.{layout_view}
-use Rattle.cmm_eval.proofs.calls.shown.Given as goal
-
--- what is seen of the values so far, and of those that are left
-abbrev pub invariant-loop-value : goal.invariant-loop-value
-invariant-loop-value l =
-    l.seen.items ++ map (observed (layout_view l.layout)) (drop l.value-index l.values) ≡ map (observed (layout_view l.layout)) l.values

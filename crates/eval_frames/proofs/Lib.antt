@@ -1,0 +1,9 @@
+pub mod Bounds
+pub mod Same
+pub mod HeldChosen
+pub mod HeldSame
+pub mod HeldCalls
+pub mod HeldAround
+pub mod Parameters
+pub mod Listed
+pub mod Answered

@@ -1,0 +1,10 @@
+pub mod Annotated
+pub mod Around
+pub mod Filled
+pub mod Groups
+pub mod Held
+pub mod Meets
+pub mod Outside
+pub mod Passing
+pub mod Sums
+pub mod Views
