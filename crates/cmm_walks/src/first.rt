@@ -241,6 +241,7 @@ pub fn first_live(alloc: Global, nodes: &[Node], entry: usize) -> Result<Option<
     let greatest = greatest_place(nodes);
     let before = nodes_before(alloc, nodes)?;
     let mentions = nodes_by_slot(alloc, nodes, greatest_slot(nodes))?;
+    // a length is above the greatest slot without a sum that could pass the numbers
     let bound = mentions.len();
     let search = Search {
         nodes,

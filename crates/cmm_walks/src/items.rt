@@ -103,7 +103,8 @@ pub enum Item<'a> {
     },
 }
 
-/// The cells of a function.
+/// The cells of a function. Each is numbered by how many came before it. A slot in use is at most the
+/// number of cells, since each slot before it has a cell; so numbers and slots have room for sums.
 #[derive(Drop)]
 pub struct Cells<'a> {
     items: Vec<Item<'a>>,

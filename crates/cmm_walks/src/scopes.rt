@@ -61,7 +61,8 @@ impl<'a> Cells<'a> {
             IsScope (cells self.old) scope s →
             Opens (cells self.old) (cells self.new) cell (with_slots slot
             (params_view params.now) s)) }
-        ensures more { IfOk result (λ _. length (cells self.old) + length params.now ≤ length (cells self.new)) }
+        ensures more { IfOk result (λ _.
+            length (cells self.old) + length params.now ≤ length (cells self.new)) }
     {
         match params {
             [] => Ok(scope),

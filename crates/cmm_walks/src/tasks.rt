@@ -83,7 +83,8 @@ impl<'a> Cells<'a> {
         requires { slot + count ≤ usize.MAX }
         ensures adds { IfOk result (λ cell. IsReady (cells self.old) rest →
             Adds (cells self.old) (cells self.new) cell (takes at slot count) rest) }
-        ensures more { IfOk result (λ _. length (cells self.old) + count ≤ length (cells self.new)) }
+        ensures more { IfOk result (λ _.
+            length (cells self.old) + count ≤ length (cells self.new)) }
     {
         if count == 0 {
             return Ok(rest);

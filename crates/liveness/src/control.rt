@@ -67,8 +67,8 @@ fn places_after_mark(
     place: u32,
 ) -> Result<Vec<u32>, AllocError>
     requires { suc place < 2 ^ 32 }
-    ensures { IfOk result (λ places.
-        places.items ≡ map (place_to (place_in labels.now) place) (targets (MachOp.Mark mark.now))) }
+    ensures { IfOk result (λ places. places.items ≡
+        map (place_to (place_in labels.now) place) (targets (MachOp.Mark mark.now))) }
 {
     match mark {
         Mark::Exit { label, tries: _ } => one_place(alloc, labels.place_of(*label)),
