@@ -52,7 +52,10 @@ impl<'a> World<'a> {
         file: &'a File,
         doings: Vec<Doing>,
     ) -> Result<Option<Self>, AllocError> {
-        if data_fault(file).is_some() || file.items.len() > u32::MAX as usize {
+        if data_fault(file).is_some() {
+            return Ok(None);
+        }
+        if file.items.len() > u32::MAX as usize {
             return Ok(None);
         }
         Ok(Some(World::of_faultless(alloc, file, doings)?))
