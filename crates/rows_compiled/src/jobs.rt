@@ -1,11 +1,11 @@
 //! That `compile` shares functions among threads, and that its image does not show it.
 //!
 //! No contract can say that a thread was started. So a row of `held` has a number of jobs, under which a file of two
-//! functions is compiled, and function 0 is held until function 1 has been let in: under two jobs it is seen, and
-//! one thread alone would only wait.
+//! functions is compiled, and function 0 is held until function 1 has been let in: under two jobs it is seen, and one
+//! thread alone would only wait.
 //!
-//! A row of `shared` has a number of jobs, a seed and a number of functions. Shown is what was told of while the
-//! generator's text was compiled under so many jobs, and whether the image is that of one job.
+//! A row of `shared` has a number of jobs, a seed and a number of functions. Shown is which functions were told of while
+//! the generator's text was compiled under so many jobs, and whether the image is that of one job.
 use crate::generated::numbers_of;
 use cmm_gen::generate;
 use rows_lines::{Counting, Holding, Table, Top, Watch};
