@@ -1,5 +1,5 @@
 -- A file has no more functions than items.
-use Rattle.std.proofs.Common.{◌≡◌, ℕ, ◌≤◌, ◌<◌, List, [], ◌∷◌, length, map, arith}
+use Rattle.std.proofs.Common.{ℕ, ◌≤◌, ◌<◌, List, [], ◌∷◌, length, map, arith}
 use Rattle.std.proofs.lemmas.List.{length-map}
 use Rattle.bs_words.specs.Contents.{contents}
 use Rattle.cmm_tree.specs.Tree.{ItemTree, AFunction, AData, functions, functions_among}
