@@ -10,6 +10,7 @@
 //! The answers were made by a script that knows how long each output is and what the rules say of statuses.
 use rows_lines::{Answer, Table, Top};
 use std::alloc::{AllocError, Global};
+use std::thread::Threads;
 
 /// What goes wrong: the word that says so in a line of `rows_lines`.
 const TROUBLES: [&str; 5] = [
@@ -24,7 +25,10 @@ const TROUBLES: [&str; 5] = [
 const TRIALS: u64 = 256;
 
 /// The lines of a command.
-pub fn said_to<T: Top>(table: &mut Table<'_, T>, row: &str) -> Result<Vec<u8>, AllocError> {
+pub fn said_to<R: Threads + Sync, T: Top>(
+    table: &mut Table<'_, R, T>,
+    row: &str,
+) -> Result<Vec<u8>, AllocError> {
     let alloc = table.alloc();
     let Some((words, input)) = row.split_once(" | ") else {
         return b"no bar\n".to_vec(alloc);
@@ -45,8 +49,8 @@ pub fn said_to<T: Top>(table: &mut Table<'_, T>, row: &str) -> Result<Vec<u8>, A
 }
 
 /// The lines of the trials of a trouble, up to the first that changes nothing.
-fn tried<T: Top>(
-    table: &mut Table<'_, T>,
+fn tried<R: Threads + Sync, T: Top>(
+    table: &mut Table<'_, R, T>,
     words: &str,
     trouble: &str,
     whole: &Answer,

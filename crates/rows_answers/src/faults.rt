@@ -7,9 +7,13 @@
 //! grammar are a second reader's, the others were counted by hand.
 use rows_lines::{Table, Top, Watch};
 use std::alloc::AllocError;
+use std::thread::Threads;
 
 /// What the program says of a text.
-pub fn said_to<T: Top>(table: &Table<'_, T>, text: &str) -> Result<Vec<u8>, AllocError> {
+pub fn said_to<R: Threads + Sync, T: Top>(
+    table: &Table<'_, R, T>,
+    text: &str,
+) -> Result<Vec<u8>, AllocError> {
     let answer = table.answer_of("compile", text.as_bytes(), Watch::Open)?;
     if answer.status == 0 {
         return b"compiled\n".to_vec(table.alloc());

@@ -7,9 +7,13 @@ use crate::texts::text_of;
 use anyhow::Result;
 use rows_lines::{Answer, Table, Top};
 use std::alloc::{AllocError, Global};
+use std::thread::Threads;
 
 /// The lines of a row.
-pub fn said_to<T: Top>(table: &mut Table<'_, T>, row: &str) -> Result<Vec<u8>> {
+pub fn said_to<R: Threads + Sync, T: Top>(
+    table: &mut Table<'_, R, T>,
+    row: &str,
+) -> Result<Vec<u8>> {
     let alloc = table.alloc();
     let Some((form, rest)) = row.split_once(' ') else {
         return Ok(b"no number\n".to_vec(alloc)?);
@@ -26,8 +30,8 @@ pub fn said_to<T: Top>(table: &mut Table<'_, T>, row: &str) -> Result<Vec<u8>> {
 }
 
 /// What the program answers to the words, over the text of a form.
-fn answered<T: Top>(
-    table: &mut Table<'_, T>,
+fn answered<R: Threads + Sync, T: Top>(
+    table: &mut Table<'_, R, T>,
     form: &str,
     number: u32,
     words: &str,

@@ -10,9 +10,13 @@
 use crate::shown::shown_of;
 use anyhow::Result;
 use rows_lines::{Table, Top};
+use std::thread::Threads;
 
 /// What is shown of the text that a row asks for, under the stage and the word that says what is shown.
-pub fn said_to<T: Top>(table: &mut Table<'_, T>, row: &str) -> Result<Vec<u8>> {
+pub fn said_to<R: Threads + Sync, T: Top>(
+    table: &mut Table<'_, R, T>,
+    row: &str,
+) -> Result<Vec<u8>> {
     let alloc = table.alloc();
     let Some((words, text)) = row.split_once(" | ") else {
         return Ok(b"no bar\n".to_vec(alloc)?);

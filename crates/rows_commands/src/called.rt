@@ -5,37 +5,23 @@ use rows_lines::{Sticking, Top, Watch};
 use std::alloc::Global;
 use std::thread::Threads;
 
-/// The top call, in threads of this runtime.
+/// The top call.
 #[derive(Clone, Copy)]
-pub(crate) struct Called<'a, R> {
-    rt: &'a R,
-    alloc: Global,
+pub(crate) struct Called {
+    pub alloc: Global,
 }
 
-impl<'a, R> Called<'a, R> {
-    pub(crate) fn new(rt: &'a R, alloc: Global) -> Called<'a, R> {
-        Called { rt, alloc }
-    }
-}
-
-impl<'a, R: Threads + Sync> Top for Called<'a, R> {
-    fn status(
+impl Top for Called {
+    fn status<R: Threads + Sync>(
         &self,
+        rt: &R,
         words: &[String],
         source: &mut MemSource,
         out: &mut Sticking,
         err: &mut Sticking,
         watch: Watch,
     ) -> u8 {
-        cmmc(
-            self.rt,
-            self.alloc,
-            words,
-            source,
-            out,
-            err,
-            &Watched(watch),
-        )
+        cmmc(rt, self.alloc, words, source, out, err, &Watched(watch))
     }
 }
 

@@ -16,16 +16,16 @@ use subject::Subject;
 
 fn main(rt: HostRuntime) -> Result<()> {
     let alloc = rt.alloc();
-    let top = Called::new(&rt, alloc);
+    let top = Called { alloc };
     let mut subject = Subject::Commands;
-    let mut table = Table::new(&top, alloc);
+    let mut table = Table::new(&rt, &top, alloc);
     let mut out = BufWriter::new(alloc, rt.stdout())?;
     for line in BufReader::new(alloc, rt.stdin())?.lines(alloc) {
         let line = line?;
         match line.as_str().strip_prefix("= ") {
             Some(name) => {
                 subject = Subject::of(name);
-                table = Table::new(&top, alloc);
+                table = Table::new(&rt, &top, alloc);
             }
             None => {
                 let said = subject.said_to(&mut table, line.as_str())?;

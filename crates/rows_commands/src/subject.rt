@@ -4,6 +4,7 @@ use anyhow::Result;
 use rows_answers::{devices, faults, limits, listings};
 use rows_compiled::{compiled, generated, jobs, plans};
 use rows_lines::{Table, Top};
+use std::thread::Threads;
 
 /// What a table is about, which says how its rows are read and what is shown of the answers. Where no module of
 /// `rows_answers` or `rows_compiled` is named, a row has the form of `rows_lines`, and all that `cmmc` says to it is shown.
@@ -74,7 +75,11 @@ impl Subject {
     }
 
     /// What is shown of a row.
-    pub(crate) fn said_to<T: Top>(self, table: &mut Table<'_, T>, row: &str) -> Result<Vec<u8>> {
+    pub(crate) fn said_to<R: Threads + Sync, T: Top>(
+        self,
+        table: &mut Table<'_, R, T>,
+        row: &str,
+    ) -> Result<Vec<u8>> {
         match self {
             Subject::Commands | Subject::Checks | Subject::Operators | Subject::Images => {
                 Ok(table.said_to(row)?)

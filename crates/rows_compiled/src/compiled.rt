@@ -8,9 +8,13 @@
 //! description of the language; where that gives no output, an evaluator in another language has made it.
 use anyhow::Result;
 use rows_lines::{Table, Top};
+use std::thread::Threads;
 
 /// What the program says to a row, but for the lines that tell the need of stack.
-pub fn said_to<T: Top>(table: &mut Table<'_, T>, row: &str) -> Result<Vec<u8>> {
+pub fn said_to<R: Threads + Sync, T: Top>(
+    table: &mut Table<'_, R, T>,
+    row: &str,
+) -> Result<Vec<u8>> {
     let said = table.said_to(row)?;
     let mut shown = Vec::new(table.alloc());
     for line in str::from_utf8(said.as_slice())?.split_terminator('\n') {

@@ -7,6 +7,7 @@
 use cmm_gen::generate;
 use rows_lines::{Table, Top, Watch};
 use std::alloc::AllocError;
+use std::thread::Threads;
 
 /// The options of the runs.
 const MOVES: [&str; 5] = [
@@ -18,7 +19,10 @@ const MOVES: [&str; 5] = [
 ];
 
 /// The line of a row.
-pub fn said_to<T: Top>(table: &Table<'_, T>, row: &str) -> Result<Vec<u8>, AllocError> {
+pub fn said_to<R: Threads + Sync, T: Top>(
+    table: &Table<'_, R, T>,
+    row: &str,
+) -> Result<Vec<u8>, AllocError> {
     let alloc = table.alloc();
     let Some((seed, functions)) = numbers_of(row) else {
         return b"no numbers\n".to_vec(alloc);
@@ -40,8 +44,8 @@ pub(crate) fn numbers_of(row: &str) -> Option<(u64, u32)> {
 }
 
 /// The outcome of the text's last function, of so many functions before it, once where all ways agree.
-fn all_outcomes<T: Top>(
-    table: &Table<'_, T>,
+fn all_outcomes<R: Threads + Sync, T: Top>(
+    table: &Table<'_, R, T>,
     text: &[u8],
     last: u32,
 ) -> Result<Vec<u8>, AllocError> {

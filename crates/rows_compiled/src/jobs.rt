@@ -10,12 +10,16 @@ use crate::generated::numbers_of;
 use cmm_gen::generate;
 use rows_lines::{Counting, Holding, Table, Top, Watch};
 use std::alloc::AllocError;
+use std::thread::Threads;
 
 const TWO_FUNCTIONS: &str =
     "(function \"f\" (x:int) (+ x 1))\n(function \"g\" (x:int) (app \"f\" x int))\n";
 
 /// The line of a row of `held`.
-pub fn held<T: Top>(table: &Table<'_, T>, jobs: &str) -> Result<Vec<u8>, AllocError> {
+pub fn held<R: Threads + Sync, T: Top>(
+    table: &Table<'_, R, T>,
+    jobs: &str,
+) -> Result<Vec<u8>, AllocError> {
     let alloc = table.alloc();
     let two = TWO_FUNCTIONS.as_bytes();
     let holding = Holding::new();
@@ -30,7 +34,10 @@ pub fn held<T: Top>(table: &Table<'_, T>, jobs: &str) -> Result<Vec<u8>, AllocEr
 }
 
 /// The line of a row of `shared`.
-pub fn shared<T: Top>(table: &Table<'_, T>, row: &str) -> Result<Vec<u8>, AllocError> {
+pub fn shared<R: Threads + Sync, T: Top>(
+    table: &Table<'_, R, T>,
+    row: &str,
+) -> Result<Vec<u8>, AllocError> {
     let alloc = table.alloc();
     let Some((jobs, numbers)) = row.split_once(" ") else {
         return b"no numbers\n".to_vec(alloc);
@@ -60,8 +67,8 @@ fn is_same(image: &[u8], other: &[u8]) -> bool {
 }
 
 /// The image of the text. It is empty where there is none.
-fn image_of<T: Top>(
-    table: &Table<'_, T>,
+fn image_of<R: Threads + Sync, T: Top>(
+    table: &Table<'_, R, T>,
     text: &[u8],
     jobs: &str,
     watch: Watch,

@@ -15,6 +15,7 @@ use mover_runtime::{Schedule, run_image};
 use rows_lines::{Table, Top};
 use rv_machine::{Arg, LoadError, Setup, load};
 use std::alloc::{AllocError, Global};
+use std::thread::Threads;
 
 /// The most bytes of an outcome that are kept.
 const KEPT: usize = 1 << 12;
@@ -26,7 +27,10 @@ const ROOM: u32 = 1 << 20;
 const STEPS: u64 = 100_000_000;
 
 /// The outcome of the run of a row.
-pub fn said_to<T: Top>(table: &mut Table<'_, T>, row: &str) -> Result<Vec<u8>> {
+pub fn said_to<R: Threads + Sync, T: Top>(
+    table: &mut Table<'_, R, T>,
+    row: &str,
+) -> Result<Vec<u8>> {
     let alloc = table.alloc();
     let Some((call, rest)) = row.split_once(" | ") else {
         return Ok(b"no bar\n".to_vec(alloc)?);

@@ -11,6 +11,8 @@
 //! The top call itself is handed in (`Top`), so that what is shown of its answers is checked without the compiler.
 #![tactic(auto)]
 
+ghost use Rattle.std.specs.Thread.{IsSync};
+
 mod digits;
 mod line;
 mod sticking;
@@ -21,6 +23,7 @@ use bs_words::List;
 use digits::{bytes_of, push_digits};
 use line::Line;
 use std::alloc::{AllocError, Global};
+use std::thread::Threads;
 pub use sticking::Sticking;
 pub use watch::{Counting, Holding, Watch};
 
@@ -35,14 +38,16 @@ pub(crate) const PIECE: usize = 1 << 16;
 /// The top call.
 pub trait Top {
     /// The status with which the program ends that is given these words. The watch is told of what it compiles.
-    fn status(
+    fn status<R: Threads + Sync>(
         &self,
+        rt: &R,
         words: &[String],
         source: &mut MemSource,
         out: &mut Sticking,
         err: &mut Sticking,
         watch: Watch,
-    ) -> u8;
+    ) -> u8
+        requires { IsSync R.row };
 }
 
 /// What a command answers: its status, and what went to out and to err.
@@ -55,17 +60,19 @@ pub struct Answer {
 
 /// A table, line by line.
 #[derive(Drop)]
-pub struct Table<'a, T> {
+pub struct Table<'a, R, T> {
+    rt: &'a R,
     top: &'a T,
     alloc: Global,
     /// What the last line read.
     input: Vec<u8>,
 }
 
-impl<'a, T: Top> Table<'a, T> {
+impl<'a, R: Threads + Sync, T: Top> Table<'a, R, T> {
     /// No row has been read.
-    pub fn new(top: &'a T, alloc: Global) -> Table<'a, T> {
+    pub fn new(rt: &'a R, top: &'a T, alloc: Global) -> Table<'a, R, T> {
         Table {
+            rt,
             top,
             alloc,
             input: Vec::new(alloc),
@@ -136,9 +143,14 @@ impl<'a, T: Top> Table<'a, T> {
         let mut out = Sticking::new(out, out_sticks);
         let err = MemSink::new(alloc, LINE, List::from_vec(err_fails), piece)?;
         let mut err = Sticking::new(err, err_sticks);
-        let status = self
-            .top
-            .status(words.as_slice(), &mut source, &mut out, &mut err, watch);
+        let status = self.top.status(
+            self.rt,
+            words.as_slice(),
+            &mut source,
+            &mut out,
+            &mut err,
+            watch,
+        );
         Ok(Answer {
             status,
             out: out.bytes().to_vec(alloc)?,
