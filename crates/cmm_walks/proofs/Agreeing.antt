@@ -15,7 +15,7 @@ use Rattle.cmm_walks.specs.AddrLive.{IsLiveIn}
 use Rattle.cmm_walks.specs.Cells.{item_at, scope_at, tasks_at, tasks_in}
 use Rattle.cmm_walks.specs.First.{IsFirstTold}
 use Rattle.cmm_walks.specs.Made.{Filled}
-use Rattle.cmm_walks.specs.Sound.{IsBelow, IsHeld, IsSound, IsScope, Extends, GoesAs, Steps}
+use Rattle.cmm_walks.specs.Sound.{free_in, IsBelow, IsHeld, IsSound, IsScope, Extends, GoesAs, Steps}
 use Rattle.cmm_walks.specs.Walks.{Task, Evaluates, names, with_slots, parameters_bound, walk_tasks, Next}
 use Rattle.cmm_walks.specs.Table.{shown, step_at, next_at, next_cells, AreLinked, IsLinked, LeadsToBinding}
 use Rattle.cmm_walks.specs.Refusal.{ToldIn}
@@ -55,6 +55,9 @@ goes-at items tasks tasks' st next e g =
 
 -- ---- filling the table
 
+pub placed-now : (items : List Item) (c : ℕ) (x : Item) → IsSound items → item_at items c ≡ Some x → free_in x ≤ length items
+placed-now items c x sound at = let within : c < length items = item-within items c x at in omega (arith, sound.placed c x at)
+
 pub filled-none : (items : List Item) → IsSound items → Filled items items [] 0
 filled-none items sound = record {
   extends = extends-none items;
@@ -71,28 +74,28 @@ last-or-former [] n (suc c) x e = absurd (none-some x e)
 last-or-former (y ∷ nodes) n zero x e = inr e
 last-or-former (y ∷ nodes) n (suc c) x e = elim (last-or-former nodes n c x e) [ inl t ↦ inl (ap suc t.0, t.1) | inr r ↦ inr r ]
 
-pub filled-more : (old a b : List Item) (nodes nodes' : List node.Node) (done next : ℕ) (x : Item) (n : node.Node)
-    → Filled old a nodes done
+pub filled-more : (old a b : List Item) (nodes nodes' : List node.Node) (done : ℕ) (x : Item) (n : node.Node)
+    → Filled old a nodes (length nodes)
+    → done ≡ length nodes
     → item_at a done ≡ Some x
-    → next ≡ suc done
     → nodes' ≡ nodes ++ (n ∷ [])
-    → (IsSound a → IsBelow (length a) x → IsHeld (length a) (scope_at a) (tasks_at a) x → Steps a b (tasks_in (scope_at a) (tasks_at a) x) n)
-    → Filled old b nodes' next
-filled-more old a b nodes nodes' done next x n f at q pushed step_of =
+    → (IsBelow (length a) x → IsHeld (length a) (scope_at a) (tasks_at a) x → Steps a b (tasks_in (scope_at a) (tasks_at a) x) n)
+    → Filled old b nodes' (length nodes')
+filled-more old a b nodes nodes' done x n f q at pushed step_of =
     let within : done < length a = item-within a done x at in
-    let s = step_of f.sound (below-more done (length a) x (omega arith) (f.sound.below done x at)) (f.sound.held done x at) in
+    let s = step_of (below-more done (length a) x (omega arith) (f.sound.below done x at)) (f.sound.held done x at) in
     let tasks : tasks_at b done ≡ tasks_in (scope_at a) (tasks_at a) x = tasks-extend a b done s.extends within ∙ tasks-are a done x f.sound at in
     let len : length a ≤ length b = extends-length a b s.extends in
-    let P : List node.Node → Type 0 = λ l. Filled old b l next in
+    let P : List node.Node → Type 0 = λ l. Filled old b l (length l) in
     subst P (sym pushed) (record {
       extends = extends-then old a b f.extends s.extends;
       sound = s.sound;
-      count = omega (arith, length-append nodes (n ∷ []), f.count, q);
-      within = omega (arith, q);
+      count = refl;
+      within = omega (arith, length-append nodes (n ∷ []), q);
       goes = λ c y e.
           elim (last-or-former nodes n c y e) [
             | inl t ↦
-                let is : c ≡ done = t.0 ∙ f.count in
+                let is : c ≡ done = t.0 ∙ sym q in
                 let G : node.Node → Type 0 = λ z. GoesAs b (tasks_at b c) z.step (next_cells z.next) in
                 subst G t.1 (goes-at b (tasks_in (scope_at a) (tasks_at a) x) (tasks_at b c) n.step (next_cells n.next) (sym (ap (tasks_at b) is ∙ tasks)) s.goes)
             | inr r ↦
@@ -101,10 +104,10 @@ filled-more old a b nodes nodes' done next x n f at q pushed step_of =
           ];
     })
 
-pub filled-all : (old items : List Item) (nodes : List node.Node) (done : ℕ) → Filled old items nodes done → item_at items done ≡ None → Filled old items nodes (length items)
-filled-all old items nodes done f e =
+pub filled-all : (old items : List Item) (nodes : List node.Node) (done : ℕ) → Filled old items nodes (length nodes) → done ≡ length nodes → item_at items done ≡ None → Filled old items nodes (length items)
+filled-all old items nodes done f q e =
     let h : length items ≤ done = item-past items done e in
-    record { extends = f.extends; sound = f.sound; count = omega (arith, f.count, f.within); within = omega arith; goes = f.goes }
+    record { extends = f.extends; sound = f.sound; count = omega (arith, q, f.within); within = omega arith; goes = f.goes }
 
 -- ---- the table agrees
 
@@ -180,6 +183,7 @@ sound-none : IsSound []
 sound-none = record {
   below = λ c x e. absurd (let h : c < 0 = item-within [] c x e in omega arith);
   held = λ c x e. absurd (let h : c < 0 = item-within [] c x e in omega arith);
+  placed = λ c x e. absurd (let h : c < 0 = item-within [] c x e in omega arith);
 }
 
 pub record Ends (items : List Item) (end : ℕ) : Type 0 where
@@ -192,7 +196,7 @@ ends old new end e pushed =
     let P : List Item → Type 0 = λ l. Ends l end in
     let at : end ≡ 0 = pushed.0 ∙ ap length e in
     subst P (sym (pushed.1 ∙ ap (λ (l : List Item). item.Empty ∷ l) e)) (record {
-      sound = sound-push item.Empty [] sound-none tt tt;
+      sound = sound-push item.Empty [] sound-none tt tt (omega arith);
       scope = record { within = omega (arith, at); is = scope-here item.Empty [] end at };
       is = tasks-here item.Empty [] end at;
     })

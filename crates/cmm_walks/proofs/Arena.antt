@@ -1,5 +1,5 @@
 -- What cells stand for, where further ones are pushed.
-use Rattle.std.proofs.Common.{◌≡◌, ℕ, zero, suc, ◌<◌, ◌≤◌, ◌==◌, cond, Bool, true, false, List, [], ◌∷◌, ◌++◌, ◌⊎◌, length, reverse, get_or, take, drop, ◌-◌, Option, Some, None, inl, inr, refl, sym, ap, ◌∙◌, subst, arith}
+use Rattle.std.proofs.Common.{◌≡◌, ℕ, zero, suc, ◌+◌, ◌<◌, ◌≤◌, ◌==◌, cond, Bool, true, false, List, [], ◌∷◌, ◌++◌, ◌⊎◌, length, reverse, get_or, take, drop, ◌-◌, Option, Some, None, inl, inr, refl, sym, ap, ◌∙◌, subst, arith}
 use Rattle.std.specs.List.{slice_get}
 use Rattle.std.proofs.lemmas.Bool.{cond-true, cond-false}
 use Rattle.std.proofs.lemmas.Bool.Decides.{eqb_tells, nat_tests}
@@ -17,6 +17,9 @@ use Rattle.cmm_walks.specs.Walks.{Slotted, Task, names, bodies, handling}
 use Rattle.cmm_walks.specs.Walks as walk
 use Rattle.cmm_walks.specs.declared.items.Item.{Item}
 use Rattle.cmm_walks.specs.declared.items.Item.TheVariants as item
+
+pub plus-one : (n : ℕ) → n + 1 ≡ suc n
+plus-one n = omega arith
 
 -- ---- by number
 

@@ -8,7 +8,7 @@ use Rattle.cmm_types.specs.Lists.{AreCasesAnnotated, AreHandlersAnnotated}
 use Rattle.cmm_tree.specs.Rows.{cases_of, handlers_of}
 use Rattle.cmm_types.specs.Types.{with_parameters}
 use Rattle.cmm_walks.specs.Cells.{item_at, scope_at, tasks_at, handler_tasks}
-use Rattle.cmm_walks.specs.Sound.{IsBelow, HandlersAt, IsHeld, IsSound, Extends, IsReady, IsScope, Adds, Each, IsHandlerOf, AddsHandlers}
+use Rattle.cmm_walks.specs.Sound.{free_in, IsBelow, HandlersAt, IsHeld, IsSound, Extends, IsReady, IsScope, Adds, Each, IsHandlerOf, AddsHandlers}
 use Rattle.cmm_walks.specs.Walks.{Slotted, Task, names, bodies, handling}
 use Rattle.cmm_walks.specs.Walks as walk
 use Rattle.cmm_walks.specs.declared.items.Item.{Item}
@@ -24,10 +24,11 @@ pub adds-either : (old new : List Item) (cell scope slot rest : ℕ) (on_true on
     → IsScope old scope s
     → IsAnnotated (names s) on_true.now
     → IsAnnotated (names s) on_false.now
+    → slot ≤ length old
     → Adds old new cell (walk.OneOf s slot (expr_view on_true.now ∷ expr_view on_false.now ∷ []) ∷ []) rest
-adds-either old new cell scope slot rest on_true on_false s pushed r within t f =
+adds-either old new cell scope slot rest on_true on_false s pushed r within t f placed =
     let P : List Slotted → Type 0 = λ l. IsAnnotated (names l) on_true.now × IsAnnotated (names l) on_false.now in
-    adds-push old new (item.Either scope slot on_true on_false rest) cell rest (walk.OneOf s slot (expr_view on_true.now ∷ expr_view on_false.now ∷ []) ∷ []) pushed r.sound (within.within, r.within) (subst P (sym within.is) (t, f))
+    adds-push old new (item.Either scope slot on_true on_false rest) cell rest (walk.OneOf s slot (expr_view on_true.now ∷ expr_view on_false.now ∷ []) ∷ []) pushed r.sound (within.within, r.within) (subst P (sym within.is) (t, f)) placed
     (ap (λ (l : List Slotted). walk.OneOf l slot (expr_view on_true.now ∷ expr_view on_false.now ∷ []) ∷ tasks_at old rest) within.is)
 
 pub adds-one_of : (old new : List Item) (cell scope slot rest : ℕ) (cases : _) (s : List Slotted)
@@ -35,23 +36,24 @@ pub adds-one_of : (old new : List Item) (cell scope slot rest : ℕ) (cases : _)
     → IsReady old rest
     → IsScope old scope s
     → AreCasesAnnotated (names s) cases.now
+    → slot ≤ length old
     → Adds old new cell (walk.OneOf s slot (bodies (cases_of cases.now)) ∷ []) rest
-adds-one_of old new cell scope slot rest cases s pushed r within t =
+adds-one_of old new cell scope slot rest cases s pushed r within t placed =
     let P : List Slotted → Type 0 = λ l. AreCasesAnnotated (names l) cases.now in
-    adds-push old new (item.OneOf scope slot cases rest) cell rest (walk.OneOf s slot (bodies (cases_of cases.now)) ∷ []) pushed r.sound (within.within, r.within) (subst P (sym within.is) t)
+    adds-push old new (item.OneOf scope slot cases rest) cell rest (walk.OneOf s slot (bodies (cases_of cases.now)) ∷ []) pushed r.sound (within.within, r.within) (subst P (sym within.is) t) placed
     (ap (λ (l : List Slotted). walk.OneOf l slot (bodies (cases_of cases.now)) ∷ tasks_at old rest) within.is)
 
 pub adds-may_raise : (old new : List Item) (cell rest : ℕ) → (cell ≡ length old) × (new ≡ item.MayRaise rest ∷ old) → IsReady old rest
     → Adds old new cell (walk.MayRaise ∷ []) rest
-adds-may_raise old new cell rest pushed r = adds-push old new (item.MayRaise rest) cell rest (walk.MayRaise ∷ []) pushed r.sound r.within tt refl
+adds-may_raise old new cell rest pushed r = adds-push old new (item.MayRaise rest) cell rest (walk.MayRaise ∷ []) pushed r.sound r.within tt (omega arith) refl
 
 pub adds-raises : (old new : List Item) (cell rest : ℕ) → (cell ≡ length old) × (new ≡ item.Raises rest ∷ old) → IsReady old rest
     → Adds old new cell (walk.Raises ∷ []) rest
-adds-raises old new cell rest pushed r = adds-push old new (item.Raises rest) cell rest (walk.Raises ∷ []) pushed r.sound r.within tt refl
+adds-raises old new cell rest pushed r = adds-push old new (item.Raises rest) cell rest (walk.Raises ∷ []) pushed r.sound r.within tt (omega arith) refl
 
 pub adds-exits : (old new : List Item) (cell rest : ℕ) (label : _) → (cell ≡ length old) × (new ≡ item.Exits label rest ∷ old) → IsReady old rest
     → Adds old new cell (walk.Exits (label_view label.now) ∷ []) rest
-adds-exits old new cell rest label pushed r = adds-push old new (item.Exits label rest) cell rest (walk.Exits (label_view label.now) ∷ []) pushed r.sound r.within tt refl
+adds-exits old new cell rest label pushed r = adds-push old new (item.Exits label rest) cell rest (walk.Exits (label_view label.now) ∷ []) pushed r.sound r.within tt (omega arith) refl
 
 -- ---- more cells at once
 
@@ -65,10 +67,10 @@ item-more P (y ∷ more) old c x each e =
     ]
 
 pub sound-more : (more old : List Item) → IsSound old
-    → Each (λ y. IsBelow (length old) y × IsHeld (length (more ++ old)) (scope_at (more ++ old)) (tasks_at (more ++ old)) y) more
+    → Each (λ y. IsBelow (length old) y × IsHeld (length (more ++ old)) (scope_at (more ++ old)) (tasks_at (more ++ old)) y × (free_in y ≤ length old)) more
     → IsSound (more ++ old)
 sound-more more old sound each =
-    let P : Item → Type 0 = λ y. IsBelow (length old) y × IsHeld (length (more ++ old)) (scope_at (more ++ old)) (tasks_at (more ++ old)) y in
+    let P : Item → Type 0 = λ y. IsBelow (length old) y × IsHeld (length (more ++ old)) (scope_at (more ++ old)) (tasks_at (more ++ old)) y × (free_in y ≤ length old) in
     record {
       below = λ c x e.
           elim (item-more P more old c x each e) [
@@ -82,6 +84,11 @@ sound-more more old sound each =
                 (below-more c (length old) x (let h : c < length old = item-within old c x r in omega arith) (sound.below c x r))
                 (sound.held c x r)
             | inr p ↦ p.1.1
+          ];
+      placed = λ c x e.
+          elim (item-more P more old c x each e) [
+            | inl r ↦ sound.placed c x r
+            | inr p ↦ omega (arith, p.0, p.1.2)
           ];
     }
 
@@ -163,6 +170,21 @@ handler-below n scope slot all first rest s a b (item.Catches scope' slot' in_ha
 handler-below n scope slot all first rest s a b (item.Handler scope' slot' handlers own first' rest') h = (omega (arith, h.0), omega (arith, h.4))
 handler-below n scope slot all first rest s a b (item.Handles scope' slot' name_at name handler entry rest') h = absurd h
 
+handler-placed : (n scope slot : ℕ) (all : List Handler) (first rest : ℕ) (s : List Slotted) → slot ≤ n → (y : Item) → IsHandlerOf scope slot all first rest s y → free_in y ≤ n
+handler-placed n scope slot all first rest s a item.Empty h = omega arith
+handler-placed n scope slot all first rest s a (item.Named name type mutable slot' outer) h = omega arith
+handler-placed n scope slot all first rest s a (item.Does action rest') h = omega arith
+handler-placed n scope slot all first rest s a (item.Evaluates scope' slot' expr rest') h = absurd h
+handler-placed n scope slot all first rest s a (item.Enters scope' slot' bindings body rest') h = absurd h
+handler-placed n scope slot all first rest s a (item.Either scope' slot' on_true on_false rest') h = absurd h
+handler-placed n scope slot all first rest s a (item.OneOf scope' slot' cases rest') h = absurd h
+handler-placed n scope slot all first rest s a (item.MayRaise rest') h = omega arith
+handler-placed n scope slot all first rest s a (item.Raises rest') h = omega arith
+handler-placed n scope slot all first rest s a (item.Exits label rest') h = omega arith
+handler-placed n scope slot all first rest s a (item.Catches scope' slot' in_handler handlers first' rest') h = omega arith
+handler-placed n scope slot all first rest s a (item.Handler scope' slot' handlers own first' rest') h = omega (arith, h.1)
+handler-placed n scope slot all first rest s a (item.Handles scope' slot' name_at name handler entry rest') h = omega arith
+
 handler-held : (n : ℕ) (scopes : ℕ → List Slotted) (t : ℕ → List Task) (scope slot : ℕ) (all : List Handler) (first rest : ℕ) (s : List Slotted)
     → scopes scope ≡ s
     → AreHandlersAnnotated (names s) all
@@ -201,9 +223,10 @@ pub catch-ready : (old new : List Item) (scope slot : ℕ) (all : List Handler) 
     → IsReady old rest
     → IsScope old scope s
     → AreHandlersAnnotated (names s) all
+    → slot ≤ length old
     → AddsHandlers old new scope slot all first rest s all
     → CatchReady old new scope slot all first rest s
-catch-ready old new scope slot all first rest s at r in_scope typed adds =
+catch-ready old new scope slot all first rest s at r in_scope typed placed adds =
     let ext : Extends old new = record { more = adds.more; is = adds.is } in
     let Q : List Task → Type 0 = λ l. HandlersAt (length new) (tasks_at new) first s slot all l all in
     let F : ℕ → Type 0 = λ n. HandlersAt (length new) (tasks_at new) n s slot all (tasks_at old rest) all in
@@ -216,10 +239,11 @@ catch-ready old new scope slot all first rest s at r in_scope typed adds =
       sound =
           subst S (sym adds.is)
           (sound-more adds.more old r.sound
-          (each-map (IsHandlerOf scope slot all first rest s) (λ y. IsBelow (length old) y × IsHeld (length (adds.more ++ old)) (scope_at (adds.more ++ old)) (tasks_at (adds.more ++ old)) y) adds.more
+          (each-map (IsHandlerOf scope slot all first rest s) (λ y. IsBelow (length old) y × IsHeld (length (adds.more ++ old)) (scope_at (adds.more ++ old)) (tasks_at (adds.more ++ old)) y × (free_in y ≤ length old)) adds.more
           (λ y h. (
             handler-below (length old) scope slot all first rest s in_scope.within r.within y h,
             handler-held (length (adds.more ++ old)) (scope_at (adds.more ++ old)) (tasks_at (adds.more ++ old)) scope slot all first rest s (scope-kept adds.more old scope in_scope.within ∙ in_scope.is) typed (subst W adds.is row) y h,
+            handler-placed (length old) scope slot all first rest s placed y h,
           ))
           adds.each));
       row = row;
@@ -234,7 +258,7 @@ pub adds-catches : (old new : List Item) (cell scope slot : ℕ) (in_handler : B
     → Adds old new cell (walk.Catches s slot in_handler (handlers_of handlers.now) ∷ []) rest
 adds-catches old new cell scope slot in_handler handlers first rest s pushed r within typed row =
     let P : List Slotted → Type 0 = λ l. AreHandlersAnnotated (names l) handlers.now × HandlersAt (length old) (tasks_at old) first l slot handlers.now (tasks_at old rest) handlers.now in
-    adds-push old new (item.Catches scope slot in_handler handlers first rest) cell rest (walk.Catches s slot in_handler (handlers_of handlers.now) ∷ []) pushed r.sound (within.within, r.within) (subst P (sym within.is) (typed, row))
+    adds-push old new (item.Catches scope slot in_handler handlers first rest) cell rest (walk.Catches s slot in_handler (handlers_of handlers.now) ∷ []) pushed r.sound (within.within, r.within) (subst P (sym within.is) (typed, row)) (omega arith)
     (ap (λ (l : List Slotted). walk.Catches l slot in_handler (handlers_of handlers.now) ∷ tasks_at old rest) within.is)
 
 pub adds-handles : (old new : List Item) (cell scope slot name_at : ℕ) (name handler : _) (entry rest : ℕ) (s : List Slotted)
@@ -246,7 +270,7 @@ pub adds-handles : (old new : List Item) (cell scope slot name_at : ℕ) (name h
     → Adds old new cell (walk.Handles s slot name_at name.now (expr_view handler.now) ∷ []) rest
 adds-handles old new cell scope slot name_at name handler entry rest s pushed r within below is =
     let P : List Slotted → Type 0 = λ l. tasks_at old entry ≡ handling l slot name_at name.now (expr_view handler.now) ++ tasks_at old rest in
-    adds-push old new (item.Handles scope slot name_at name handler entry rest) cell rest (walk.Handles s slot name_at name.now (expr_view handler.now) ∷ []) pushed r.sound (within.within, r.within) (below, subst P (sym within.is) is)
+    adds-push old new (item.Handles scope slot name_at name handler entry rest) cell rest (walk.Handles s slot name_at name.now (expr_view handler.now) ∷ []) pushed r.sound (within.within, r.within) (below, subst P (sym within.is) is) (omega arith)
     (ap (λ (l : List Slotted). walk.Handles l slot name_at name.now (expr_view handler.now) ∷ tasks_at old rest) within.is)
 
 -- ---- after the operands of a call

@@ -3,7 +3,7 @@ use Rattle.std.proofs.Common.{Bool, ◌≡◌, ◌⊎◌, ◌≢◌, ℕ, zero, 
 use Rattle.std.specs.Prelude.{◌↔◌}
 use Rattle.std.specs.List.{All, Contains}
 use Rattle.std.proofs.lemmas.Bool.{cases_eq}
-use Rattle.std.proofs.lemmas.List.{length-set, length-map, map-set, get_or-map, get_or-set_same, get_or-set_other, take_more, take_all}
+use Rattle.std.proofs.lemmas.List.{length-append, length-set, length-map, map-set, get_or-map, get_or-set_same, get_or-set_other, take_more, take_all}
 use Rattle.std.proofs.lemmas.List.Elements.{Contains-append_left, Contains-push, Contains-push_cases}
 use Rattle.cmm_walks.specs.Table.{step_at, next_at, next_cells, slot_below, IsNode, IsLinked, AreLinked, AreNodes}
 use Rattle.cmm_walks.specs.Groups.{members, Added, NamesSlot, HasSlotAdded, AreBefore, AreMentions}
@@ -218,6 +218,9 @@ sorting_more nodes bound i number number' n now new within read up t a = record 
 
 pub sorted_out : (nodes : List node.Node) (bound i number : ℕ) (now : List group.Group) → length nodes ≤ i → Sorting nodes bound i number now → AreMentions nodes now
 sorted_out nodes bound i number now done t = record { named = λ slot p h. t.named slot p (let w : p < length nodes = step_within nodes slot p h in omega (arith, w, done)) h }
+
+pub one_longer : (old new : List group.Group) (g : group.Group) (n : ℕ) → length old ≡ n → new ≡ old ++ (g ∷ []) → length new ≡ suc n
+one_longer old new g n len is = omega (arith, len, ap length is, length-append old (g ∷ []))
 
 pub slot_added : (old new : List group.Group) (slot at number : ℕ) (address : Bool) → Added old new slot number → HasSlotAdded old new (step.Binds slot address at) number
 slot_added old new slot at number address a = record {

@@ -1,12 +1,12 @@
 -- Where an exit and a raise lead.
-use Rattle.std.proofs.Common.{◌≡◌, ℕ, suc, ◌<◌, Bool, true, false, not, ◌&&◌, cond, List, [], ◌∷◌, ◌++◌, length, Option, Some, None, refl, sym, ap, ◌∙◌, subst}
+use Rattle.std.proofs.Common.{◌≡◌, ℕ, zero, suc, ◌+◌, ◌^◌, ◌<◌, ◌≤◌, Bool, true, false, not, ◌&&◌, cond, List, [], ◌∷◌, ◌++◌, length, Option, Some, None, refl, sym, ap, ◌∙◌, subst, arith}
 use Rattle.std.proofs.lemmas.Option.{same_Some}
 use Rattle.cmm_tree.specs.Tree.{LabelTree, Parameter, same_label, is_bare}
 use Rattle.cmm_tree.specs.View.{expr_view, label_view, params_view}
 use Rattle.cmm_tree.specs.declared.expr.Handler.{Handler}
 use Rattle.cmm_tree.specs.Rows.{handlers_of}
 use Rattle.cmm_walks.specs.Cells.{item_at, scope_at, tasks_at, tasks_in, handler_tasks}
-use Rattle.cmm_walks.specs.Leaving.{rest_in, own_handler, exit_rest, raise_rest}
+use Rattle.cmm_walks.specs.Leaving.{IsRow, HasRow, rest_in, own_handler, exit_rest, raise_rest}
 use Rattle.cmm_walks.specs.Sound.{IsBelow, HandlersAt, IsHeld, IsSound, LeadsTo}
 use Rattle.cmm_walks.specs.Walks.{Slotted, Task, handler_for, or_else, behind_exit, behind_raise, parameters_bound, handling}
 use Rattle.cmm_walks.specs.declared.items.Item.{Item}
@@ -51,6 +51,42 @@ find-later label s slot in_handler all behind n t first next hs h others found e
     (ap (λ (l : List Handler). handler_for label s slot in_handler (handlers_of all) behind (handlers_of l)) e
     ∙ ap (λ (b : Bool). cond b (Some (handler_tasks s slot all behind h)) (handler_for label s slot in_handler (handlers_of all) behind (handlers_of others))) test))
     (k (subst R (sym q) a.2))
+
+-- ---- the numbers of the cells in a row
+
+row-below : (n : ℕ) (t : ℕ → List Task) (first : ℕ) (s : List Slotted) (slot : ℕ) (all : List Handler) (behind : List Task) (hs : List Handler)
+    → HandlersAt n t first s slot all behind hs
+    → (k : ℕ) → k < length hs → first + k < n
+row-below n t first s slot all behind [] h k within = absurd (omega arith)
+row-below n t first s slot all behind (x ∷ hs) h zero within = omega (arith, h.0)
+row-below n t first s slot all behind (x ∷ hs) h (suc k) within = omega (arith, row-below n t (suc first) s slot all behind hs h.2 k (omega arith))
+
+is-row : (n : ℕ) (t : ℕ → List Task) (first : ℕ) (s : List Slotted) (slot : ℕ) (all : List Handler) (behind : List Task) (hs : List Handler)
+    → n < 2 ^ 64
+    → HandlersAt n t first s slot all behind hs
+    → IsRow first hs
+is-row n t first s slot all behind hs fits h = λ k within. omega (arith, row-below n t first s slot all behind hs h k within)
+
+pub held-row : (n : ℕ) (s : ℕ → List Slotted) (t : ℕ → List Task) (x : Item) → n < 2 ^ 64 → IsHeld n s t x → HasRow x
+held-row n s t item.Empty fits h = tt
+held-row n s t (item.Named name type mutable slot outer) fits h = tt
+held-row n s t (item.Does action rest) fits h = tt
+held-row n s t (item.Evaluates scope slot expr rest) fits h = tt
+held-row n s t (item.Enters scope slot bindings body rest) fits h = tt
+held-row n s t (item.Either scope slot on_true on_false rest) fits h = tt
+held-row n s t (item.OneOf scope slot cases rest) fits h = tt
+held-row n s t (item.MayRaise rest) fits h = tt
+held-row n s t (item.Raises rest) fits h = tt
+held-row n s t (item.Exits label rest) fits h = tt
+held-row n s t (item.Catches scope slot in_handler handlers first rest) fits h = is-row n t first (s scope) slot handlers.now (t rest) handlers.now fits h.1
+held-row n s t (item.Handler scope slot handlers own first rest) fits h = is-row n t first (s scope) slot handlers.now (t rest) handlers.now fits h.1
+held-row n s t (item.Handles scope slot name_at name handler entry rest) fits h = tt
+
+pub row-first : (first : ℕ) (hs : List Handler) → IsRow first hs → 1 ≤ length hs → first + 1 < 2 ^ 64
+row-first first hs row some = omega (arith, row 0 (omega arith))
+
+pub row-next : (first : ℕ) (hs : List Handler) (h : Handler) (others : List Handler) → hs ≡ h ∷ others → IsRow first hs → IsRow (first + 1) others
+row-next first hs h others e row = λ k within. omega (arith, row (suc k) (omega (arith, ap length e)))
 
 pub own-as : (label : LabelTree) (n : ℕ) (s : ℕ → List Slotted) (t : ℕ → List Task) (x y : Item) (found : Option ℕ) → x ≡ y
     → (IsHeld n s t y → LeadsTo n t found (own_handler label s t y)) → IsHeld n s t x → LeadsTo n t found (own_handler label s t x)

@@ -11,7 +11,7 @@ use Rattle.cmm_types.specs.Lists.{AreBindingsAnnotated}
 use Rattle.cmm_tree.specs.Rows.{bindings_of}
 use Rattle.cmm_types.specs.Types.{with_parameters, with_bindings}
 use Rattle.cmm_walks.specs.Cells.{item_at, scope_at, tasks_at, scope_in, tasks_in, event_of}
-use Rattle.cmm_walks.specs.Sound.{IsBelow, IsHeld, IsSound, Extends, IsReady, IsScope, Adds, Opens}
+use Rattle.cmm_walks.specs.Sound.{free_in, IsBelow, IsHeld, IsSound, Extends, IsReady, IsScope, Adds, Opens}
 use Rattle.cmm_walks.specs.Walks.{Slotted, Task, names, slotted_parameter, with_slots}
 use Rattle.cmm_walks.specs.Walks as walk
 use Rattle.cmm_walks.specs.declared.items.Action.{Action}
@@ -21,8 +21,8 @@ use Rattle.cmm_walks.proofs.Arena.{item-kept, scope-kept, tasks-kept, item-here,
 
 -- ---- sound cells
 
-pub sound-push : (x : Item) (old : List Item) → IsSound old → IsBelow (length old) x → IsHeld (length old) (scope_at old) (tasks_at old) x → IsSound (x ∷ old)
-sound-push x old sound below held = record {
+pub sound-push : (x : Item) (old : List Item) → IsSound old → IsBelow (length old) x → IsHeld (length old) (scope_at old) (tasks_at old) x → free_in x ≤ length old → IsSound (x ∷ old)
+sound-push x old sound below held placed = record {
   below = λ c y e.
       elim (item-cases x old c y e) [
         | inl t ↦
@@ -40,6 +40,13 @@ sound-push x old sound below held = record {
             held-same (length old) (suc (length old)) (scope_at old) (scope_at (x ∷ old)) (tasks_at old) (tasks_at (x ∷ old)) y (omega arith) (λ r h. sym (scope-kept (x ∷ []) old r h)) (λ r h. sym (tasks-kept (x ∷ []) old r h))
             (below-more c (length old) y (let h : c < length old = item-within old c y r in omega arith) (sound.below c y r))
             (sound.held c y r)
+      ];
+  placed = λ c y e.
+      elim (item-cases x old c y e) [
+        | inl t ↦
+            let Q : Item → Type 0 = λ z. free_in z ≤ c in
+            subst Q t.1 (omega (arith, t.0, placed))
+        | inr r ↦ sound.placed c y r
       ];
 }
 
@@ -99,6 +106,9 @@ kept-scope {a = a} {b = b} {c = c} p h = record { within = (let l : length a ≤
 pub kept-within : {a b : List Item} {c : ℕ} → Extends a b → c < length a → c < length b
 kept-within {a = a} {b = b} p h = let l : length a ≤ length b = extends-length a b p in omega arith
 
+pub kept-placed : {a b : List Item} {slot : ℕ} → Extends a b → slot ≤ length a → slot ≤ length b
+kept-placed {a = a} {b = b} p h = let l : length a ≤ length b = extends-length a b p in omega arith
+
 -- ---- one further cell
 
 pub adds-push : (old new : List Item) (x : Item) (cell rest : ℕ) (tasks : List Task)
@@ -106,13 +116,14 @@ pub adds-push : (old new : List Item) (x : Item) (cell rest : ℕ) (tasks : List
     → IsSound old
     → IsBelow (length old) x
     → IsHeld (length old) (scope_at old) (tasks_at old) x
+    → free_in x ≤ length old
     → tasks_in (scope_at old) (tasks_at old) x ≡ tasks ++ tasks_at old rest
     → Adds old new cell tasks rest
-adds-push old new x cell rest tasks pushed sound below held are =
+adds-push old new x cell rest tasks pushed sound below held placed are =
     let P : List Item → Type 0 = λ l. Adds old l cell tasks rest in
     subst P (sym pushed.1) (record {
       extends = record { more = x ∷ []; is = refl };
-      sound = sound-push x old sound below held;
+      sound = sound-push x old sound below held placed;
       within = omega (arith, pushed.0);
       is = tasks-here x old cell pushed.0 ∙ are;
     })
@@ -123,13 +134,14 @@ pub opens-named : (old new : List Item) (x : Item) (cell outer : ℕ) (n : Slott
     → IsScope old outer s
     → IsBelow (length old) x
     → IsHeld (length old) (scope_at old) (tasks_at old) x
+    → free_in x ≤ length old
     → scope_in (scope_at old) x ≡ n ∷ scope_at old outer
     → Opens old new cell (n ∷ s)
-opens-named old new x cell outer n s pushed sound scope below held are =
+opens-named old new x cell outer n s pushed sound scope below held placed are =
     let P : List Item → Type 0 = λ l. Opens old l cell (n ∷ s) in
     subst P (sym pushed.1) (record {
       extends = record { more = x ∷ []; is = refl };
-      sound = sound-push x old sound below held;
+      sound = sound-push x old sound below held placed;
       opened = record { within = omega (arith, pushed.0); is = scope-here x old cell pushed.0 ∙ are ∙ ap (λ (l : List Slotted). n ∷ l) scope.is };
     })
 
@@ -198,17 +210,18 @@ pub adds-does : (old new : List Item) (cell rest : ℕ) (action : Action)
     → IsReady old rest
     → Adds old new cell (walk.Does (event_of action) ∷ []) rest
 adds-does old new cell rest action pushed r =
-    adds-push old new (item.Does action rest) cell rest (walk.Does (event_of action) ∷ []) pushed r.sound r.within tt refl
+    adds-push old new (item.Does action rest) cell rest (walk.Does (event_of action) ∷ []) pushed r.sound r.within tt (omega arith) refl
 
 pub adds-evaluates : (old new : List Item) (cell scope slot rest : ℕ) (expr : _) (s : List Slotted)
     → (cell ≡ length old) × (new ≡ item.Evaluates scope slot expr rest ∷ old)
     → IsReady old rest
     → IsScope old scope s
     → IsAnnotated (names s) expr.now
+    → slot ≤ length old
     → Adds old new cell (walk.Evaluates s slot (expr_view expr.now) ∷ []) rest
-adds-evaluates old new cell scope slot rest expr s pushed r within typed =
+adds-evaluates old new cell scope slot rest expr s pushed r within typed placed =
     let P : List Slotted → Type 0 = λ l. IsAnnotated (names l) expr.now in
-    adds-push old new (item.Evaluates scope slot expr rest) cell rest (walk.Evaluates s slot (expr_view expr.now) ∷ []) pushed r.sound (within.within, r.within) (subst P (sym within.is) typed)
+    adds-push old new (item.Evaluates scope slot expr rest) cell rest (walk.Evaluates s slot (expr_view expr.now) ∷ []) pushed r.sound (within.within, r.within) (subst P (sym within.is) typed) placed
     (ap (λ (l : List Slotted). walk.Evaluates l slot (expr_view expr.now) ∷ tasks_at old rest) within.is)
 
 pub adds-enters : (old new : List Item) (cell scope slot rest : ℕ) (bindings body : _) (s : List Slotted)
@@ -217,8 +230,9 @@ pub adds-enters : (old new : List Item) (cell scope slot rest : ℕ) (bindings b
     → IsScope old scope s
     → AreBindingsAnnotated (names s) bindings.now
     → IsAnnotated (with_bindings (names s) (bindings_of bindings.now)) body.now
+    → slot ≤ length old
     → Adds old new cell (walk.Enters s slot (bindings_of bindings.now) (expr_view body.now) ∷ []) rest
-adds-enters old new cell scope slot rest bindings body s pushed r within typed body_typed =
+adds-enters old new cell scope slot rest bindings body s pushed r within typed body_typed placed =
     let P : List Slotted → Type 0 = λ l. AreBindingsAnnotated (names l) bindings.now × IsAnnotated (with_bindings (names l) (bindings_of bindings.now)) body.now in
-    adds-push old new (item.Enters scope slot bindings body rest) cell rest (walk.Enters s slot (bindings_of bindings.now) (expr_view body.now) ∷ []) pushed r.sound (within.within, r.within) (subst P (sym within.is) (typed, body_typed))
+    adds-push old new (item.Enters scope slot bindings body rest) cell rest (walk.Enters s slot (bindings_of bindings.now) (expr_view body.now) ∷ []) pushed r.sound (within.within, r.within) (subst P (sym within.is) (typed, body_typed)) placed
     (ap (λ (l : List Slotted). walk.Enters l slot (bindings_of bindings.now) (expr_view body.now) ∷ tasks_at old rest) within.is)

@@ -1,10 +1,21 @@
 -- Where an exit and a raise lead, cell by cell.
-use Rattle.std.specs.Prelude.{ℕ, true, List, Option, Some, None}
+use Rattle.std.specs.Prelude.{ℕ, ◌+◌, ◌<◌, ◌^◌, suc, length, true, List, Option, Some, None}
 use Rattle.cmm_tree.specs.Tree.{LabelTree}
 use Rattle.cmm_tree.specs.Rows.{handlers_of}
+use Rattle.cmm_tree.specs.declared.expr.Handler.{Handler}
 use Rattle.cmm_walks.specs.Walks.{Slotted, Task, handler_for, behind_exit, behind_raise}
 use Rattle.cmm_walks.specs.declared.items.Item.{Item}
 use Rattle.cmm_walks.specs.declared.items.Item.TheVariants as item
+
+-- handlers in a row of cells from this one on have numbers, and so has what is after them
+abbrev pub IsRow : ℕ → List Handler → Type 0
+IsRow first handlers = (k : ℕ) → k < length handlers → suc (first + k) < 2 ^ 64
+
+-- so have the handlers of a catch
+abbrev pub HasRow : Item → Type 0
+HasRow (item.Catches scope slot in_handler handlers first rest) = IsRow first handlers.now
+HasRow (item.Handler scope slot handlers own first rest) = IsRow first handlers.now
+HasRow _ = Unit {0}
 
 -- the cell after a task
 abbrev pub rest_in : Item → Option ℕ

@@ -1,5 +1,5 @@
 -- Cells that agree with what they stand for.
-use Rattle.std.specs.Prelude.{◌≡◌, ℕ, suc, ◌<◌, List, [], ◌∷◌, ◌++◌, length, Option, Some, None, Contains}
+use Rattle.std.specs.Prelude.{◌≡◌, ℕ, suc, ◌<◌, ◌≤◌, List, [], ◌∷◌, ◌++◌, length, Option, Some, None, Contains}
 use Rattle.std.specs.List.{All}
 use Rattle.cmm_tree.specs.Tree.{Expression}
 use Rattle.cmm_tree.specs.View.{expr_view, params_view}
@@ -71,11 +71,22 @@ IsHeld count scopes tasks (item.Handles scope slot name_at name handler entry re
     (expr_view handler.now) ++ tasks rest)
 IsHeld count scopes tasks _ = Unit {0}
 
+-- the slot from which on slots are free for what it evaluates, or 0
+abbrev pub free_in : Item → ℕ
+free_in (item.Evaluates scope slot expr rest) = slot
+free_in (item.Enters scope slot bindings body rest) = slot
+free_in (item.Either scope slot on_true on_false rest) = slot
+free_in (item.OneOf scope slot cases rest) = slot
+free_in (item.Handler scope slot handlers own first rest) = slot
+free_in _ = 0
+
+-- Each slot in use has a cell before: that which binds it or takes it.
 pub record IsSound (items : List Item) : Type 0 where
   pub below : (c : ℕ) (x : Item) → item_at items c ≡ Some x → IsBelow c x
   pub held : (c : ℕ) (x : Item)
       → item_at items c ≡ Some x
       → IsHeld (length items) (scope_at items) (tasks_at items) x
+  pub placed : (c : ℕ) (x : Item) → item_at items c ≡ Some x → free_in x ≤ c
 
 -- further cells
 pub record Extends (old new : List Item) : Type 0 where

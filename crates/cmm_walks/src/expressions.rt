@@ -1,5 +1,5 @@
 //! Cells for the tasks of an expression.
-ghost use Rattle.std.specs.Prelude.{◌≡◌, suc, ◌∷◌, ◌++◌, ◌+◌, ◌<◌, [], List, IfOk, length, true, false};
+ghost use Rattle.std.specs.Prelude.{◌≡◌, suc, ◌∷◌, ◌++◌, ◌+◌, ◌<◌, ◌≤◌, [], List, IfOk, length, true, false};
 ghost use Rattle.bs_words.specs.declared.types.Ty.TheVariants as ty;
 ghost use Rattle.cmm_tree.specs.Tree.{More};
 ghost use Rattle.cmm_tree.specs.View.{expr_view, label_view};
@@ -13,26 +13,28 @@ ghost use Rattle.cmm_types.specs.Types.{type_named, with_bindings};
 ghost use Rattle.cmm_walks.specs.Cells.{cells};
 ghost use Rattle.cmm_walks.specs.Sound.{IsReady, IsScope, Adds, AddsHandlers};
 
+use crate::bound_types::is_address;
 use crate::items::{Action, Cells, Item};
-use crate::numbers::{after, behind, is_address};
 use bs_words::{Name, Ty};
 use cmm_tree::{Binding, Case, Expr, Form, Handler, Label};
 use std::alloc::AllocError;
 
 impl<'a> Cells<'a> {
     /// A call or a test, which may raise.
-    fn may_raise(&mut self, rest: u32) -> Result<u32, AllocError>
-        ensures { IfOk result (λ cell. IsReady (cells self.old) rest →
+    fn may_raise(&mut self, rest: usize) -> Result<usize, AllocError>
+        ensures adds { IfOk result (λ cell. IsReady (cells self.old) rest →
             Adds (cells self.old) (cells self.new) cell (MayRaise ∷ []) rest) }
+        ensures more { IfOk result (λ _. length (cells self.new) ≡ suc (length (cells self.old))) }
     {
         let cell = self.push(Item::MayRaise { rest })?;
         Ok(cell)
     }
 
     /// A raise.
-    pub fn raises(&mut self, rest: u32) -> Result<u32, AllocError>
-        ensures { IfOk result (λ cell. IsReady (cells self.old) rest →
+    pub fn raises(&mut self, rest: usize) -> Result<usize, AllocError>
+        ensures adds { IfOk result (λ cell. IsReady (cells self.old) rest →
             Adds (cells self.old) (cells self.new) cell (Raises ∷ []) rest) }
+        ensures more { IfOk result (λ _. length (cells self.new) ≡ suc (length (cells self.old))) }
     {
         let cell = self.push(Item::Raises { rest })?;
         Ok(cell)
@@ -41,18 +43,19 @@ impl<'a> Cells<'a> {
     /// An operation on one operand.
     fn on_one(
         &mut self,
-        scope: u32,
-        slot: u32,
+        scope: usize,
+        slot: usize,
         at: u32,
         expr: &'a Expr,
-        rest: u32,
-    ) -> Result<u32, AllocError>
+        rest: usize,
+    ) -> Result<usize, AllocError>
+        requires { slot ≤ length (cells self.old) }
         ensures { IfOk result (λ cell. (s : List Slotted) → IsReady (cells self.old) rest →
             IsScope (cells self.old) scope s → IsAnnotated (names s) expr.now →
             Adds (cells self.old) (cells self.new) cell (on_one s slot at
             (expr_view expr.now)) rest) }
     {
-        let free = behind(slot, 1)?;
+        let free = slot + 1;
         let taken = self.takes(at, slot, 1, rest)?;
         let filled = self.fill_one(scope, free, slot, expr, taken)?;
         let cell = self.wait_one(scope, free, slot, expr, filled)?;
@@ -62,21 +65,22 @@ impl<'a> Cells<'a> {
     /// An operation on two operands.
     fn on_two(
         &mut self,
-        scope: u32,
-        slot: u32,
+        scope: usize,
+        slot: usize,
         at: u32,
         left: &'a Expr,
         right: &'a Expr,
-        rest: u32,
-    ) -> Result<u32, AllocError>
+        rest: usize,
+    ) -> Result<usize, AllocError>
+        requires { slot ≤ length (cells self.old) }
         ensures { IfOk result (λ cell. (s : List Slotted) → IsReady (cells self.old) rest →
             IsScope (cells self.old) scope s → IsAnnotated (names s) left.now →
             IsAnnotated (names s) right.now →
             Adds (cells self.old) (cells self.new) cell (on_two s slot at
             (expr_view left.now) (expr_view right.now)) rest) }
     {
-        let free = behind(slot, 2)?;
-        let second = after(slot)?;
+        let free = slot + 2;
+        let second = slot + 1;
         let taken = self.takes(at, slot, 2, rest)?;
         let first_filled = self.fill_one(scope, free, slot, left, taken)?;
         let filled = self.fill_one(scope, free, second, right, first_filled)?;
@@ -88,12 +92,13 @@ impl<'a> Cells<'a> {
     /// An operation on these operands.
     fn on_all(
         &mut self,
-        scope: u32,
-        slot: u32,
+        scope: usize,
+        slot: usize,
         at: u32,
         exprs: &'a [Expr],
-        rest: u32,
-    ) -> Result<u32, AllocError>
+        rest: usize,
+    ) -> Result<usize, AllocError>
+        requires { slot ≤ length (cells self.old) }
         ensures { IfOk result (λ cell. (s : List Slotted) → IsReady (cells self.old) rest →
             IsScope (cells self.old) scope s → AreAnnotated (names s) exprs.now →
             Adds (cells self.old) (cells self.new) cell (all_operands s slot
@@ -107,12 +112,13 @@ impl<'a> Cells<'a> {
     /// An allocation. It takes its operands after its frame point.
     fn alloc(
         &mut self,
-        scope: u32,
-        slot: u32,
+        scope: usize,
+        slot: usize,
         at: u32,
         exprs: &'a [Expr],
-        rest: u32,
-    ) -> Result<u32, AllocError>
+        rest: usize,
+    ) -> Result<usize, AllocError>
+        requires { slot ≤ length (cells self.old) }
         ensures { IfOk result (λ cell. (s : List Slotted) → IsReady (cells self.old) rest →
             IsScope (cells self.old) scope s → AreAnnotated (names s) exprs.now →
             Adds (cells self.old) (cells self.new) cell (waiting s (slot + count
@@ -120,7 +126,7 @@ impl<'a> Cells<'a> {
             (slot + count (row_of exprs.now)) slot (row_of exprs.now) ++ takes at slot
             (count (row_of exprs.now))))) rest) }
     {
-        let free = behind(slot, exprs.len())?;
+        let free = slot + exprs.len();
         let taken = self.takes(at, slot, exprs.len(), rest)?;
         let filled = self.fill(scope, free, slot, exprs, taken)?;
         let passed = self.does(Action::Passes { at }, filled)?;
@@ -129,9 +135,10 @@ impl<'a> Cells<'a> {
     }
 
     /// What is after the operands of a call: the frame point of an app or a frame call, and a raise out of it.
-    fn called(&mut self, frame: bool, at: u32, rest: u32) -> Result<u32, AllocError>
-        ensures { IfOk result (λ cell. IsReady (cells self.old) rest →
+    fn called(&mut self, frame: bool, at: u32, rest: usize) -> Result<usize, AllocError>
+        ensures adds { IfOk result (λ cell. IsReady (cells self.old) rest →
             Adds (cells self.old) (cells self.new) cell (called frame at) rest) }
+        ensures more { IfOk result (λ _. length (cells self.old) ≤ length (cells self.new)) }
     {
         if frame {
             let may_raise = self.may_raise(rest)?;
@@ -145,13 +152,14 @@ impl<'a> Cells<'a> {
     /// An external call.
     fn extcall(
         &mut self,
-        scope: u32,
-        slot: u32,
+        scope: usize,
+        slot: usize,
         at: u32,
         frame: bool,
         exprs: &'a [Expr],
-        rest: u32,
-    ) -> Result<u32, AllocError>
+        rest: usize,
+    ) -> Result<usize, AllocError>
+        requires { slot ≤ length (cells self.old) }
         ensures { IfOk result (λ cell. (s : List Slotted) → IsReady (cells self.old) rest →
             IsScope (cells self.old) scope s → AreAnnotated (names s) exprs.now →
             Adds (cells self.old) (cells self.new) cell (all_operands s slot
@@ -164,12 +172,21 @@ impl<'a> Cells<'a> {
     }
 
     /// The operands of an app, and what is after them.
-    fn calls(&mut self, slot: u32, at: u32, arguments: usize, rest: u32) -> Result<u32, AllocError>
-        ensures { IfOk result (λ cell. IsReady (cells self.old) rest →
+    fn calls(
+        &mut self,
+        slot: usize,
+        at: u32,
+        arguments: usize,
+        rest: usize,
+    ) -> Result<usize, AllocError>
+        requires { slot + suc arguments ≤ usize.MAX }
+        ensures adds { IfOk result (λ cell. IsReady (cells self.old) rest →
             Adds (cells self.old) (cells self.new) cell (takes at slot
             (suc arguments) ++ called true at) rest) }
+        ensures more { IfOk result (λ _.
+            length (cells self.old) + suc arguments ≤ length (cells self.new)) }
     {
-        let second = after(slot)?;
+        let second = slot + 1;
         let called = self.called(true, at, rest)?;
         let others = self.takes(at, second, arguments, called)?;
         let cell = self.does(Action::Uses { slot, at }, others)?;
@@ -179,13 +196,14 @@ impl<'a> Cells<'a> {
     /// A call.
     fn app(
         &mut self,
-        scope: u32,
-        slot: u32,
+        scope: usize,
+        slot: usize,
         at: u32,
         callee: &'a Expr,
         exprs: &'a [Expr],
-        rest: u32,
-    ) -> Result<u32, AllocError>
+        rest: usize,
+    ) -> Result<usize, AllocError>
+        requires { slot ≤ length (cells self.old) }
         ensures { IfOk result (λ cell. (s : List Slotted) → IsReady (cells self.old) rest →
             IsScope (cells self.old) scope s → IsAnnotated (names s) callee.now →
             AreAnnotated (names s) exprs.now →
@@ -193,8 +211,8 @@ impl<'a> Cells<'a> {
             (expr_view callee.now) (row_of exprs.now)) ++ (takes at slot (suc (count
             (row_of exprs.now))) ++ called true at)) rest) }
     {
-        let second = after(slot)?;
-        let free = behind(second, exprs.len())?;
+        let second = slot + 1;
+        let free = second + exprs.len();
         let taken = self.calls(slot, at, exprs.len(), rest)?;
         let first_filled = self.fill_one(scope, free, slot, callee, taken)?;
         let filled = self.fill(scope, free, second, exprs, first_filled)?;
@@ -204,7 +222,7 @@ impl<'a> Cells<'a> {
     }
 
     /// A use of a name.
-    fn used(&mut self, scope: u32, at: u32, name: &Name, rest: u32) -> Result<u32, AllocError>
+    fn used(&mut self, scope: usize, at: u32, name: &Name, rest: usize) -> Result<usize, AllocError>
         ensures { IfOk result (λ cell. (s : List Slotted) → IsReady (cells self.old) rest →
             IsScope (cells self.old) scope s →
             Adds (cells self.old) (cells self.new) cell (used_at at (slot_of s name.now)) rest) }
@@ -219,7 +237,13 @@ impl<'a> Cells<'a> {
     }
 
     /// A binding by an assignment.
-    fn assigned(&mut self, scope: u32, at: u32, name: &Name, rest: u32) -> Result<u32, AllocError>
+    fn assigned(
+        &mut self,
+        scope: usize,
+        at: u32,
+        name: &Name,
+        rest: usize,
+    ) -> Result<usize, AllocError>
         ensures { IfOk result (λ cell. (s : List Slotted) → IsReady (cells self.old) rest →
             IsScope (cells self.old) scope s →
             Adds (cells self.old) (cells self.new) cell (bound_at at (type_named
@@ -238,13 +262,14 @@ impl<'a> Cells<'a> {
     /// An assignment.
     fn assign(
         &mut self,
-        scope: u32,
-        slot: u32,
+        scope: usize,
+        slot: usize,
         at: u32,
         name: &Name,
         value: &'a Expr,
-        rest: u32,
-    ) -> Result<u32, AllocError>
+        rest: usize,
+    ) -> Result<usize, AllocError>
+        requires { slot ≤ length (cells self.old) }
         ensures { IfOk result (λ cell. (s : List Slotted) → IsReady (cells self.old) rest →
             IsScope (cells self.old) scope s → IsAnnotated (names s) value.now →
             Adds (cells self.old) (cells self.new) cell (Evaluates s slot
@@ -259,13 +284,14 @@ impl<'a> Cells<'a> {
     /// A test of a bound.
     fn checkbound(
         &mut self,
-        scope: u32,
-        slot: u32,
+        scope: usize,
+        slot: usize,
         at: u32,
         bound: &'a Expr,
         index: &'a Expr,
-        rest: u32,
-    ) -> Result<u32, AllocError>
+        rest: usize,
+    ) -> Result<usize, AllocError>
+        requires { slot ≤ length (cells self.old) }
         ensures { IfOk result (λ cell. (s : List Slotted) → IsReady (cells self.old) rest →
             IsScope (cells self.old) scope s → IsAnnotated (names s) bound.now →
             IsAnnotated (names s) index.now →
@@ -280,12 +306,13 @@ impl<'a> Cells<'a> {
     /// A raise of a value.
     fn raise_value(
         &mut self,
-        scope: u32,
-        slot: u32,
+        scope: usize,
+        slot: usize,
         at: u32,
         value: &'a Expr,
-        rest: u32,
-    ) -> Result<u32, AllocError>
+        rest: usize,
+    ) -> Result<usize, AllocError>
+        requires { slot ≤ length (cells self.old) }
         ensures { IfOk result (λ cell. (s : List Slotted) → IsReady (cells self.old) rest →
             IsScope (cells self.old) scope s → IsAnnotated (names s) value.now →
             Adds (cells self.old) (cells self.new) cell (on_one s slot at
@@ -299,14 +326,15 @@ impl<'a> Cells<'a> {
     /// A choice of two.
     fn branches(
         &mut self,
-        scope: u32,
-        slot: u32,
+        scope: usize,
+        slot: usize,
         at: u32,
         condition: &'a Expr,
         on_true: &'a Expr,
         on_false: &'a Expr,
-        rest: u32,
-    ) -> Result<u32, AllocError>
+        rest: usize,
+    ) -> Result<usize, AllocError>
+        requires { slot ≤ length (cells self.old) }
         ensures { IfOk result (λ cell. (s : List Slotted) → IsReady (cells self.old) rest →
             IsScope (cells self.old) scope s → IsAnnotated (names s) condition.now →
             IsAnnotated (names s) on_true.now → IsAnnotated (names s) on_false.now →
@@ -328,13 +356,14 @@ impl<'a> Cells<'a> {
     /// A choice among the cases.
     fn switch(
         &mut self,
-        scope: u32,
-        slot: u32,
+        scope: usize,
+        slot: usize,
         at: u32,
         selector: &'a Expr,
         cases: &'a [Case],
-        rest: u32,
-    ) -> Result<u32, AllocError>
+        rest: usize,
+    ) -> Result<usize, AllocError>
+        requires { slot ≤ length (cells self.old) }
         ensures { IfOk result (λ cell. (s : List Slotted) → IsReady (cells self.old) rest →
             IsScope (cells self.old) scope s →
             IsAnnotated (names s) selector.now → AreCasesAnnotated (names s) cases.now →
@@ -354,13 +383,14 @@ impl<'a> Cells<'a> {
     /// An exit.
     fn exits(
         &mut self,
-        scope: u32,
-        slot: u32,
+        scope: usize,
+        slot: usize,
         at: u32,
         label: &'a Label,
         exprs: &'a [Expr],
-        rest: u32,
-    ) -> Result<u32, AllocError>
+        rest: usize,
+    ) -> Result<usize, AllocError>
+        requires { slot ≤ length (cells self.old) }
         ensures { IfOk result (λ cell. (s : List Slotted) → IsReady (cells self.old) rest →
             IsScope (cells self.old) scope s → AreAnnotated (names s) exprs.now →
             Adds (cells self.old) (cells self.new) cell (all_operands s slot
@@ -375,12 +405,12 @@ impl<'a> Cells<'a> {
     /// The handlers of a catch, of which `left` are left, in a row of cells from `first` on.
     fn handlers(
         &mut self,
-        scope: u32,
-        slot: u32,
+        scope: usize,
+        slot: usize,
         handlers: &'a [Handler],
         left: &'a [Handler],
-        first: u32,
-        rest: u32,
+        first: usize,
+        rest: usize,
     ) -> Result<(), AllocError>
         ensures { IfOk result (λ _. (s : List Slotted) → rest < length (cells self.old) →
             IsScope (cells self.old) scope s →
@@ -408,19 +438,20 @@ impl<'a> Cells<'a> {
     /// A body and its handlers.
     fn catch(
         &mut self,
-        scope: u32,
-        slot: u32,
+        scope: usize,
+        slot: usize,
         body: &'a Expr,
         handlers: &'a [Handler],
-        rest: u32,
-    ) -> Result<u32, AllocError>
+        rest: usize,
+    ) -> Result<usize, AllocError>
+        requires { slot ≤ length (cells self.old) }
         ensures { IfOk result (λ cell. (s : List Slotted) → IsReady (cells self.old) rest →
             IsScope (cells self.old) scope s →
             IsAnnotated (names s) body.now → AreHandlersAnnotated (names s) handlers.now →
             Adds (cells self.old) (cells self.new) cell (Evaluates s slot
             (expr_view body.now) ∷ Catches s slot false (handlers_of handlers.now) ∷ []) rest) }
     {
-        let first = number_of(self.len())?;
+        let first = self.len();
         self.handlers(scope, slot, handlers, handlers, first, rest)?;
         let in_handler = false;
         let behind_body = self.push(Item::Catches {
@@ -438,13 +469,14 @@ impl<'a> Cells<'a> {
     /// What handles a raise.
     fn handling(
         &mut self,
-        scope: u32,
-        slot: u32,
+        scope: usize,
+        slot: usize,
         name_at: u32,
         name: &'a Name,
         handler: &'a Expr,
-        rest: u32,
-    ) -> Result<u32, AllocError>
+        rest: usize,
+    ) -> Result<usize, AllocError>
+        requires { slot ≤ length (cells self.old) }
         ensures { IfOk result (λ cell. (s : List Slotted) → IsReady (cells self.old) rest →
             IsScope (cells self.old) scope s → IsAnnotated (record {
               name = name.now;
@@ -454,7 +486,7 @@ impl<'a> Cells<'a> {
             Adds (cells self.old) (cells self.new) cell
             (handling s slot name_at name.now (expr_view handler.now)) rest) }
     {
-        let next = after(slot)?;
+        let next = slot + 1;
         let inner = self.bind(scope, name, Ty::Val, false, slot)?;
         let handled = self.eval(inner, next, handler, rest)?;
         let address = false;
@@ -466,14 +498,15 @@ impl<'a> Cells<'a> {
     /// A body, and what handles a raise out of it.
     fn try_body(
         &mut self,
-        scope: u32,
-        slot: u32,
+        scope: usize,
+        slot: usize,
         body: &'a Expr,
         name_at: u32,
         name: &'a Name,
         handler: &'a Expr,
-        rest: u32,
-    ) -> Result<u32, AllocError>
+        rest: usize,
+    ) -> Result<usize, AllocError>
+        requires { slot ≤ length (cells self.old) }
         ensures { IfOk result (λ cell. (s : List Slotted) → IsReady (cells self.old) rest →
             IsScope (cells self.old) scope s → IsAnnotated (names s) body.now →
             IsAnnotated (record {
@@ -502,12 +535,13 @@ impl<'a> Cells<'a> {
     /// Bindings of a let, and then its body.
     fn enters(
         &mut self,
-        scope: u32,
-        slot: u32,
+        scope: usize,
+        slot: usize,
         bindings: &'a [Binding],
         body: &'a Expr,
-        rest: u32,
-    ) -> Result<u32, AllocError>
+        rest: usize,
+    ) -> Result<usize, AllocError>
+        requires { slot ≤ length (cells self.old) }
         ensures { IfOk result (λ cell. (s : List Slotted) → IsReady (cells self.old) rest →
             IsScope (cells self.old) scope s →
             AreBindingsAnnotated (names s) bindings.now →
@@ -528,11 +562,12 @@ impl<'a> Cells<'a> {
     /// The tasks of an expression.
     pub fn form(
         &mut self,
-        scope: u32,
-        slot: u32,
+        scope: usize,
+        slot: usize,
         expr: &'a Expr,
-        rest: u32,
-    ) -> Result<u32, AllocError>
+        rest: usize,
+    ) -> Result<usize, AllocError>
+        requires { slot ≤ length (cells self.old) }
         ensures { IfOk result (λ cell. (s : List Slotted) → IsReady (cells self.old) rest →
             IsScope (cells self.old) scope s → IsAnnotated (names s) expr.now →
             Adds (cells self.old) (cells self.new) cell (tasks_of s slot
@@ -590,14 +625,4 @@ impl<'a> Cells<'a> {
             } => self.try_body(scope, slot, body, *name_at, name, handler, rest),
         }
     }
-}
-
-/// The number. That it is too large counts as want of memory.
-fn number_of(count: usize) -> Result<u32, AllocError>
-    ensures { IfOk result (λ number. number ≡ count) }
-{
-    if count > u32::MAX as usize {
-        return Err(AllocError);
-    }
-    Ok(count as u32)
 }

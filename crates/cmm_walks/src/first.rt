@@ -1,5 +1,5 @@
 //! The first address that is live at a frame point.
-ghost use Rattle.std.specs.Prelude.{◌≡◌, ◌<◌, ◌≤◌, ◌↔◌, ℕ, length, true, Contains, IfOk, MatchOption, IsTrue};
+ghost use Rattle.std.specs.Prelude.{◌≡◌, ◌<◌, ◌≤◌, ◌↔◌, ℕ, suc, length, true, Contains, IfOk, MatchOption, IsTrue};
 ghost use Rattle.std.specs.List.{All, list_any};
 ghost use Rattle.cmm_walks.specs.Groups.{AreBefore, AreMentions};
 ghost use Rattle.cmm_walks.specs.Labels.{unlabelled, IsUnlabelled};
@@ -36,24 +36,20 @@ fn some_address(nodes: &[Node]) -> bool
     nodes.iter().any(|node| binds_address(node.step))
 }
 
-/// A number above the slot. That there is none counts as want of memory.
-fn above_slot(step: Step) -> Result<u32, AllocError>
-    ensures { IfOk result (λ bound. slot_below bound step) }
+/// The slot, or 0.
+fn slot_of(step: Step) -> usize
+    ensures { slot_below (suc result) step }
 {
-    let slot = match step {
+    match step {
+        Step::Quiet => 0,
         Step::Binds {
             slot,
             address: _,
             at: _,
         } => slot,
         Step::Uses { slot, at: _ } => slot,
-        Step::Quiet => 0,
         Step::Passes { at: _ } => 0,
-    };
-    if slot == u32::MAX {
-        return Err(AllocError);
     }
-    Ok(slot + 1)
 }
 
 fn larger(one: u32, other: u32) -> u32
@@ -63,16 +59,23 @@ fn larger(one: u32, other: u32) -> u32
     if one < other { other } else { one }
 }
 
-/// A number above all slots.
-fn above_slots(nodes: &[Node]) -> Result<u32, AllocError>
-    ensures { IfOk result (λ bound. All (λ n. slot_below bound n.step) nodes.now) }
+fn larger_slot(one: usize, other: usize) -> usize
+    ensures first { one ≤ result }
+    ensures second { other ≤ result }
 {
-    let mut bound = 0;
+    if one < other { other } else { one }
+}
+
+/// A slot that no node's passes.
+fn greatest_slot(nodes: &[Node]) -> usize
+    ensures { All (λ n. slot_below (suc result) n.step) nodes.now }
+{
+    let mut greatest = 0;
     for node in nodes {
-        let here = above_slot(node.step)?;
-        bound = larger(bound, here);
+        let here = slot_of(node.step);
+        greatest = larger_slot(greatest, here);
     }
-    Ok(bound)
+    greatest
 }
 
 /// The place, or 0.
@@ -104,7 +107,7 @@ fn greatest_place(nodes: &[Node]) -> u32
 }
 
 /// Whether it binds an address to the slot.
-fn binds_address_to(step: Step, slot: u32) -> bool
+fn binds_address_to(step: Step, slot: usize) -> bool
     ensures { result ≡ binds_address_to slot step }
 {
     match step {
@@ -120,7 +123,7 @@ fn binds_address_to(step: Step, slot: u32) -> bool
 }
 
 /// Whether one of the nodes binds an address to the slot.
-fn some_address_to(nodes: &[Node], slot: u32, places: &[u32]) -> bool
+fn some_address_to(nodes: &[Node], slot: usize, places: &[usize]) -> bool
     ensures { result ≡ list_any (λ p. binds_address_to slot (step_at nodes.now p)) places.now }
 {
     places
@@ -134,7 +137,7 @@ struct Search<'a> {
     nodes: &'a [Node],
     before: Vec<Group>,
     mentions: Vec<Group>,
-    bound: u32,
+    bound: usize,
 }
 
 impl<'a> Search<'a> {
@@ -143,7 +146,7 @@ impl<'a> Search<'a> {
         &self,
         alloc: Global,
         goal: Goal,
-        slot: u32,
+        slot: usize,
         labels: &mut Labels,
         found: &mut Vec<Seed>,
     ) -> Result<(), AllocError>
@@ -170,7 +173,7 @@ impl<'a> Search<'a> {
     }
 
     /// The least limit for the part of the goal within which an address is live, if there is one.
-    fn least(&self, alloc: Global, entry: u32, goal: Goal) -> Result<Option<u32>, AllocError>
+    fn least(&self, alloc: Global, entry: usize, goal: Goal) -> Result<Option<u32>, AllocError>
         requires search { IsSearch self.now }
         requires fits { own_limit goal < unlabelled }
         ensures { IfOk result (λ told. IsLeastTold self.now.nodes.now entry goal told) }
@@ -186,7 +189,12 @@ impl<'a> Search<'a> {
 
     /// The least use, then the least frame point, then the least binding of an address that is live there, or
     /// `None` where none is.
-    fn first(&self, alloc: Global, entry: u32, greatest: u32) -> Result<Option<Limits>, AllocError>
+    fn first(
+        &self,
+        alloc: Global,
+        entry: usize,
+        greatest: u32,
+    ) -> Result<Option<Limits>, AllocError>
         requires search { IsSearch self.now }
         requires places { All (λ n. place_within greatest n.step) self.now.nodes.now }
         ensures { IfOk result (λ told. IsFirstTold self.now.nodes.now entry told) }
@@ -223,17 +231,17 @@ impl<'a> Search<'a> {
 
 /// The least use, then the least frame point, then the least binding of an address that is live there, or
 /// `None` where none is.
-pub fn first_live(alloc: Global, nodes: &[Node], entry: u32) -> Result<Option<Limits>, AllocError>
+pub fn first_live(alloc: Global, nodes: &[Node], entry: usize) -> Result<Option<Limits>, AllocError>
     requires { AreLinked nodes.now }
     ensures { IfOk result (λ told. IsFirstTold nodes.now entry told) }
 {
     if !some_address(nodes) {
         return Ok(None);
     }
-    let bound = above_slots(nodes)?;
     let greatest = greatest_place(nodes);
     let before = nodes_before(alloc, nodes)?;
-    let mentions = nodes_by_slot(alloc, nodes, bound)?;
+    let mentions = nodes_by_slot(alloc, nodes, greatest_slot(nodes))?;
+    let bound = mentions.len();
     let search = Search {
         nodes,
         before,

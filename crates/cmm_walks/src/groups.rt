@@ -1,17 +1,16 @@
 //! Numbers of nodes in groups: those before each node, and those that name each slot.
-ghost use Rattle.std.specs.Prelude.{◌≡◌, ◌<◌, ◌↔◌, ◌⊎◌, ℕ, [], length, IfOk, Contains};
+ghost use Rattle.std.specs.Prelude.{◌≡◌, ◌<◌, ◌↔◌, ◌⊎◌, ℕ, suc, [], length, IfOk, Contains};
 ghost use Rattle.std.specs.List.{All};
 ghost use Rattle.cmm_walks.specs.Groups.{members, Added, HasSlotAdded, AreBefore, AreMentions};
 ghost use Rattle.cmm_walks.specs.Table.{slot_below, AreLinked, AreNodes};
 
 use crate::node::{Node, Step};
-use crate::numbers::after;
 use std::alloc::{AllocError, Global};
 
 /// Numbers of nodes.
 #[derive(Debug, Drop)]
 pub struct Group {
-    pub members: Vec<u32>,
+    pub members: Vec<usize>,
 }
 
 /// So many empty groups.
@@ -29,17 +28,17 @@ fn groups(alloc: Global, count: usize) -> Result<Vec<Group>, AllocError>
 }
 
 /// Adds a member to a group.
-fn add(groups: &mut Vec<Group>, k: u32, member: u32) -> Result<(), AllocError>
+fn add(groups: &mut Vec<Group>, k: usize, member: usize) -> Result<(), AllocError>
     requires { k < length groups.old.items }
     ensures { IfOk result (λ _. Added groups.old.items groups.new.items k member) }
 {
-    let group = &mut groups[k as usize];
+    let group = &mut groups[k];
     group.members.push(member)?;
     Ok(())
 }
 
 /// Adds a member to each of these groups.
-fn add_to_all(groups: &mut Vec<Group>, targets: &[u32], member: u32) -> Result<(), AllocError>
+fn add_to_all(groups: &mut Vec<Group>, targets: &[usize], member: usize) -> Result<(), AllocError>
     requires { All (λ k. k < length groups.old.items) targets.now }
     ensures len { IfOk result (λ _. length groups.new.items ≡ length groups.old.items) }
     ensures exact { IfOk result (λ _. (j x : ℕ) → Contains (members groups.new.items j) x
@@ -57,16 +56,16 @@ pub fn nodes_before(alloc: Global, nodes: &[Node]) -> Result<Vec<Group>, AllocEr
     ensures { IfOk result (λ before. AreBefore nodes.now before.items) }
 {
     let mut before = groups(alloc, nodes.len())?;
-    let mut number: u32 = 0;
+    let mut number: usize = 0;
     for node in nodes {
         add_to_all(&mut before, node.next.as_slice(), number)?;
-        number = after(number)?;
+        number += 1;
     }
     Ok(before)
 }
 
 /// Adds a node to the group of the slot that it names, if it names one.
-fn add_slot(groups: &mut Vec<Group>, step: Step, number: u32) -> Result<(), AllocError>
+fn add_slot(groups: &mut Vec<Group>, step: Step, number: usize) -> Result<(), AllocError>
     requires { slot_below (length groups.old.items) step }
     ensures { IfOk result (λ _. HasSlotAdded groups.old.items groups.new.items step number) }
 {
@@ -88,25 +87,33 @@ fn add_slot(groups: &mut Vec<Group>, step: Step, number: u32) -> Result<(), Allo
     }
 }
 
-/// The nodes that name each slot below the bound.
-pub fn nodes_by_slot(alloc: Global, nodes: &[Node], bound: u32) -> Result<Vec<Group>, AllocError>
-    requires { AreNodes bound nodes.now }
-    ensures { IfOk result (λ mentions. AreMentions nodes.now mentions.items) }
+/// The nodes that name each slot up to the greatest.
+pub fn nodes_by_slot(
+    alloc: Global,
+    nodes: &[Node],
+    greatest: usize,
+) -> Result<Vec<Group>, AllocError>
+    requires { AreNodes (suc greatest) nodes.now }
+    ensures len { IfOk result (λ mentions. length mentions.items ≡ suc greatest) }
+    ensures named { IfOk result (λ mentions. AreMentions nodes.now mentions.items) }
 {
-    let mut mentions = groups(alloc, bound as usize)?;
-    let mut number: u32 = 0;
+    let mut mentions = groups(alloc, greatest)?;
+    mentions.push(Group {
+        members: Vec::new(alloc),
+    })?;
+    let mut number: usize = 0;
     for node in nodes {
         add_slot(&mut mentions, node.step, number)?;
-        number = after(number)?;
+        number += 1;
     }
     Ok(mentions)
 }
 
 /// The members of a group. There are none past the last group.
-pub fn members(groups: &[Group], k: u32) -> &[u32]
+pub fn members(groups: &[Group], k: usize) -> &[usize]
     ensures { result.now ≡ members groups.now k }
 {
-    match groups.get(k as usize) {
+    match groups.get(k) {
         None => &[],
         Some(group) => group.members.as_slice(),
     }

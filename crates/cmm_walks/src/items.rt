@@ -10,9 +10,9 @@ use std::alloc::{AllocError, Global};
 #[derive(Clone, Copy)]
 pub enum Action {
     /// Something is bound to a slot, at this place: an address or not.
-    Binds { slot: u32, address: bool, at: u32 },
+    Binds { slot: usize, address: bool, at: u32 },
     /// What stands in a slot is used, at this place.
-    Uses { slot: u32, at: u32 },
+    Uses { slot: usize, at: u32 },
     /// A frame point.
     Passes { at: u32 },
 }
@@ -26,80 +26,80 @@ pub enum Item<'a> {
         name: &'a Name,
         ty: Ty,
         mutable: bool,
-        slot: u32,
-        outer: u32,
+        slot: usize,
+        outer: usize,
     },
     Does {
         action: Action,
-        rest: u32,
+        rest: usize,
     },
     /// An expression is evaluated in this scope, with the slots from this one on free.
     Evaluates {
-        scope: u32,
-        slot: u32,
+        scope: usize,
+        slot: usize,
         expr: &'a Expr,
-        rest: u32,
+        rest: usize,
     },
     /// Bindings of a let, and then its body.
     Enters {
-        scope: u32,
-        slot: u32,
+        scope: usize,
+        slot: usize,
         bindings: &'a [Binding],
         body: &'a Expr,
-        rest: u32,
+        rest: usize,
     },
     /// One of two is evaluated.
     Either {
-        scope: u32,
-        slot: u32,
+        scope: usize,
+        slot: usize,
         on_true: &'a Expr,
         on_false: &'a Expr,
-        rest: u32,
+        rest: usize,
     },
     /// One of the cases is evaluated.
     OneOf {
-        scope: u32,
-        slot: u32,
+        scope: usize,
+        slot: usize,
         cases: &'a [Case],
-        rest: u32,
+        rest: usize,
     },
     MayRaise {
-        rest: u32,
+        rest: usize,
     },
     Raises {
-        rest: u32,
+        rest: usize,
     },
     Exits {
         label: &'a Label,
-        rest: u32,
+        rest: usize,
     },
     /// After the body of a catch, or one of its handlers, which begin at the cells from `first` on.
     Catches {
-        scope: u32,
-        slot: u32,
+        scope: usize,
+        slot: usize,
         in_handler: bool,
         handlers: &'a [Handler],
-        first: u32,
-        rest: u32,
+        first: usize,
+        rest: usize,
     },
     /// A handler of a catch, and what is after the catch.
     Handler {
-        scope: u32,
-        slot: u32,
+        scope: usize,
+        slot: usize,
         handlers: &'a [Handler],
         own: &'a Handler,
-        first: u32,
-        rest: u32,
+        first: usize,
+        rest: usize,
     },
     /// After the body of a try, whose handler begins at the cell `entry`.
     Handles {
-        scope: u32,
-        slot: u32,
+        scope: usize,
+        slot: usize,
         name_at: u32,
         name: &'a Name,
         handler: &'a Expr,
-        entry: u32,
-        rest: u32,
+        entry: usize,
+        rest: usize,
     },
 }
 
@@ -126,24 +126,21 @@ impl<'a> Cells<'a> {
         self.items.len()
     }
 
-    /// A further cell. That no number is left for it counts as want of memory.
-    pub fn push(&mut self, item: Item<'a>) -> Result<u32, AllocError>
+    /// A further cell.
+    pub fn push(&mut self, item: Item<'a>) -> Result<usize, AllocError>
         ensures { IfOk result (λ cell. (cell ≡ length (cells self.old)) ×
             (cells self.new ≡ item.entry ∷ cells self.old)) }
     {
         let cell = self.items.len();
-        if cell >= u32::MAX as usize {
-            return Err(AllocError);
-        }
         self.items.push(item)?;
-        Ok(cell as u32)
+        Ok(cell)
     }
 
     /// The cell of this number.
-    pub fn get(&self, cell: u32) -> Option<Item<'a>>
+    pub fn get(&self, cell: usize) -> Option<Item<'a>>
         ensures { result ≡ item_at (cells self.now) cell }
     {
-        nth(self.items.as_slice(), cell as usize)
+        nth(self.items.as_slice(), cell)
     }
 }
 

@@ -16,7 +16,7 @@ const UNLABELLED: u64 = 0x1_0000_0000;
 #[derive(Clone, Copy, PartialEq, Eq, Debug)]
 pub struct Seed {
     pub label: u32,
-    pub place: u32,
+    pub place: usize,
 }
 
 /// The labels of nodes, and the nodes that were labelled, in their order; those before `done` have passed
@@ -24,22 +24,22 @@ pub struct Seed {
 #[derive(Debug, Drop)]
 pub struct Labels {
     pub of: Vec<u64>,
-    pub queue: Vec<u32>,
+    pub queue: Vec<usize>,
     pub done: usize,
 }
 
 /// What a walk does at a node; past the last one nothing.
-pub fn step_of(nodes: &[Node], place: u32) -> Step
+pub fn step_of(nodes: &[Node], place: usize) -> Step
     ensures { result ≡ step_at nodes.now place }
 {
-    match nodes.get(place as usize) {
+    match nodes.get(place) {
         None => Step::Quiet,
         Some(node) => node.step,
     }
 }
 
 /// Whether the step binds the slot.
-fn binds(step: Step, slot: u32) -> bool
+fn binds(step: Step, slot: usize) -> bool
     ensures { result ≡ binds_slot slot step }
 {
     match step {
@@ -71,17 +71,17 @@ impl Labels {
     }
 
     /// The label of a node, or `UNLABELLED`.
-    fn at(&self, place: u32) -> u64
+    fn at(&self, place: usize) -> u64
         ensures { result ≡ label_at self.now.of.items place }
     {
-        match self.of.get(place as usize) {
+        match self.of.get(place) {
             None => UNLABELLED,
             Some(label) => *label,
         }
     }
 
     /// The label of a node, if it has one.
-    pub fn get(&self, place: u32) -> Option<u32>
+    pub fn get(&self, place: usize) -> Option<u32>
         ensures { result ≡ known_label self.now.of.items place }
     {
         let label = self.at(place);
@@ -93,13 +93,13 @@ impl Labels {
     }
 
     /// Gives a node this label, if it is less than that which it has.
-    fn lower(&mut self, place: u32, label: u64) -> Result<(), AllocError>
+    fn lower(&mut self, place: usize, label: u64) -> Result<(), AllocError>
         requires { place < length self.old.of.items }
         ensures { IfOk result (λ _. Lowered self.old self.new place label) }
     {
-        let former = self.of[place as usize];
+        let former = self.of[place];
         if label < former {
-            self.of[place as usize] = label;
+            self.of[place] = label;
             self.queue.push(place)?;
             Ok(())
         } else {
@@ -112,8 +112,8 @@ impl Labels {
         &mut self,
         nodes: &[Node],
         before: &[Group],
-        slot: u32,
-        place: u32,
+        slot: usize,
+        place: usize,
     ) -> Result<(), AllocError>
         requires before { AreBefore nodes.now before.now }
         requires spreading { IsSpreading nodes.now slot self.old }
@@ -129,7 +129,7 @@ impl Labels {
     }
 
     /// Passes all labels on.
-    fn settle(&mut self, nodes: &[Node], before: &[Group], slot: u32) -> Result<(), AllocError>
+    fn settle(&mut self, nodes: &[Node], before: &[Group], slot: usize) -> Result<(), AllocError>
         requires before { AreBefore nodes.now before.now }
         requires spreading { IsSpreading nodes.now slot self.old }
         ensures { IfOk result (λ _. Settles nodes.now slot self.old self.new) }
@@ -148,7 +148,7 @@ impl Labels {
         &mut self,
         nodes: &[Node],
         before: &[Group],
-        slot: u32,
+        slot: usize,
         seeds: &mut Vec<Seed>,
     ) -> Result<(), AllocError>
         requires before { AreBefore nodes.now before.now }
@@ -171,7 +171,7 @@ impl Labels {
     {
         for i in 0..self.queue.len() {
             let place = self.queue[i];
-            self.of[place as usize] = UNLABELLED;
+            self.of[place] = UNLABELLED;
         }
         self.queue.clear();
         self.done = 0;

@@ -1,5 +1,5 @@
 //! Where an exit and a raise lead.
-ghost use Rattle.std.specs.Prelude.{◌≡◌, ◌&&◌, not, ℕ, List, Some, length, IfOk};
+ghost use Rattle.std.specs.Prelude.{◌≡◌, ◌&&◌, not, ℕ, List, Some, length};
 ghost use Rattle.cmm_tree.specs.View.{label_view};
 ghost use Rattle.cmm_tree.specs.declared.expr.Handler as declared_handler;
 ghost use Rattle.cmm_tree.specs.Rows.{handlers_of};
@@ -7,12 +7,10 @@ ghost use Rattle.cmm_walks.specs.Walks.{Slotted, Task, handler_for, behind_exit,
 ghost use Rattle.cmm_tree.specs.Tree.{same_label, is_bare};
 ghost use Rattle.cmm_walks.specs.Cells.{cells, item_at, scope_at, tasks_at};
 ghost use Rattle.cmm_walks.specs.Sound.{IsSound, IsHeld, HandlersAt, LeadsTo};
-ghost use Rattle.cmm_walks.specs.Leaving.{rest_in, own_handler, exit_rest, raise_rest};
+ghost use Rattle.cmm_walks.specs.Leaving.{IsRow, HasRow, rest_in, own_handler, exit_rest, raise_rest};
 
 use crate::items::{Cells, Item};
-use crate::numbers::after;
 use cmm_tree::{Handler, Label};
-use std::alloc::AllocError;
 
 /// Whether an exit of this label finds the handler of the other one. A bare one is not visible in the
 /// handlers.
@@ -30,33 +28,34 @@ fn find_handler(
     label: &Label,
     in_handler: bool,
     handlers: &[Handler],
-    first: u32,
-) -> Result<Option<u32>, AllocError>
-    ensures { IfOk result (λ found. (count : ℕ) (tasks : ℕ →
+    first: usize,
+) -> Option<usize>
+    requires { IsRow first handlers.now }
+    ensures { (count : ℕ) (tasks : ℕ →
         List Task) (s : List Slotted) (slot : ℕ) (all : List declared_handler.Handler)
         (behind : List Task) → HandlersAt count tasks first s slot all behind handlers.now →
-        LeadsTo count tasks found (handler_for
+        LeadsTo count tasks result (handler_for
         (label_view label.now) s slot in_handler (handlers_of all) behind
-        (handlers_of handlers.now))) }
+        (handlers_of handlers.now)) }
 {
     match handlers {
-        [] => Ok(None),
+        [] => None,
         [own, others @ ..] => {
             if finds(label, &own.label, in_handler) {
-                return Ok(Some(first));
+                return Some(first);
             }
-            let next = after(first)?;
-            let found = find_handler(label, in_handler, others, next)?;
-            Ok(found)
+            let next = first + 1;
+            find_handler(label, in_handler, others, next)
         }
     }
 }
 
 /// The handler that the catch of this cell has for the label.
-fn own_handler(label: &Label, item: Item<'_>) -> Result<Option<u32>, AllocError>
-    ensures { IfOk result (λ found. (count : ℕ) (scopes : ℕ → List Slotted) (tasks : ℕ →
+fn own_handler(label: &Label, item: Item<'_>) -> Option<usize>
+    requires { HasRow item }
+    ensures { (count : ℕ) (scopes : ℕ → List Slotted) (tasks : ℕ →
         List Task) → IsHeld count scopes tasks item.entry →
-        LeadsTo count tasks found (own_handler (label_view label.now) scopes tasks item.entry)) }
+        LeadsTo count tasks result (own_handler (label_view label.now) scopes tasks item.entry) }
 {
     match item {
         Item::Catches {
@@ -80,12 +79,12 @@ fn own_handler(label: &Label, item: Item<'_>) -> Result<Option<u32>, AllocError>
         | Item::MayRaise { .. }
         | Item::Raises { .. }
         | Item::Exits { .. }
-        | Item::Handles { .. } => Ok(None),
+        | Item::Handles { .. } => None,
     }
 }
 
 /// The cell after the task of this one.
-fn rest_of(item: Item<'_>) -> Option<u32>
+fn rest_of(item: Item<'_>) -> Option<usize>
     ensures { result ≡ rest_in item.entry }
 {
     match item {
@@ -108,57 +107,51 @@ fn rest_of(item: Item<'_>) -> Option<u32>
 impl<'a> Cells<'a> {
     /// The cell to which an exit leads from this one, if a handler of its label is visible.
     #[cycle(exit)]
-    pub fn exit(&self, label: &Label, cell: u32) -> Result<Option<u32>, AllocError>
-        ensures { IfOk result (λ found. IsSound (cells self.now) →
-            LeadsTo (length (cells self.now)) (tasks_at (cells self.now)) found
-            (behind_exit (label_view label.now) (tasks_at (cells self.now) cell))) }
+    pub fn exit(&self, label: &Label, cell: usize) -> Option<usize>
+        requires { IsSound (cells self.now) }
+        ensures { LeadsTo (length (cells self.now)) (tasks_at (cells self.now)) result
+            (behind_exit (label_view label.now) (tasks_at (cells self.now) cell)) }
     {
         match self.get(cell) {
-            None => Ok(None),
+            None => None,
             Some(item) => self.exit_in(label, cell, item),
         }
     }
 
     #[cycle(exit)]
-    fn exit_in(&self, label: &Label, cell: u32, item: Item<'a>) -> Result<Option<u32>, AllocError>
-        ensures { IfOk result (λ found. IsSound (cells self.now) →
-            item_at (cells self.now) cell ≡ Some item.entry →
-            LeadsTo (length (cells self.now)) (tasks_at (cells self.now)) found
-            (behind_exit (label_view label.now) (tasks_at (cells self.now) cell))) }
+    fn exit_in(&self, label: &Label, cell: usize, item: Item<'a>) -> Option<usize>
+        requires sound { IsSound (cells self.now) }
+        requires here { item_at (cells self.now) cell ≡ Some item }
+        ensures { LeadsTo (length (cells self.now)) (tasks_at (cells self.now)) result
+            (behind_exit (label_view label.now) (tasks_at (cells self.now) cell)) }
     {
-        let own = own_handler(label, item)?;
-        match own {
-            Some(handler) => Ok(Some(handler)),
+        match own_handler(label, item) {
+            Some(handler) => Some(handler),
             None => self.exit_behind(label, cell, item),
         }
     }
 
     #[cycle(exit)]
-    fn exit_behind(
-        &self,
-        label: &Label,
-        cell: u32,
-        item: Item<'a>,
-    ) -> Result<Option<u32>, AllocError>
-        ensures { IfOk result (λ found. IsSound (cells self.now) →
-            item_at (cells self.now) cell ≡ Some item.entry →
-            LeadsTo (length (cells self.now)) (tasks_at (cells self.now)) found
-            (exit_rest (label_view label.now) (tasks_at (cells self.now)) (rest_in item.entry))) }
+    fn exit_behind(&self, label: &Label, cell: usize, item: Item<'a>) -> Option<usize>
+        requires sound { IsSound (cells self.now) }
+        requires here { item_at (cells self.now) cell ≡ Some item }
+        ensures { LeadsTo (length (cells self.now)) (tasks_at (cells self.now)) result
+            (exit_rest (label_view label.now) (tasks_at (cells self.now)) (rest_in item.entry)) }
     {
         match rest_of(item) {
-            None => Ok(None),
+            None => None,
             Some(rest) => {
                 if rest < cell {
                     return self.exit(label, rest);
                 }
-                Ok(None)
+                None
             }
         }
     }
 
     /// The cell to which a raise leads from this one, if a try of the function is active.
     #[cycle(raise)]
-    pub fn raise(&self, cell: u32) -> Option<u32>
+    pub fn raise(&self, cell: usize) -> Option<usize>
         ensures { IsSound (cells self.now) → LeadsTo (length (cells self.now)) (tasks_at
             (cells self.now)) result (behind_raise (tasks_at (cells self.now) cell)) }
     {
@@ -169,7 +162,7 @@ impl<'a> Cells<'a> {
     }
 
     #[cycle(raise)]
-    fn raise_in(&self, cell: u32, item: Item<'a>) -> Option<u32>
+    fn raise_in(&self, cell: usize, item: Item<'a>) -> Option<usize>
         ensures { IsSound (cells self.now) → item_at (cells self.now) cell ≡ Some item.entry →
             LeadsTo (length (cells self.now)) (tasks_at (cells self.now)) result
             (behind_raise (tasks_at (cells self.now) cell)) }
@@ -192,7 +185,7 @@ impl<'a> Cells<'a> {
     }
 
     #[cycle(raise)]
-    fn raise_behind(&self, cell: u32, item: Item<'a>) -> Option<u32>
+    fn raise_behind(&self, cell: usize, item: Item<'a>) -> Option<usize>
         ensures { IsSound (cells self.now) → item_at (cells self.now) cell ≡ Some item.entry →
             LeadsTo (length (cells self.now)) (tasks_at (cells self.now)) result
             (raise_rest (tasks_at (cells self.now)) (rest_in item.entry)) }

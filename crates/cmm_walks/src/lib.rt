@@ -6,6 +6,7 @@
 //! address that is live in the table is the first that is live on a walk. `check_addresses` reports it.
 #![tactic(auto)]
 
+mod bound_types;
 mod check;
 mod checked;
 mod expressions;
@@ -16,7 +17,6 @@ mod labels;
 mod leaving;
 mod limits;
 mod node;
-mod numbers;
 mod scopes;
 mod seeds;
 mod steps;

@@ -12,9 +12,9 @@ pub enum Step {
     /// No event.
     Quiet,
     /// Something is bound to a slot, at this place: an address or not.
-    Binds { slot: u32, address: bool, at: u32 },
+    Binds { slot: usize, address: bool, at: u32 },
     /// What stands in a slot is used, at this place.
-    Uses { slot: u32, at: u32 },
+    Uses { slot: usize, at: u32 },
     /// A frame point.
     Passes { at: u32 },
 }
@@ -23,16 +23,16 @@ pub enum Step {
 #[derive(Debug, Drop)]
 pub enum Next {
     Nowhere,
-    One(u32),
+    One(usize),
     /// An array, so that both can be lent as a slice.
-    Two([u32; 2]),
+    Two([usize; 2]),
     /// Any number of nodes, as after a switch.
-    Any(Vec<u32>),
+    Any(Vec<usize>),
 }
 
 impl Next {
     /// The nodes, in order.
-    pub fn as_slice(&self) -> &[u32]
+    pub fn as_slice(&self) -> &[usize]
         ensures { result.now ≡ next_cells self.now }
     {
         match self {
@@ -62,7 +62,7 @@ fn step_of(action: Action) -> Step
 }
 
 /// A node with this event, with one node after it.
-pub fn telling(action: Action, cell: u32) -> Node
+pub fn telling(action: Action, cell: usize) -> Node
     ensures { (shown result.step ≡ event_of action ∷ []) × (next_cells result.next ≡ cell ∷ []) }
 {
     Node {
@@ -82,7 +82,7 @@ pub fn last() -> Node
 }
 
 /// A node without an event, with one node after it.
-pub fn quiet(cell: u32) -> Node
+pub fn quiet(cell: usize) -> Node
     ensures { (result.step ≡ steps.Quiet) × (next_cells result.next ≡ cell ∷ []) }
 {
     Node {
@@ -92,7 +92,7 @@ pub fn quiet(cell: u32) -> Node
 }
 
 /// The same with two nodes after it.
-pub fn forked(first: u32, second: u32) -> Node
+pub fn forked(first: usize, second: usize) -> Node
     ensures { (result.step ≡ steps.Quiet) × (next_cells result.next ≡ first ∷ second ∷ []) }
 {
     Node {
@@ -102,7 +102,7 @@ pub fn forked(first: u32, second: u32) -> Node
 }
 
 /// A node without an event, with these nodes after it.
-pub fn any_of(next: Vec<u32>) -> Node
+pub fn any_of(next: Vec<usize>) -> Node
     ensures { (result.step ≡ steps.Quiet) × (next_cells result.next ≡ next.items) }
 {
     Node {

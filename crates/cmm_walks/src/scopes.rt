@@ -1,5 +1,5 @@
 //! The names in scope, and the slot of each.
-ghost use Rattle.std.specs.Prelude.{◌≡◌, ◌∷◌, ◌&&◌, List, Some, IfOk};
+ghost use Rattle.std.specs.Prelude.{◌≡◌, ◌∷◌, ◌&&◌, ◌+◌, ◌≤◌, suc, length, List, Some, IfOk};
 ghost use Rattle.cmm_tree.specs.View.{expr_view, params_view};
 ghost use Rattle.cmm_types.specs.Light.{is_light_operator, is_immutable, is_light, is_light_address};
 ghost use Rattle.cmm_walks.specs.Walks.{Slotted, names, with_slots};
@@ -8,7 +8,6 @@ ghost use Rattle.cmm_walks.specs.Sound.{IsSound, IsScope, Opens};
 ghost use Rattle.cmm_walks.specs.Found.{found_in};
 
 use crate::items::{Cells, Item};
-use crate::numbers::after;
 use bs_words::{IntOp, Name, Ty};
 use cmm_tree::{Expr, Form, Param};
 use std::alloc::AllocError;
@@ -18,26 +17,27 @@ use std::alloc::AllocError;
 pub struct Found {
     pub ty: Ty,
     pub mutable: bool,
-    pub slot: u32,
+    pub slot: usize,
 }
 
 impl<'a> Cells<'a> {
     /// The scope with one more name.
     pub fn bind(
         &mut self,
-        outer: u32,
+        outer: usize,
         name: &'a Name,
         ty: Ty,
         mutable: bool,
-        slot: u32,
-    ) -> Result<u32, AllocError>
-        ensures { IfOk result (λ cell. (s : List Slotted) → IsSound (cells self.old) →
+        slot: usize,
+    ) -> Result<usize, AllocError>
+        ensures opens { IfOk result (λ cell. (s : List Slotted) → IsSound (cells self.old) →
             IsScope (cells self.old) outer s →
             Opens (cells self.old) (cells self.new) cell
             (record {
               scoped = record { name = name.now; type = ty; mutable = mutable };
               slot = slot;
             } ∷ s)) }
+        ensures more { IfOk result (λ _. length (cells self.new) ≡ suc (length (cells self.old))) }
     {
         let cell = self.push(Item::Named {
             name,
@@ -52,20 +52,22 @@ impl<'a> Cells<'a> {
     /// The scope with these parameters, in slots from this one on.
     pub fn with_slots(
         &mut self,
-        scope: u32,
-        slot: u32,
+        scope: usize,
+        slot: usize,
         params: &'a [Param],
-    ) -> Result<u32, AllocError>
-        ensures { IfOk result (λ cell. (s : List Slotted) → IsSound (cells self.old) →
+    ) -> Result<usize, AllocError>
+        requires { slot + length params.now ≤ usize.MAX }
+        ensures opens { IfOk result (λ cell. (s : List Slotted) → IsSound (cells self.old) →
             IsScope (cells self.old) scope s →
             Opens (cells self.old) (cells self.new) cell (with_slots slot
             (params_view params.now) s)) }
+        ensures more { IfOk result (λ _. length (cells self.old) + length params.now ≤ length (cells self.new)) }
     {
         match params {
             [] => Ok(scope),
             [first, others @ ..] => {
                 let ty = first.comp.ty();
-                let next = after(slot)?;
+                let next = slot + 1;
                 let inner = self.bind(scope, &first.name, ty, false, slot)?;
                 let cell = self.with_slots(inner, next, others)?;
                 Ok(cell)
@@ -75,7 +77,7 @@ impl<'a> Cells<'a> {
 
     /// The innermost binding of the name.
     #[cycle(find)]
-    pub fn find(&self, scope: u32, name: &Name) -> Option<Found>
+    pub fn find(&self, scope: usize, name: &Name) -> Option<Found>
         ensures { (s : List Slotted) → IsSound (cells self.now) →
             IsScope (cells self.now) scope s → result ≡ found_in s name.now }
     {
@@ -87,7 +89,7 @@ impl<'a> Cells<'a> {
 
     /// The innermost binding of the name, in the scope that this cell is.
     #[cycle(find)]
-    fn find_in(&self, scope: u32, item: Item<'a>, name: &Name) -> Option<Found>
+    fn find_in(&self, scope: usize, item: Item<'a>, name: &Name) -> Option<Found>
         ensures { (s : List Slotted) → IsSound (cells self.now) →
             IsScope (cells self.now) scope s →
             item_at (cells self.now) scope ≡ Some item.entry → result ≡ found_in s name.now }
@@ -124,7 +126,7 @@ impl<'a> Cells<'a> {
     }
 
     /// Whether it is a name that is not mutable.
-    fn is_immutable(&self, scope: u32, name: &Name) -> bool
+    fn is_immutable(&self, scope: usize, name: &Name) -> bool
         ensures { (s : List Slotted) → IsSound (cells self.now) →
             IsScope (cells self.now) scope s → result ≡ is_immutable (names s) name.now }
     {
@@ -135,7 +137,7 @@ impl<'a> Cells<'a> {
     }
 
     /// Whether it is an integer, a symbol, an immutable name, or an operator over two light expressions.
-    fn is_light(&self, scope: u32, expr: &Expr) -> bool
+    fn is_light(&self, scope: usize, expr: &Expr) -> bool
         ensures { (s : List Slotted) → IsSound (cells self.now) →
             IsScope (cells self.now) scope s → result ≡ is_light (names s) (expr_view expr.now) }
     {
@@ -170,7 +172,7 @@ impl<'a> Cells<'a> {
     }
 
     /// Whether it is a light expression whose outermost operator is `+a`.
-    pub fn is_light_address(&self, scope: u32, expr: &Expr) -> bool
+    pub fn is_light_address(&self, scope: usize, expr: &Expr) -> bool
         ensures { (s : List Slotted) → IsSound (cells self.now) →
             IsScope (cells self.now) scope s →
             result ≡ is_light_address (names s) (expr_view expr.now) }

@@ -69,7 +69,7 @@ fn later(one: Option<u32>, other: Option<u32>) -> Option<u32>
 }
 
 /// A seed at this node, if there is a label.
-fn seed_with(place: u32, label: Option<u32>) -> Option<Seed>
+fn seed_with(place: usize, label: Option<u32>) -> Option<Seed>
     ensures { result ≡ seed_with place label }
 {
     match label {
@@ -79,7 +79,7 @@ fn seed_with(place: u32, label: Option<u32>) -> Option<Seed>
 }
 
 /// The seed of a node that uses the slot.
-fn use_seed(nodes: &[Node], goal: Goal, slot: u32, place: u32) -> Option<Seed>
+fn use_seed(nodes: &[Node], goal: Goal, slot: usize, place: usize) -> Option<Seed>
     ensures { result ≡ use_seed goal slot place (step_at nodes.now place) }
 {
     match step_of(nodes, place) {
@@ -101,7 +101,7 @@ fn use_seed(nodes: &[Node], goal: Goal, slot: u32, place: u32) -> Option<Seed>
 }
 
 /// The seed of a node that is a frame point, from its own label.
-fn point_seed(nodes: &[Node], goal: Goal, labels: &Labels, place: u32) -> Option<Seed>
+fn point_seed(nodes: &[Node], goal: Goal, labels: &Labels, place: usize) -> Option<Seed>
     ensures { result ≡ point_seed goal labels.now.of.items place (step_at nodes.now place) }
 {
     match step_of(nodes, place) {
@@ -121,9 +121,9 @@ fn binding_seed(
     step: Step,
     goal: Goal,
     labels: &Labels,
-    slot: u32,
-    place: u32,
-    next: u32,
+    slot: usize,
+    place: usize,
+    next: usize,
 ) -> Option<Seed>
     ensures { result ≡ binding_seed goal labels.now.of.items slot place step next }
 {
@@ -163,8 +163,8 @@ pub fn use_seeds(
     alloc: Global,
     nodes: &[Node],
     goal: Goal,
-    slot: u32,
-    places: &[u32],
+    slot: usize,
+    places: &[usize],
 ) -> Result<Vec<Seed>, AllocError>
     ensures { IfOk result (λ seeds. seeds.items
         ≡ filter_map (λ p. use_seed goal slot p (step_at nodes.now p)) places.now) }
@@ -195,10 +195,10 @@ pub fn point_seeds(
 }
 
 /// The nodes that may come after a node; past the last node there are none.
-fn next_of(nodes: &[Node], place: u32) -> &[u32]
+fn next_of(nodes: &[Node], place: usize) -> &[usize]
     ensures { result.now ≡ next_at nodes.now place }
 {
-    match nodes.get(place as usize) {
+    match nodes.get(place) {
         None => &[],
         Some(node) => node.next.as_slice(),
     }
@@ -209,8 +209,8 @@ fn add_binding(
     nodes: &[Node],
     goal: Goal,
     labels: &Labels,
-    slot: u32,
-    place: u32,
+    slot: usize,
+    place: usize,
     seeds: &mut Vec<Seed>,
 ) -> Result<(), AllocError>
     ensures { IfOk result (λ _. seeds.new.items ≡ seeds.old.items
@@ -228,8 +228,8 @@ pub fn add_bindings(
     nodes: &[Node],
     goal: Goal,
     labels: &Labels,
-    slot: u32,
-    places: &[u32],
+    slot: usize,
+    places: &[usize],
     seeds: &mut Vec<Seed>,
 ) -> Result<(), AllocError>
     ensures { IfOk result (λ _. seeds.new.items ≡ seeds.old.items

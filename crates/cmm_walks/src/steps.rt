@@ -1,5 +1,5 @@
 //! The nodes of a function: each cell's task, and the cells that may come next.
-ghost use Rattle.std.specs.Prelude.{◌+◌, ◌∷◌, ◌++◌, [], List, length, IfOk};
+ghost use Rattle.std.specs.Prelude.{◌+◌, ◌≤◌, ◌∷◌, ◌++◌, suc, [], List, length, IfOk};
 ghost use Rattle.cmm_tree.specs.View.{expr_view, params_view, label_view};
 ghost use Rattle.cmm_types.specs.Annotated.{IsAnnotated};
 ghost use Rattle.cmm_types.specs.Lists.{AreBindingsAnnotated, AreCasesAnnotated, AreHandlersAnnotated};
@@ -7,32 +7,33 @@ ghost use Rattle.cmm_tree.specs.Rows.{bindings_of, cases_of};
 ghost use Rattle.cmm_types.specs.Types.{with_bindings, with_parameters};
 ghost use Rattle.cmm_walks.specs.Walks.{Slotted, Evaluates, Enters, OneOf, MayRaise, Raises, Exits, names, bodies, parameters_bound};
 ghost use Rattle.cmm_walks.specs.Cells.{cells, scope_at, tasks_at, tasks_in, handler_tasks};
-ghost use Rattle.cmm_walks.specs.Sound.{IsSound, IsBelow, IsHeld, IsReady, IsScope, HandlersAt, Steps, AddsBodies};
+ghost use Rattle.cmm_walks.specs.Sound.{free_in, IsSound, IsBelow, IsHeld, IsReady, IsScope, HandlersAt, Steps, AddsBodies};
 
+use crate::bound_types::is_address;
 use crate::items::{Action, Cells, Item};
 use crate::node::{Node, any_of, forked, last, quiet, telling};
-use crate::numbers::{after, behind, is_address};
 use cmm_tree::{Binding, Case, Expr, Handler, Label, Param};
 use std::alloc::{AllocError, Global};
 
 /// What a handler evaluates once its parameters are bound, and where it then goes on.
 #[derive(Clone, Copy)]
 struct Handled<'a> {
-    scope: u32,
-    free: u32,
+    scope: usize,
+    free: usize,
     body: &'a Expr,
-    caught: u32,
+    caught: usize,
 }
 
 impl<'a> Cells<'a> {
     /// The node of an expression.
     fn evaluate(
         &mut self,
-        scope: u32,
-        slot: u32,
+        scope: usize,
+        slot: usize,
         expr: &'a Expr,
-        rest: u32,
+        rest: usize,
     ) -> Result<Node, AllocError>
+        requires { slot ≤ length (cells self.old) }
         ensures { IfOk result (λ node. (s : List Slotted) → IsReady (cells self.old) rest →
             IsScope (cells self.old) scope s → IsAnnotated (names s) expr.now →
             Steps (cells self.old) (cells self.new) (Evaluates s slot
@@ -45,12 +46,13 @@ impl<'a> Cells<'a> {
     /// The node of bindings and what is evaluated in their scope.
     fn enter(
         &mut self,
-        scope: u32,
-        slot: u32,
+        scope: usize,
+        slot: usize,
         bindings: &'a [Binding],
         body: &'a Expr,
-        rest: u32,
+        rest: usize,
     ) -> Result<Node, AllocError>
+        requires { slot ≤ length (cells self.old) }
         ensures { IfOk result (λ node. (s : List Slotted) → IsReady (cells self.old) rest →
             IsScope (cells self.old) scope s →
             AreBindingsAnnotated (names s) bindings.now →
@@ -66,12 +68,13 @@ impl<'a> Cells<'a> {
     /// The node of a choice of two.
     fn either(
         &mut self,
-        scope: u32,
-        slot: u32,
+        scope: usize,
+        slot: usize,
         on_true: &'a Expr,
         on_false: &'a Expr,
-        rest: u32,
+        rest: usize,
     ) -> Result<Node, AllocError>
+        requires { slot ≤ length (cells self.old) }
         ensures { IfOk result (λ node. (s : List Slotted) → IsReady (cells self.old) rest →
             IsScope (cells self.old) scope s → IsAnnotated (names s) on_true.now →
             IsAnnotated (names s) on_false.now →
@@ -87,15 +90,16 @@ impl<'a> Cells<'a> {
     /// Cells for the bodies of the cases, each with `rest` after it.
     fn bodies(
         &mut self,
-        scope: u32,
-        slot: u32,
+        scope: usize,
+        slot: usize,
         cases: &'a [Case],
-        rest: u32,
-        next: &mut Vec<u32>,
+        rest: usize,
+        next: &mut Vec<usize>,
     ) -> Result<(), AllocError>
         ensures { IfOk result (λ _. (s : List Slotted) → IsReady (cells self.old) rest →
             IsScope (cells self.old) scope s →
             AreCasesAnnotated (names s) cases.now →
+            slot ≤ length (cells self.old) →
             AddsBodies (cells self.old) (cells self.new) s slot (tasks_at
             (cells self.old) rest) next.old.items next.new.items (bodies (cases_of cases.now))) }
     {
@@ -114,11 +118,12 @@ impl<'a> Cells<'a> {
     fn one_of(
         &mut self,
         alloc: Global,
-        scope: u32,
-        slot: u32,
+        scope: usize,
+        slot: usize,
         cases: &'a [Case],
-        rest: u32,
+        rest: usize,
     ) -> Result<Node, AllocError>
+        requires { slot ≤ length (cells self.old) }
         ensures { IfOk result (λ node. (s : List Slotted) → IsReady (cells self.old) rest →
             IsScope (cells self.old) scope s → AreCasesAnnotated (names s) cases.now →
             Steps (cells self.old) (cells self.new) (OneOf s slot (bodies
@@ -130,7 +135,7 @@ impl<'a> Cells<'a> {
     }
 
     /// The node of a call or a test.
-    fn go_on_or_raise(&mut self, rest: u32) -> Result<Node, AllocError>
+    fn go_on_or_raise(&mut self, rest: usize) -> Result<Node, AllocError>
         ensures { IfOk result (λ node. IsReady (cells self.old) rest →
             Steps (cells self.old) (cells self.new) (MayRaise ∷ tasks_at
             (cells self.old) rest) node) }
@@ -140,7 +145,7 @@ impl<'a> Cells<'a> {
     }
 
     /// The node of a raise.
-    fn leave_by_raise(&self, rest: u32) -> Node
+    fn leave_by_raise(&self, rest: usize) -> Node
         ensures { IsSound (cells self.now) →
             Steps (cells self.now) (cells self.now) (Raises ∷ tasks_at
             (cells self.now) rest) result }
@@ -152,36 +157,37 @@ impl<'a> Cells<'a> {
     }
 
     /// The node of an exit.
-    fn leave_by_exit(&self, label: &Label, rest: u32) -> Result<Node, AllocError>
-        ensures { IfOk result (λ node. IsSound (cells self.now) →
-            Steps (cells self.now) (cells self.now) (Exits
-            (label_view label.now) ∷ tasks_at (cells self.now) rest) node) }
+    fn leave_by_exit(&self, label: &Label, rest: usize) -> Node
+        requires { IsSound (cells self.now) }
+        ensures { Steps (cells self.now) (cells self.now) (Exits
+            (label_view label.now) ∷ tasks_at (cells self.now) rest) result }
     {
-        let found = self.exit(label, rest)?;
-        match found {
-            None => Ok(last()),
-            Some(cell) => Ok(quiet(cell)),
+        match self.exit(label, rest) {
+            None => last(),
+            Some(cell) => quiet(cell),
         }
     }
 
     /// The node of the first parameter of a handler.
     fn enter_bound(
         &mut self,
-        slot: u32,
+        slot: usize,
         param: &'a Param,
         others: &'a [Param],
         handled: Handled<'a>,
     ) -> Result<Node, AllocError>
+        requires { slot + suc (length others.now) ≤ usize.MAX }
         ensures { IfOk result (λ node. (s : List Slotted) →
             IsReady (cells self.old) handled.entry.caught →
             IsScope (cells self.old) handled.entry.scope s →
             IsAnnotated (names s) handled.entry.body.now →
+            handled.entry.free ≤ length (cells self.old) →
             Steps (cells self.old) (cells self.new) (parameters_bound slot
             (params_view (param.now ∷ others.now)) ++ (Evaluates s handled.entry.free
             (expr_view handled.entry.body.now)
             ∷ tasks_at (cells self.old) handled.entry.caught)) node) }
     {
-        let next = after(slot)?;
+        let next = slot + 1;
         let evaluated = self.eval(handled.scope, handled.free, handled.body, handled.caught)?;
         let bound = self.parameters_bound(next, others, evaluated)?;
         let address = is_address(param.comp.ty());
@@ -192,12 +198,13 @@ impl<'a> Cells<'a> {
     /// The node of a handler in the scope of its parameters.
     fn enter_handler(
         &mut self,
-        inner: u32,
-        slot: u32,
+        inner: usize,
+        slot: usize,
         params: &'a [Param],
         body: &'a Expr,
-        caught: u32,
+        caught: usize,
     ) -> Result<Node, AllocError>
+        requires { slot + length params.now ≤ length (cells self.old) }
         ensures { IfOk result (λ node. (s : List Slotted) → IsReady (cells self.old) caught →
             IsScope (cells self.old) inner s → IsAnnotated (names s) body.now →
             Steps (cells self.old) (cells self.new) (parameters_bound slot
@@ -205,7 +212,7 @@ impl<'a> Cells<'a> {
             (params_view params.now)) (expr_view body.now) ∷ tasks_at
             (cells self.old) caught)) node) }
     {
-        let free = behind(slot, params.len())?;
+        let free = slot + params.len();
         match params {
             [] => self.evaluate(inner, free, body, caught),
             [param, others @ ..] => {
@@ -223,13 +230,14 @@ impl<'a> Cells<'a> {
     /// The node of a handler.
     fn handle(
         &mut self,
-        scope: u32,
-        slot: u32,
+        scope: usize,
+        slot: usize,
         handlers: &'a [Handler],
         own: &'a Handler,
-        first: u32,
-        rest: u32,
+        first: usize,
+        rest: usize,
     ) -> Result<Node, AllocError>
+        requires { slot ≤ length (cells self.old) }
         ensures { IfOk result (λ node. (s : List Slotted) → IsReady (cells self.old) rest →
             IsScope (cells self.old) scope s →
             AreHandlersAnnotated (names s) handlers.now →
@@ -257,8 +265,9 @@ impl<'a> Cells<'a> {
 
     /// The node of a cell.
     pub fn step(&mut self, alloc: Global, item: Item<'a>) -> Result<Node, AllocError>
-        ensures { IfOk result (λ node. IsSound (cells self.old) →
-            IsBelow (length (cells self.old)) item.entry →
+        requires sound { IsSound (cells self.old) }
+        requires placed { free_in item ≤ length (cells self.old) }
+        ensures { IfOk result (λ node. IsBelow (length (cells self.old)) item.entry →
             IsHeld (length (cells self.old)) (scope_at (cells self.old)) (tasks_at
             (cells self.old)) item.entry →
             Steps (cells self.old) (cells self.new) (tasks_in (scope_at
@@ -296,7 +305,7 @@ impl<'a> Cells<'a> {
             } => self.one_of(alloc, scope, slot, cases, rest),
             Item::MayRaise { rest } => self.go_on_or_raise(rest),
             Item::Raises { rest } => Ok(self.leave_by_raise(rest)),
-            Item::Exits { label, rest } => self.leave_by_exit(label, rest),
+            Item::Exits { label, rest } => Ok(self.leave_by_exit(label, rest)),
             Item::Catches { rest, .. } => Ok(quiet(rest)),
             Item::Handler {
                 scope,

@@ -13,7 +13,6 @@ ghost use Rattle.cmm_walks.specs.Walks.{walk_tasks};
 
 use crate::items::{Cells, Item};
 use crate::node::Node;
-use crate::numbers::{after, behind};
 use cmm_tree::Function;
 use std::alloc::{AllocError, Global};
 
@@ -21,12 +20,12 @@ use std::alloc::{AllocError, Global};
 #[derive(Drop)]
 pub struct Table {
     pub nodes: Vec<Node>,
-    pub entry: u32,
+    pub entry: usize,
 }
 
 impl<'a> Cells<'a> {
     /// The cell at which a walk of the function begins.
-    fn begin(&mut self, function: &'a Function) -> Result<u32, AllocError>
+    fn begin(&mut self, function: &'a Function) -> Result<usize, AllocError>
         ensures { IfOk result (λ cell. cells self.old ≡ [] →
             IsAnnotated (with_parameters (params_view
             (contents function.now.params)) []) function.now.body →
@@ -35,23 +34,21 @@ impl<'a> Cells<'a> {
         let params = function.params.as_slice();
         let end = self.push(Item::Empty)?;
         let scope = self.with_slots(end, 0, params)?;
-        let free = behind(0, params.len())?;
-        let body = self.eval(scope, free, &function.body, end)?;
+        let body = self.eval(scope, params.len(), &function.body, end)?;
         let cell = self.parameters_bound(0, params, body)?;
         Ok(cell)
     }
 
     /// The nodes of all cells, and of those that come with them.
     fn nodes(&mut self, alloc: Global) -> Result<Vec<Node>, AllocError>
-        ensures { IfOk result (λ nodes. IsSound (cells self.old) →
+        requires { IsSound (cells self.old) }
+        ensures { IfOk result (λ nodes.
             Filled (cells self.old) (cells self.new) nodes.items (length (cells self.new))) }
     {
         let mut nodes = Vec::new(alloc);
-        let mut done: u32 = 0;
-        while let Some(item) = self.get(done) {
+        while let Some(item) = self.get(nodes.len()) {
             let node = self.step(alloc, item)?;
             nodes.push(node)?;
-            done = after(done)?;
         }
         Ok(nodes)
     }

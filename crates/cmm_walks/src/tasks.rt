@@ -1,5 +1,5 @@
 //! Cells for the tasks of a walk.
-ghost use Rattle.std.specs.Prelude.{◌≡◌, ◌∷◌, [], List, IfOk, length, cond};
+ghost use Rattle.std.specs.Prelude.{◌≡◌, ◌∷◌, ◌+◌, ◌≤◌, suc, [], List, IfOk, length, cond};
 ghost use Rattle.cmm_tree.specs.View.{expr_view, params_view};
 ghost use Rattle.cmm_types.specs.Annotated.{IsAnnotated};
 ghost use Rattle.cmm_types.specs.Light.{is_light_address};
@@ -11,16 +11,17 @@ ghost use Rattle.cmm_walks.specs.Walks.{all_operands, in_order, parameters_bound
 ghost use Rattle.cmm_walks.specs.Cells.{cells, event_of};
 ghost use Rattle.cmm_walks.specs.Sound.{IsReady, IsScope, Adds};
 
+use crate::bound_types::{is_address, is_mutable, type_bound};
 use crate::items::{Action, Cells, Item};
-use crate::numbers::{after, behind, is_address, is_mutable, type_bound};
 use cmm_tree::{Binding, Expr, Param};
 use std::alloc::AllocError;
 
 impl<'a> Cells<'a> {
     /// The event comes.
-    pub fn does(&mut self, action: Action, rest: u32) -> Result<u32, AllocError>
-        ensures { IfOk result (λ cell. IsReady (cells self.old) rest →
+    pub fn does(&mut self, action: Action, rest: usize) -> Result<usize, AllocError>
+        ensures adds { IfOk result (λ cell. IsReady (cells self.old) rest →
             Adds (cells self.old) (cells self.new) cell (Does (event_of action) ∷ []) rest) }
+        ensures more { IfOk result (λ _. length (cells self.new) ≡ suc (length (cells self.old))) }
     {
         let cell = self.push(Item::Does { action, rest })?;
         Ok(cell)
@@ -29,13 +30,14 @@ impl<'a> Cells<'a> {
     /// The expression is evaluated in this scope, with the slots from this one on free.
     pub fn eval(
         &mut self,
-        scope: u32,
-        slot: u32,
+        scope: usize,
+        slot: usize,
         expr: &'a Expr,
-        rest: u32,
-    ) -> Result<u32, AllocError>
+        rest: usize,
+    ) -> Result<usize, AllocError>
         ensures { IfOk result (λ cell. (s : List Slotted) → IsReady (cells self.old) rest →
             IsScope (cells self.old) scope s → IsAnnotated (names s) expr.now →
+            slot ≤ length (cells self.old) →
             Adds (cells self.old) (cells self.new) cell (Evaluates s slot
             (expr_view expr.now) ∷ []) rest) }
     {
@@ -51,14 +53,15 @@ impl<'a> Cells<'a> {
     /// An operand is evaluated, with the slots from `free` on, and bound to its own slot.
     fn operand(
         &mut self,
-        scope: u32,
-        free: u32,
-        slot: u32,
+        scope: usize,
+        free: usize,
+        slot: usize,
         expr: &'a Expr,
-        rest: u32,
-    ) -> Result<u32, AllocError>
+        rest: usize,
+    ) -> Result<usize, AllocError>
         ensures { IfOk result (λ cell. (s : List Slotted) → IsReady (cells self.old) rest →
             IsScope (cells self.old) scope s → IsAnnotated (names s) expr.now →
+            free ≤ length (cells self.old) →
             Adds (cells self.old) (cells self.new) cell (operand s free slot
             (expr_view expr.now)) rest) }
     {
@@ -70,14 +73,22 @@ impl<'a> Cells<'a> {
     }
 
     /// The operation at this place takes so many operands, the first of them in this slot.
-    pub fn takes(&mut self, at: u32, slot: u32, count: usize, rest: u32) -> Result<u32, AllocError>
-        ensures { IfOk result (λ cell. IsReady (cells self.old) rest →
+    pub fn takes(
+        &mut self,
+        at: u32,
+        slot: usize,
+        count: usize,
+        rest: usize,
+    ) -> Result<usize, AllocError>
+        requires { slot + count ≤ usize.MAX }
+        ensures adds { IfOk result (λ cell. IsReady (cells self.old) rest →
             Adds (cells self.old) (cells self.new) cell (takes at slot count) rest) }
+        ensures more { IfOk result (λ _. length (cells self.old) + count ≤ length (cells self.new)) }
     {
         if count == 0 {
             return Ok(rest);
         }
-        let next = after(slot)?;
+        let next = slot + 1;
         let others = self.takes(at, next, count - 1, rest)?;
         let cell = self.does(Action::Uses { slot, at }, others)?;
         Ok(cell)
@@ -86,14 +97,15 @@ impl<'a> Cells<'a> {
     /// An operand, unless it is a light address.
     pub fn wait_one(
         &mut self,
-        scope: u32,
-        free: u32,
-        slot: u32,
+        scope: usize,
+        free: usize,
+        slot: usize,
         expr: &'a Expr,
-        rest: u32,
-    ) -> Result<u32, AllocError>
+        rest: usize,
+    ) -> Result<usize, AllocError>
         ensures { IfOk result (λ cell. (s : List Slotted) → IsReady (cells self.old) rest →
             IsScope (cells self.old) scope s → IsAnnotated (names s) expr.now →
+            free ≤ length (cells self.old) →
             Adds (cells self.old) (cells self.new) cell (cond (is_light_address
             (names s) (expr_view expr.now)) [] (operand s free slot (expr_view expr.now))) rest) }
     {
@@ -107,14 +119,15 @@ impl<'a> Cells<'a> {
     /// An operand, if it is a light address.
     pub fn fill_one(
         &mut self,
-        scope: u32,
-        free: u32,
-        slot: u32,
+        scope: usize,
+        free: usize,
+        slot: usize,
         expr: &'a Expr,
-        rest: u32,
-    ) -> Result<u32, AllocError>
+        rest: usize,
+    ) -> Result<usize, AllocError>
         ensures { IfOk result (λ cell. (s : List Slotted) → IsReady (cells self.old) rest →
             IsScope (cells self.old) scope s → IsAnnotated (names s) expr.now →
+            free ≤ length (cells self.old) →
             Adds (cells self.old) (cells self.new) cell (cond (is_light_address
             (names s) (expr_view expr.now)) (operand s free slot (expr_view expr.now)) []) rest) }
     {
@@ -128,21 +141,23 @@ impl<'a> Cells<'a> {
     /// The operands that are no light addresses, right to left.
     pub fn wait(
         &mut self,
-        scope: u32,
-        free: u32,
-        slot: u32,
+        scope: usize,
+        free: usize,
+        slot: usize,
         exprs: &'a [Expr],
-        rest: u32,
-    ) -> Result<u32, AllocError>
+        rest: usize,
+    ) -> Result<usize, AllocError>
+        requires { slot + length exprs.now ≤ free }
         ensures { IfOk result (λ cell. (s : List Slotted) → IsReady (cells self.old) rest →
             IsScope (cells self.old) scope s → AreAnnotated (names s) exprs.now →
+            free ≤ length (cells self.old) →
             Adds (cells self.old) (cells self.new) cell (waiting s free slot
             (row_of exprs.now)) rest) }
     {
         match exprs {
             [] => Ok(rest),
             [first, others @ ..] => {
-                let next = after(slot)?;
+                let next = slot + 1;
                 let here = self.wait_one(scope, free, slot, first, rest)?;
                 let cell = self.wait(scope, free, next, others, here)?;
                 Ok(cell)
@@ -153,21 +168,23 @@ impl<'a> Cells<'a> {
     /// The light addresses, right to left.
     pub fn fill(
         &mut self,
-        scope: u32,
-        free: u32,
-        slot: u32,
+        scope: usize,
+        free: usize,
+        slot: usize,
         exprs: &'a [Expr],
-        rest: u32,
-    ) -> Result<u32, AllocError>
+        rest: usize,
+    ) -> Result<usize, AllocError>
+        requires { slot + length exprs.now ≤ free }
         ensures { IfOk result (λ cell. (s : List Slotted) → IsReady (cells self.old) rest →
             IsScope (cells self.old) scope s → AreAnnotated (names s) exprs.now →
+            free ≤ length (cells self.old) →
             Adds (cells self.old) (cells self.new) cell (filled s free slot
             (row_of exprs.now)) rest) }
     {
         match exprs {
             [] => Ok(rest),
             [first, others @ ..] => {
-                let next = after(slot)?;
+                let next = slot + 1;
                 let here = self.fill_one(scope, free, slot, first, rest)?;
                 let cell = self.fill(scope, free, next, others, here)?;
                 Ok(cell)
@@ -178,17 +195,19 @@ impl<'a> Cells<'a> {
     /// All operands, the first of them in this slot.
     pub fn all_operands(
         &mut self,
-        scope: u32,
-        slot: u32,
+        scope: usize,
+        slot: usize,
         exprs: &'a [Expr],
-        rest: u32,
-    ) -> Result<u32, AllocError>
+        rest: usize,
+    ) -> Result<usize, AllocError>
+        requires { slot + length exprs.now ≤ usize.MAX }
         ensures { IfOk result (λ cell. (s : List Slotted) → IsReady (cells self.old) rest →
             IsScope (cells self.old) scope s → AreAnnotated (names s) exprs.now →
+            slot + length exprs.now ≤ length (cells self.old) →
             Adds (cells self.old) (cells self.new) cell (all_operands s slot
             (row_of exprs.now)) rest) }
     {
-        let free = behind(slot, exprs.len())?;
+        let free = slot + exprs.len();
         let filled = self.fill(scope, free, slot, exprs, rest)?;
         let cell = self.wait(scope, free, slot, exprs, filled)?;
         Ok(cell)
@@ -197,11 +216,12 @@ impl<'a> Cells<'a> {
     /// One expression after the other.
     pub fn in_order(
         &mut self,
-        scope: u32,
-        slot: u32,
+        scope: usize,
+        slot: usize,
         exprs: &'a [Expr],
-        rest: u32,
-    ) -> Result<u32, AllocError>
+        rest: usize,
+    ) -> Result<usize, AllocError>
+        requires { slot ≤ length (cells self.old) }
         ensures { IfOk result (λ cell. (s : List Slotted) → IsReady (cells self.old) rest →
             IsScope (cells self.old) scope s → AreAnnotated (names s) exprs.now →
             Adds (cells self.old) (cells self.new) cell (in_order s slot
@@ -220,10 +240,11 @@ impl<'a> Cells<'a> {
     /// Parameters are bound at their names.
     pub fn parameters_bound(
         &mut self,
-        slot: u32,
+        slot: usize,
         params: &[Param],
-        rest: u32,
-    ) -> Result<u32, AllocError>
+        rest: usize,
+    ) -> Result<usize, AllocError>
+        requires { slot + length params.now ≤ usize.MAX }
         ensures { IfOk result (λ cell. IsReady (cells self.old) rest →
             Adds (cells self.old) (cells self.new) cell (parameters_bound slot
             (params_view params.now)) rest) }
@@ -231,7 +252,7 @@ impl<'a> Cells<'a> {
         match params {
             [] => Ok(rest),
             [first, others @ ..] => {
-                let next = after(slot)?;
+                let next = slot + 1;
                 let later = self.parameters_bound(next, others, rest)?;
                 let address = is_address(first.comp.ty());
                 let at = first.at;
@@ -244,12 +265,13 @@ impl<'a> Cells<'a> {
     /// The first binding of a let, and the others in its scope; then the body.
     pub fn entering(
         &mut self,
-        scope: u32,
-        slot: u32,
+        scope: usize,
+        slot: usize,
         bindings: &'a [Binding],
         body: &'a Expr,
-        rest: u32,
-    ) -> Result<u32, AllocError>
+        rest: usize,
+    ) -> Result<usize, AllocError>
+        requires { slot ≤ length (cells self.old) }
         ensures { IfOk result (λ cell. (s : List Slotted) → IsReady (cells self.old) rest →
             IsScope (cells self.old) scope s →
             AreBindingsAnnotated (names s) bindings.now →
@@ -272,13 +294,14 @@ impl<'a> Cells<'a> {
     /// A binding of a let, and the others in its scope; then the body.
     fn enter_one(
         &mut self,
-        scope: u32,
-        slot: u32,
+        scope: usize,
+        slot: usize,
         first: &'a Binding,
         others: &'a [Binding],
         body: &'a Expr,
-        rest: u32,
-    ) -> Result<u32, AllocError>
+        rest: usize,
+    ) -> Result<usize, AllocError>
+        requires { slot ≤ length (cells self.old) }
         ensures { IfOk result (λ cell. (s : List Slotted) → IsReady (cells self.old) rest →
             IsScope (cells self.old) scope s →
             AreBindingsAnnotated (names s) (first.now ∷ others.now) →
@@ -289,7 +312,7 @@ impl<'a> Cells<'a> {
     {
         let ty = type_bound(first.declared, first.value.ty);
         let mutable = is_mutable(first.declared);
-        let next = after(slot)?;
+        let next = slot + 1;
         let inner = self.bind(scope, &first.name, ty, mutable, slot)?;
         let later = self.push(Item::Enters {
             scope: inner,

@@ -1,21 +1,27 @@
-use Rattle.std.proofs.Common.{inl, inr, ap}
-use Rattle.std.proofs.lemmas.Result.{IfOk-weaker}
+use Rattle.std.proofs.Common.{inl, inr, ap, subst}
 use Rattle.cmm_tree.specs.View.{label_view}
-use Rattle.cmm_walks.specs.Leaving.{own_handler}
+use Rattle.cmm_walks.specs.Leaving.{HasRow, own_handler}
+use Rattle.cmm_walks.specs.declared.items.Item.{Item}
 use Rattle.cmm_walks.proofs.Leavings.{own-as}
 use Rattle.cmm_walks.proofs.leaving.own_handler.Goals as goal
 
+pub find_handler-requires : goal.find_handler-requires
+find_handler-requires c =
+    let P : Item → Type 0 = λ x. HasRow x in
+    subst P c.in-Catches.is c.requires
+
+pub find_handler-requires-in-Handler : goal.find_handler-requires-in-Handler
+find_handler-requires-in-Handler c =
+    let P : Item → Type 0 = λ x. HasRow x in
+    subst P c.in-Handler.is c.requires
+
 pub returns-in-Catches : goal.returns-in-Catches
 returns-in-Catches c =
-    IfOk-weaker c.find_handler.result _ _
-    (λ found h. λ count scopes tasks. own-as (label_view c.args.label.now) count scopes tasks c.args.item _ found c.in-Catches.is (λ held. h count tasks _ _ _ _ held.1))
-    c.find_handler.ensures
+    λ count scopes tasks. own-as (label_view c.args.label.now) count scopes tasks c.args.item _ c.find_handler.result c.in-Catches.is (λ held. c.find_handler.ensures count tasks _ _ _ _ held.1)
 
 pub returns-in-Handler : goal.returns-in-Handler
 returns-in-Handler c =
-    IfOk-weaker c.find_handler-in-Handler.result _ _
-    (λ found h. λ count scopes tasks. own-as (label_view c.args.label.now) count scopes tasks c.args.item _ found c.in-Handler.is (λ held. h count tasks _ _ _ _ held.1))
-    c.find_handler-in-Handler.ensures
+    λ count scopes tasks. own-as (label_view c.args.label.now) count scopes tasks c.args.item _ c.find_handler-in-Handler.result c.in-Handler.is (λ held. c.find_handler-in-Handler.ensures count tasks _ _ _ _ held.1)
 
 pub returns-in-Empty : goal.returns-in-Empty
 returns-in-Empty c = λ count scopes tasks held.

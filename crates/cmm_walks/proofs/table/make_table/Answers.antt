@@ -7,13 +7,12 @@ use Rattle.cmm_walks.proofs.table.make_table.Goals as goal
 
 pub returns-clause-linked : goal.returns-clause-linked
 returns-clause-linked c =
-    let b = c.in_ok-entry.ensures c.new-cells.ensures c.requires in
-    are-linked (cells c.begin.new.self) (cells c.nodes.new.self) c.in_ok-nodes.nodes.items (c.in_ok-nodes.ensures b.sound)
+    are-linked (cells c.begin.new.self) (cells c.nodes.new.self) c.in_ok-nodes.nodes.items c.in_ok-nodes.ensures
 
 pub returns-clause-live : goal.returns-clause-live
 returns-clause-live c =
     let v1 = cells c.begin.new.self in
     let v2 = cells c.nodes.new.self in
     let b = c.in_ok-entry.ensures c.new-cells.ensures c.requires in
-    let f = c.in_ok-nodes.ensures b.sound in
+    let f = c.in_ok-nodes.ensures in
     live-iff v1 v2 c.in_ok-nodes.nodes.items c.in_ok-entry.entry (function_view c.args.function.now) f (tasks-extend v1 v2 c.in_ok-entry.entry f.extends b.within ∙ b.is)

@@ -1,6 +1,6 @@
 use Rattle.cmm_walks.specs.Walks.{names}
 use Rattle.cmm_walks.proofs.Arena.{first-rest}
-use Rattle.cmm_walks.proofs.Pushed.{then, ready, kept-scope, adds-as}
+use Rattle.cmm_walks.proofs.Pushed.{then, ready, kept-scope, kept-placed, adds-as}
 use Rattle.cmm_walks.proofs.Parts.{typed-first, in-order-first}
 use Rattle.cmm_walks.proofs.items.Cells.+in_order.Goals as goal
 
@@ -9,5 +9,5 @@ returns-in_ok-cell-in-len1-up t c = λ s r scope typed.
     let p = first-rest c.args.exprs.now c.first-item.result c.in-len1-up.len_at_least c.first-item.is in
     let parts = typed-first (names s) c.args.exprs.now c.first-item.result _ p typed in
     let l = c.in_ok-later-in-len1-up.ensures s r scope parts.1 in
-    let e = c.in_ok-cell-in-len1-up.ensures s (ready l) (kept-scope l.extends scope) parts.0 in
+    let e = c.in_ok-cell-in-len1-up.ensures s (ready l) (kept-scope l.extends scope) parts.0 (kept-placed l.extends c.requires) in
     adds-as (in-order-first s c.args.slot c.args.exprs.now c.first-item.result _ p) (then e l)

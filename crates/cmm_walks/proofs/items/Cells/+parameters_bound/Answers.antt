@@ -1,4 +1,4 @@
-use Rattle.cmm_walks.proofs.Arena.{first-rest}
+use Rattle.cmm_walks.proofs.Arena.{plus-one, first-rest}
 use Rattle.cmm_walks.proofs.Pushed.{then, ready, adds-as}
 use Rattle.cmm_walks.proofs.Parts.{parameters-first}
 use Rattle.cmm_walks.proofs.items.Cells.+parameters_bound.Goals as goal
@@ -7,5 +7,5 @@ pub returns-in_ok-cell-in-len1-up : goal.returns-in_ok-cell-in-len1-up
 returns-in_ok-cell-in-len1-up t c = λ r.
     let p = first-rest c.args.params.now c.first-item.result c.in-len1-up.len_at_least c.first-item.is in
     let l = c.in_ok-later-in-len1-up.ensures r in
-    let d = c.in_ok-cell-in-len1-up.ensures (ready l) in
-    adds-as (parameters-first c.args.slot c.in_ok-next-in-len1-up.next c.args.params.now c.first-item.result _ c.is_address-address.result c.ty.result p c.in_ok-next-in-len1-up.ensures c.is_address-address.ensures c.ty.ensures) (then d l)
+    let d = c.in_ok-cell-in-len1-up.ensures.adds (ready l) in
+    adds-as (parameters-first c.args.slot _ c.args.params.now c.first-item.result _ c.is_address-address.result c.ty.result p (plus-one c.args.slot) c.is_address-address.ensures c.ty.ensures) (then d l)

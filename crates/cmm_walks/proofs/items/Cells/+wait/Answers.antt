@@ -1,13 +1,13 @@
 use Rattle.cmm_walks.specs.Walks.{names}
-use Rattle.cmm_walks.proofs.Arena.{first-rest}
-use Rattle.cmm_walks.proofs.Pushed.{then, ready, kept-scope, adds-as}
+use Rattle.cmm_walks.proofs.Arena.{plus-one, first-rest}
+use Rattle.cmm_walks.proofs.Pushed.{then, ready, kept-scope, kept-placed, adds-as}
 use Rattle.cmm_walks.proofs.Parts.{typed-first, waiting-first}
 use Rattle.cmm_walks.proofs.items.Cells.+wait.Goals as goal
 
 pub returns-in_ok-cell-in-len1-up : goal.returns-in_ok-cell-in-len1-up
-returns-in_ok-cell-in-len1-up t c = λ s r scope typed.
+returns-in_ok-cell-in-len1-up t c = λ s r scope typed placed.
     let p = first-rest c.args.exprs.now c.first-item.result c.in-len1-up.len_at_least c.first-item.is in
     let parts = typed-first (names s) c.args.exprs.now c.first-item.result _ p typed in
-    let h = c.in_ok-here-in-len1-up.ensures s r scope parts.0 in
-    let w = c.in_ok-cell-in-len1-up.ensures s (ready h) (kept-scope h.extends scope) parts.1 in
-    adds-as (waiting-first s c.args.free c.args.slot c.in_ok-next-in-len1-up.next c.args.exprs.now c.first-item.result _ p c.in_ok-next-in-len1-up.ensures) (then w h)
+    let h = c.in_ok-here-in-len1-up.ensures s r scope parts.0 placed in
+    let w = c.in_ok-cell-in-len1-up.ensures s (ready h) (kept-scope h.extends scope) parts.1 (kept-placed h.extends placed) in
+    adds-as (waiting-first s c.args.free c.args.slot _ c.args.exprs.now c.first-item.result _ p (plus-one c.args.slot)) (then w h)

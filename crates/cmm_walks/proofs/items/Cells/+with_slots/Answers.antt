@@ -1,10 +1,10 @@
-use Rattle.cmm_walks.proofs.Arena.{first-rest}
+use Rattle.cmm_walks.proofs.Arena.{plus-one, first-rest}
 use Rattle.cmm_walks.proofs.Pushed.{opens-as, opens-then, slots-first}
 use Rattle.cmm_walks.proofs.items.Cells.+with_slots.Goals as goal
 
-pub returns-in_ok-cell-in-len1-up : goal.returns-in_ok-cell-in-len1-up
-returns-in_ok-cell-in-len1-up t c = λ s sound scope.
-    let b = c.in_ok-inner-in-len1-up.ensures s sound scope in
-    let w = c.in_ok-cell-in-len1-up.ensures _ b.sound b.opened in
-    let e = slots-first c.args.params.now c.first-item.result _ c.args.slot c.in_ok-next-in-len1-up.next c.ty-ty.result s (first-rest c.args.params.now c.first-item.result c.in-len1-up.len_at_least c.first-item.is) c.in_ok-next-in-len1-up.ensures c.ty-ty.ensures in
+pub returns-in_ok-cell-in-len1-up-clause-opens : goal.returns-in_ok-cell-in-len1-up-clause-opens
+returns-in_ok-cell-in-len1-up-clause-opens t c = λ s sound scope.
+    let b = c.in_ok-inner-in-len1-up.ensures.opens s sound scope in
+    let w = c.in_ok-cell-in-len1-up.ensures.opens _ b.sound b.opened in
+    let e = slots-first c.args.params.now c.first-item.result _ c.args.slot _ c.ty-ty.result s (first-rest c.args.params.now c.first-item.result c.in-len1-up.len_at_least c.first-item.is) (plus-one c.args.slot) c.ty-ty.ensures in
     opens-then b.extends (opens-as e w)

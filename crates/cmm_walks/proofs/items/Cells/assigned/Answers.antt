@@ -12,4 +12,4 @@ pub returns-in-Some : goal.returns-in-Some
 returns-in-Some c =
     IfOk-weaker c.does.result _ _
     (λ cell h. λ s r scope. adds-as (bound-some s c.args.at c.args.name.now c.in-Some.found c.is_address-address.result (sym (c.find.ensures s r.sound scope) ∙ c.in-Some.is) c.is_address-address.ensures) (h r))
-    c.does.ensures
+    c.does.ensures.adds

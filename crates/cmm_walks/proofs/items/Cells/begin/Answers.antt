@@ -1,4 +1,4 @@
-use Rattle.std.proofs.Common.{◌∙◌}
+use Rattle.std.proofs.Common.{arith, length, ◌∙◌}
 use Rattle.bs_words.specs.Contents.{contents}
 use Rattle.cmm_tree.specs.View.{expr_view}
 use Rattle.cmm_walks.specs.Cells.{cells, tasks_at}
@@ -13,11 +13,11 @@ returns c = λ none typed.
     let body = c.args.function.now.body in
     let ps = contents c.args.function.now.params in
     let e = ends (cells c.args.self.now) v1 c.in_ok-end.end none c.in_ok-end.ensures in
-    let o = c.in_ok-scope.ensures _ e.sound e.scope in
-    let b = c.in_ok-body.ensures _ (record { sound = o.sound; within = kept-within o.extends e.scope.within }) o.opened (begin-typed ps c.as_slice-params.result.now body c.as_slice-params.ensures typed) in
+    let o = c.in_ok-scope.ensures.opens _ e.sound e.scope in
+    let b = c.in_ok-body.ensures _ (record { sound = o.sound; within = kept-within o.extends e.scope.within }) o.opened (begin-typed ps c.as_slice-params.result.now body c.as_slice-params.ensures typed) (omega (arith, c.in_ok-scope.ensures.more)) in
     let x = then (c.in_ok-cell.ensures (ready b)) b in
     record {
       sound = x.sound;
       within = x.within;
-      is = x.is ∙ begin-is ps c.as_slice-params.result.now c.in_ok-free.free (expr_view body) (tasks_at v2 c.in_ok-end.end) c.as_slice-params.ensures c.in_ok-free.ensures (tasks-extend v1 v2 c.in_ok-end.end o.extends e.scope.within ∙ e.is);
+      is = x.is ∙ begin-is ps c.as_slice-params.result.now (length c.as_slice-params.result.now) (expr_view body) (tasks_at v2 c.in_ok-end.end) c.as_slice-params.ensures (omega arith) (tasks-extend v1 v2 c.in_ok-end.end o.extends e.scope.within ∙ e.is);
     }

@@ -3,7 +3,7 @@ use Rattle.cmm_tree.specs.View.{expr_view}
 use Rattle.cmm_walks.specs.Cells.{cells, tasks_at}
 use Rattle.cmm_walks.specs.Walks.{Task, Evaluates}
 use Rattle.cmm_walks.proofs.Nodes.{goes-one_of}
-use Rattle.cmm_walks.proofs.Pushed.{extends-then, kept-scope, kept-within, tasks-extend}
+use Rattle.cmm_walks.proofs.Pushed.{extends-then, kept-scope, kept-placed, kept-within, tasks-extend}
 use Rattle.cmm_walks.proofs.items.Cells.either.Goals as goal
 
 pub returns : goal.returns
@@ -11,8 +11,8 @@ returns c = λ s r scope on_true on_false.
     let v0 = cells c.args.self.now in
     let v1 = cells c.eval.new.self in
     let v2 = cells c.eval-2.new.self in
-    let f = c.in_ok-first.ensures s r scope on_true in
-    let g = c.in_ok-second.ensures s (record { sound = f.sound; within = kept-within f.extends r.within }) (kept-scope f.extends scope) on_false in
+    let f = c.in_ok-first.ensures s r scope on_true c.requires in
+    let g = c.in_ok-second.ensures s (record { sound = f.sound; within = kept-within f.extends r.within }) (kept-scope f.extends scope) on_false (kept-placed f.extends c.requires) in
     record {
       extends = extends-then v0 v1 v2 f.extends g.extends;
       sound = g.sound;

@@ -1,4 +1,4 @@
-use Rattle.std.proofs.Common.{[]}
+use Rattle.std.proofs.Common.{refl, []}
 use Rattle.std.proofs.lemmas.Result.{IfOk-weaker}
 use Rattle.cmm_tree.specs.View.{expr_view}
 use Rattle.cmm_walks.specs.Cells.{cells, tasks_at}
@@ -10,7 +10,7 @@ pub returns-in-empty : goal.returns-in-empty
 returns-in-empty c =
     IfOk-weaker c.evaluate.result _ _
     (λ node h. λ s r scope typed.
-    steps-as (cells c.args.self.now) (cells c.evaluate.new.self) _ _ node (parameters-then s c.args.slot c.in_ok-free.free c.args.params.now [] (expr_view c.args.body.now) (tasks_at (cells c.args.self.now) c.args.caught) (empty-list c.args.params.now c.in-empty.len_below) c.in_ok-free.ensures) (h s r scope typed))
+    steps-as (cells c.args.self.now) (cells c.evaluate.new.self) _ _ node (parameters-then s c.args.slot _ c.args.params.now [] (expr_view c.args.body.now) (tasks_at (cells c.args.self.now) c.args.caught) (empty-list c.args.params.now c.in-empty.len_below) refl) (h s r scope typed))
     c.evaluate.ensures
 
 pub returns-in-len1-up : goal.returns-in-len1-up
@@ -18,5 +18,5 @@ returns-in-len1-up c =
     let p = first-rest c.args.params.now c.param-item.result c.in-len1-up.len_at_least c.param-item.is in
     IfOk-weaker c.enter_bound.result _ _
     (λ node h. λ s r scope typed.
-    steps-as (cells c.args.self.now) (cells c.enter_bound.new.self) _ _ node (parameters-then s c.args.slot c.in_ok-free.free c.args.params.now _ (expr_view c.args.body.now) (tasks_at (cells c.args.self.now) c.args.caught) p c.in_ok-free.ensures) (h s r scope typed))
+    steps-as (cells c.args.self.now) (cells c.enter_bound.new.self) _ _ node (parameters-then s c.args.slot _ c.args.params.now _ (expr_view c.args.body.now) (tasks_at (cells c.args.self.now) c.args.caught) p refl) (h s r scope typed c.requires))
     c.enter_bound.ensures

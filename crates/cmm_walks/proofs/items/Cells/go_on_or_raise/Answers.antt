@@ -5,7 +5,7 @@ use Rattle.cmm_walks.proofs.items.Cells.go_on_or_raise.Goals as goal
 
 pub returns : goal.returns
 returns c = λ r.
-    let f = c.in_ok-raises.ensures r in
+    let f = c.in_ok-raises.ensures.adds r in
     record {
       extends = f.extends;
       sound = f.sound;

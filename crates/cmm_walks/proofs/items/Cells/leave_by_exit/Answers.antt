@@ -7,20 +7,20 @@ use Rattle.cmm_walks.proofs.Pushed.{extends-none}
 use Rattle.cmm_walks.proofs.items.Cells.leave_by_exit.Goals as goal
 
 pub returns-in-None : goal.returns-in-None
-returns-in-None c = λ sound.
+returns-in-None c =
     let v = cells c.args.self.now in
     record {
       extends = extends-none v;
-      sound = sound;
-      goes = goes-exits-none v (label_view c.args.label.now) (tasks_at v c.args.rest) c.last.result c.last.ensures (leads-found (length v) (tasks_at v) c.in_ok-found.found _ _ c.in-None.is (c.in_ok-found.ensures sound));
+      sound = c.requires;
+      goes = goes-exits-none v (label_view c.args.label.now) (tasks_at v c.args.rest) c.last.result c.last.ensures (leads-found (length v) (tasks_at v) c.exit.result _ _ c.in-None.is c.exit.ensures);
     }
 
 pub returns-in-Some : goal.returns-in-Some
-returns-in-Some c = λ sound.
+returns-in-Some c =
     let v = cells c.args.self.now in
-    let l = leads-found (length v) (tasks_at v) c.in_ok-found.found _ _ c.in-Some.is (c.in_ok-found.ensures sound) in
+    let l = leads-found (length v) (tasks_at v) c.exit.result _ _ c.in-Some.is c.exit.ensures in
     record {
       extends = extends-none v;
-      sound = sound;
+      sound = c.requires;
       goes = goes-exits v (label_view c.args.label.now) (tasks_at v c.args.rest) c.quiet.result c.in-Some.cell c.quiet.ensures l.0 l.1;
     }

@@ -6,7 +6,7 @@ use Rattle.cmm_walks.proofs.items.Cells.one_of.Goals as goal
 
 pub returns : goal.returns
 returns c = λ s r scope typed.
-    let m = c.in_ok-bodies.ensures s r scope typed in
+    let m = c.in_ok-bodies.ensures s r scope typed c.requires in
     record {
       extends = m.extends;
       sound = m.sound;

@@ -2,7 +2,7 @@ use Rattle.std.proofs.Common.{List, ◌++◌, sym, ap, ◌∙◌}
 use Rattle.cmm_tree.specs.View.{expr_view}
 use Rattle.cmm_walks.specs.Cells.{cells}
 use Rattle.cmm_walks.specs.Walks.{Task, handling}
-use Rattle.cmm_walks.proofs.Pushed.{then, ready, kept-scope, kept-within, adds-inside, tasks-extend}
+use Rattle.cmm_walks.proofs.Pushed.{then, ready, kept-scope, kept-placed, kept-within, adds-inside, tasks-extend}
 use Rattle.cmm_walks.proofs.Catches.{adds-handles}
 use Rattle.cmm_walks.proofs.items.Cells.try_body.Goals as goal
 
@@ -12,4 +12,4 @@ returns c = λ s r scope typed handler.
     let in_h = kept-scope h.extends scope in
     let b = adds-handles (cells c.handling.new.self) (cells c.push.new.self) c.in_ok-behind_body.behind_body c.args.scope c.args.slot c.args.name_at _ _ c.in_ok-entry.entry c.args.rest s c.in_ok-behind_body.ensures (record { sound = h.sound; within = kept-within h.extends r.within }) in_h h.within
     (h.is ∙ ap (λ (l : List Task). handling s c.args.slot c.args.name_at c.args.name.now (expr_view c.args.handler.now) ++ l) (sym (tasks-extend (cells c.args.self.now) (cells c.handling.new.self) c.args.rest h.extends r.within))) in
-    then (c.in_ok-cell.ensures s (ready b) (kept-scope b.extends in_h) typed) (adds-inside h.extends r.within b)
+    then (c.in_ok-cell.ensures s (ready b) (kept-scope b.extends in_h) typed (kept-placed b.extends (kept-placed h.extends c.requires))) (adds-inside h.extends r.within b)

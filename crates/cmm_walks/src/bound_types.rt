@@ -1,5 +1,5 @@
-//! Slots, and the types of what is bound to them.
-ghost use Rattle.std.specs.Prelude.{◌≡◌, ◌+◌, suc, IfOk};
+//! The types of what is bound to slots.
+ghost use Rattle.std.specs.Prelude.{◌≡◌};
 ghost use Rattle.std.specs.Option.{option_map};
 ghost use Rattle.cmm_tree.specs.View.{declared_view};
 ghost use Rattle.cmm_types.specs.Types.{type_bound, is_mutable};
@@ -7,27 +7,6 @@ ghost use Rattle.cmm_walks.specs.Walks.{is_address};
 
 use bs_words::{Comp, Ty};
 use cmm_tree::Declared;
-use std::alloc::AllocError;
-
-/// The number after this one. That there is none counts as want of memory.
-pub fn after(number: u32) -> Result<u32, AllocError>
-    ensures { IfOk result (λ next. next ≡ suc number) }
-{
-    if number == u32::MAX {
-        return Err(AllocError);
-    }
-    Ok(number + 1)
-}
-
-/// The slot that lies `count` after this one.
-pub fn behind(slot: u32, count: usize) -> Result<u32, AllocError>
-    ensures { IfOk result (λ next. next ≡ slot + count) }
-{
-    if count > (u32::MAX - slot) as usize {
-        return Err(AllocError);
-    }
-    Ok(slot + count as u32)
-}
 
 /// Whether values of the type are addresses into blocks, which no allocation may outlive.
 pub fn is_address(ty: Ty) -> bool

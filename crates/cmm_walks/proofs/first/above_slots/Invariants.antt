@@ -1,8 +1,0 @@
-use Rattle.std.proofs.Common.{take}
-use Rattle.std.specs.List.{All}
-use Rattle.cmm_walks.specs.Table.{slot_below}
-use Rattle.cmm_walks.specs.declared.node.Node as node
-use Rattle.cmm_walks.proofs.first.above_slots.Given as goal
-
-abbrev pub invariant-loop-node : goal.invariant-loop-node
-invariant-loop-node l = All (λ (n : node.Node). slot_below l.bound n.step) (take l.node-index l.nodes)

@@ -1,0 +1,8 @@
+use Rattle.std.proofs.Common.{suc, take}
+use Rattle.std.specs.List.{All}
+use Rattle.cmm_walks.specs.Table.{slot_below}
+use Rattle.cmm_walks.specs.declared.node.Node as node
+use Rattle.cmm_walks.proofs.first.greatest_slot.Given as goal
+
+abbrev pub invariant-loop-node : goal.invariant-loop-node
+invariant-loop-node l = All (λ (n : node.Node). slot_below (suc l.greatest) n.step) (take l.node-index l.nodes)
