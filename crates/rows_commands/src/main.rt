@@ -1,38 +1,34 @@
 //! What `cmmc` says to each line of standard input, in tables.
 //!
 //! A line `= NAME` begins a table and prints nothing. The lines after it are the table's rows: `Subject` has the names, and
-//! what the rows of each table are about.
+//! what the rows of each table are about. The wanted lines of each table were made apart from this program.
 #![tactic(auto)]
 
-mod compiled;
-mod devices;
-mod faults;
-mod limits;
-mod listings;
-mod plans;
-mod shown;
+mod called;
+mod evaluated;
 mod subject;
-mod texts;
 
 use anyhow::Result;
+use called::Called;
 use rows_lines::Table;
 use std::io::{self, BufRead, BufReader, BufWriter, Write};
 use subject::Subject;
 
 fn main(rt: HostRuntime) -> Result<()> {
     let alloc = rt.alloc();
+    let top = Called { alloc };
     let mut subject = Subject::Commands;
-    let mut table = Table::new(alloc);
+    let mut table = Table::new(&rt, &top, alloc);
     let mut out = BufWriter::new(alloc, rt.stdout())?;
     for line in BufReader::new(alloc, rt.stdin())?.lines(alloc) {
         let line = line?;
         match line.as_str().strip_prefix("= ") {
             Some(name) => {
                 subject = Subject::of(name);
-                table = Table::new(alloc);
+                table = Table::new(&rt, &top, alloc);
             }
             None => {
-                let said = subject.said_to(&rt, alloc, &mut table, line.as_str())?;
+                let said = subject.said_to(&mut table, line.as_str())?;
                 out.write_all(said.as_slice())?;
             }
         }

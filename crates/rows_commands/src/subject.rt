@@ -1,12 +1,13 @@
 //! What the tables are about.
-use crate::{compiled, devices, faults, limits, listings, plans};
+use crate::evaluated;
 use anyhow::Result;
-use rows_lines::Table;
-use std::alloc::Global;
+use rows_answers::{devices, faults, limits, listings};
+use rows_compiled::{compiled, generated, jobs, plans};
+use rows_lines::{Table, Top};
 use std::thread::Threads;
 
-/// What a table is about, which says how its rows are read and what is shown of the answers. Where no module is named, a
-/// row has the form of `rows_lines`, and all that `cmmc` says to it is shown.
+/// What a table is about, which says how its rows are read and what is shown of the answers. Where no module of
+/// `rows_answers` or `rows_compiled` is named, a row has the form of `rows_lines`, and all that `cmmc` says to it is shown.
 #[derive(Clone, Copy)]
 pub(crate) enum Subject {
     /// Words that are no command, values in and out of their grammars and limits, the commands' answers, and reads and
@@ -39,6 +40,14 @@ pub(crate) enum Subject {
     /// functions there: each operation, test and chunk of Linear. What they return, raise, call or ask was counted by
     /// hand.
     Images,
+    /// Texts of the generator, under every way in which the mover may ask, and by their meaning (`generated`).
+    Generated,
+    /// That a compile by several jobs shares functions among threads (`jobs`).
+    Held,
+    /// That an image does not show by how many jobs it was made, and that all functions are told of (`jobs`).
+    Shared,
+    /// Runs of texts of the whole language, under frames and addresses that a hand made (`evaluated`, here).
+    Evaluated,
     /// No table has this name.
     Unknown,
 }
@@ -57,29 +66,35 @@ impl Subject {
             "compiled" => Subject::Compiled,
             "operators" => Subject::Operators,
             "images" => Subject::Images,
+            "generated" => Subject::Generated,
+            "held" => Subject::Held,
+            "shared" => Subject::Shared,
+            "evaluated" => Subject::Evaluated,
             _ => Subject::Unknown,
         }
     }
 
     /// What is shown of a row.
-    pub(crate) fn said_to<R: Threads + Sync>(
+    pub(crate) fn said_to<R: Threads + Sync, T: Top>(
         self,
-        rt: &R,
-        alloc: Global,
-        table: &mut Table,
+        table: &mut Table<'_, R, T>,
         row: &str,
     ) -> Result<Vec<u8>> {
         match self {
             Subject::Commands | Subject::Checks | Subject::Operators | Subject::Images => {
-                Ok(table.said_to(rt, alloc, row)?)
+                Ok(table.said_to(row)?)
             }
-            Subject::Faults => Ok(faults::said_to(rt, alloc, row)?),
-            Subject::Devices => Ok(devices::said_to(rt, alloc, table, row)?),
-            Subject::Limits => limits::said_to(rt, alloc, table, row),
-            Subject::Listings => listings::said_to(rt, alloc, table, row),
-            Subject::Plans => plans::said_to(rt, alloc, table, row),
-            Subject::Compiled => compiled::said_to(rt, alloc, table, row),
-            Subject::Unknown => Ok(b"no table\n".to_vec(alloc)?),
+            Subject::Faults => Ok(faults::said_to(table, row)?),
+            Subject::Devices => Ok(devices::said_to(table, row)?),
+            Subject::Limits => limits::said_to(table, row),
+            Subject::Listings => listings::said_to(table, row),
+            Subject::Plans => plans::said_to(table, row),
+            Subject::Compiled => compiled::said_to(table, row),
+            Subject::Generated => Ok(generated::said_to(table, row)?),
+            Subject::Held => Ok(jobs::held(table, row)?),
+            Subject::Shared => Ok(jobs::shared(table, row)?),
+            Subject::Evaluated => evaluated::said_to(table.alloc(), row),
+            Subject::Unknown => Ok(b"no table\n".to_vec(table.alloc())?),
         }
     }
 }

@@ -8,7 +8,7 @@
 ghost use Rattle.lin_ir.specs.Formed.{AreLocated};
 
 use crate::laid::put_code;
-use anyhow::Result;
+use anyhow::{Result, bail};
 use bs_words::{Name, Ret};
 use frame_tables::descriptors;
 use lin_ir::{Lin, Line};
@@ -30,10 +30,11 @@ pub(crate) fn function(alloc: Global, slots: u32, lines: Vec<Line>) -> Lin {
     }
 }
 
-/// Puts the instruction of a line, if it is one.
-pub(crate) fn take(alloc: Global, lines: &mut Vec<Line>, line: &str) -> Result<()> {
-    if let Some(line) = apart(alloc, line)?.line()? {
-        lines.push(line)?;
+/// Puts the instruction of a line.
+pub(crate) fn take(alloc: Global, lines: &mut Vec<Line>, row: &str) -> Result<()> {
+    match apart(alloc, row)?.line()? {
+        Some(line) => lines.push(line)?,
+        None => bail!("no instruction: {row}"),
     }
     Ok(())
 }

@@ -7,7 +7,7 @@ use bs_io::{Failed, MemSink, Sink};
 /// A sink whose writes with the numbers in `sticks`, counted from 0, take nothing; each of these is a fault. The others
 /// go to the sink below.
 #[derive(Drop)]
-pub(crate) struct Sticking {
+pub struct Sticking {
     below: MemSink,
     sticks: Vec<u64>,
     calls: u64,
@@ -25,7 +25,7 @@ impl Sticking {
     }
 
     /// The bytes that it holds.
-    pub(crate) fn bytes(&self) -> &[u8] {
+    pub fn bytes(&self) -> &[u8] {
         self.below.bytes()
     }
 }

@@ -7,10 +7,7 @@
 //! each run, its calls, its end and its units, was written by hand from the rules.
 #![tactic(auto)]
 
-mod lin_machine;
-mod mach_machine;
 mod runs;
-mod world;
 
 use anyhow::Result;
 use runs::Rows;

@@ -1,15 +1,13 @@
 //! The rows: functions that are put together line by line, and their runs.
 
-use crate::world::{Asked, Call, Doing, End, World};
-use crate::{lin_machine, mach_machine};
 use anyhow::Result;
 use bs_words::{Comp, Loc, Name, Ret, Value};
-use cmm_data::{SymbolTable, data_fault};
 use cmm_tree::File;
-use cmm_values::Memory;
 use lin_ir::{Lin, Line};
 use mach_ir::{Instr, Mach, Reg, Seq};
+use rows_machines::{lin_machine, mach_machine};
 use rows_reading::{apart, registers, spots, value, words_of};
+use rows_worlds::{Asked, Call, Doing, End, World};
 use std::alloc::Global;
 use std::fmt::Write;
 
@@ -235,20 +233,6 @@ fn doings(alloc: Global, text: &str) -> Result<Vec<Doing>> {
     Ok(doings)
 }
 
-/// What stands round a run, where the text's data has no fault and its items have numbers.
-fn world_of<'a>(alloc: Global, file: &'a File, text: &str) -> Result<Option<World<'a>>> {
-    if data_fault(file).is_some() {
-        return Ok(None);
-    }
-    if file.items.len() > u32::MAX as usize {
-        return Ok(None);
-    }
-    let doings = doings(alloc, text)?;
-    let memory = Memory::of_file(alloc, file)?;
-    let symbols = SymbolTable::of_file(alloc, file)?;
-    Ok(Some(World::new(alloc, file, symbols, memory, doings)))
-}
-
 impl<'a> Rows<'a> {
     pub(crate) fn new(alloc: Global, file: &'a File) -> Self {
         Rows {
@@ -289,7 +273,8 @@ impl<'a> Rows<'a> {
             put_value(&mut self.said, *arg)?;
         }
         self.said.push_str(":")?;
-        match world_of(self.alloc, self.file, text)? {
+        let doings = doings(self.alloc, text)?;
+        match World::of(self.alloc, self.file, doings)? {
             Some(world) => self.function.run(world, args.as_slice(), &mut self.said),
             None => Ok(()),
         }

@@ -1,0 +1,36 @@
+//! What `cmmc list` prints of texts.
+//!
+//! A row has the word of a stage, what of its text is shown, a bar, and a Cmm text, or `same` for the one before. Shown is
+//! the `whole` text; its `first` line; the instruction on `top`, which is the line after that; its lines without their
+//! address (`sizes`); how many different `slots` stand in it; or the instructions of one operation, as `alloc`.
+//! Instructions are shown with `_` for each register's name and `L_` for each label (`shown`).
+//!
+//! The answers were made by hand, from what the passes promise: names of registers (but the one that a descriptor names,
+//! the first that external calls keep), and the order of moves, are not part of it.
+use crate::shown::shown_of;
+use anyhow::Result;
+use rows_lines::{Table, Top};
+use std::thread::Threads;
+
+/// What is shown of the text that a row asks for, under the stage and the word that says what is shown.
+pub fn said_to<R: Threads + Sync, T: Top>(
+    table: &mut Table<'_, R, T>,
+    row: &str,
+) -> Result<Vec<u8>> {
+    let alloc = table.alloc();
+    let Some((words, text)) = row.split_once(" | ") else {
+        return Ok(b"no bar\n".to_vec(alloc)?);
+    };
+    let Some((stage, part)) = words.split_once(' ') else {
+        return Ok(b"no part\n".to_vec(alloc)?);
+    };
+    let command = format!(in alloc; "list {stage}")?;
+    let answer = table.answer_to(command.as_str(), text)?;
+    let status = answer.status;
+    let head = format!(in alloc; "{stage} {part}: status {status}\n")?;
+    let mut said = head.into_bytes();
+    let listed = str::from_utf8(answer.out.as_slice())?;
+    said.extend_from_slice(shown_of(alloc, part, listed)?.as_slice())?;
+    said.extend_from_slice(answer.err.as_slice())?;
+    Ok(said)
+}

@@ -1,0 +1,8 @@
+use Rattle.text_commands.proofs.Known.{few_functions}
+use Rattle.rows_commands.proofs.evaluated.told.Goals as goal
+
+pub call_of-requires-clause-few : goal.call_of-requires-clause-few
+call_of-requires-clause-few c = rw (c.file-file.ensures.same, c.typed.ensures) (few_functions _ _ c.in-Ok.ensures.file)
+
+pub told_of_run-requires-clause-few : goal.told_of_run-requires-clause-few
+told_of_run-requires-clause-few c = rw (c.file-file.ensures.same, c.typed.ensures) (few_functions _ _ c.in-Ok.ensures.file)

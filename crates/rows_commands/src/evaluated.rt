@@ -1,0 +1,61 @@
+//! What a run of a text comes to: what `cmmc check` prints, for every text that has no fault.
+//!
+//! A row has the words of a `check`, a bar, and a Cmm text: `f --args=1 | (function "f" (x:int) x)`. The frames and
+//! addresses of functions are made by hand here, so that no compiler has a part in what is shown. The lines are those of a
+//! second evaluator, written from the rules alone.
+use anyhow::Result;
+use cmm_eval::Layout;
+use cmm_front::front;
+use command_line::{Command, read_words};
+use std::alloc::{AllocError, Global};
+use text_commands::{CallRefusal, call_of, told_of_run};
+
+/// The most functions of a text.
+const FUNCTIONS: u32 = 64;
+
+/// Frames of 32 bytes and 16 more for each function before, and addresses that are 64 bytes apart.
+fn layout(alloc: Global) -> Result<Layout, AllocError> {
+    let mut frames = Vec::new(alloc);
+    let mut addresses = Vec::new(alloc);
+    for number in 0..FUNCTIONS {
+        frames.push(32 + 16 * number)?;
+        addresses.push(0x1_0010 + 64 * u64::from(number))?;
+    }
+    Ok(Layout { frames, addresses })
+}
+
+/// What is reported of a row.
+pub(crate) fn said_to(alloc: Global, row: &str) -> Result<Vec<u8>> {
+    let layout = layout(alloc)?;
+    told(alloc, &layout, row)
+}
+
+/// What is reported of a row.
+fn told(alloc: Global, layout: &Layout, row: &str) -> Result<Vec<u8>> {
+    let Some((words, text)) = row.split_once(" | ") else {
+        return Ok(b"no bar\n".to_vec(alloc)?);
+    };
+    let mut all = Vec::new(alloc);
+    all.push(String::from_str(alloc, "check")?)?;
+    for word in words.split(' ') {
+        all.push(String::from_str(alloc, word)?)?;
+    }
+    let check = match read_words(alloc, all.as_slice()) {
+        Ok(Command::Check(check)) => check,
+        _ => return Ok(b"no words\n".to_vec(alloc)?),
+    };
+    let checked = match front(alloc, text.as_bytes()) {
+        Ok(checked) => checked,
+        Err(_) => return Ok(b"a fault\n".to_vec(alloc)?),
+    };
+    let file = checked.typed().file();
+    match call_of(alloc, file, &check) {
+        Ok(call) => {
+            let told = told_of_run(alloc, file, layout, &call, check.fuel)?;
+            Ok(told.into_vec())
+        }
+        Err(CallRefusal::UnknownEntry) => Ok(b"U3 UnknownEntry\n".to_vec(alloc)?),
+        Err(CallRefusal::ArgumentUnfit) => Ok(b"U4 ArgumentUnfit\n".to_vec(alloc)?),
+        Err(CallRefusal::OutOfMemory) => Ok(b"no memory\n".to_vec(alloc)?),
+    }
+}
