@@ -8,7 +8,7 @@ use Rattle.cmm_types.specs.Annotated.{IsAnnotated, PartsTyped}
 use Rattle.cmm_types.specs.Types.{Scoped, type_of}
 use Rattle.cmm_walks.proofs.Shapes.{Shape}
 use Rattle.mach_ir.specs.declared.mach.Instr.{Instr}
-use Rattle.selection.specs.Below.{code_at, node_code}
+use Rattle.selection_operands.specs.Below.{code_at, node_code}
 use Rattle.selection_scope.specs.Room.{HasRoom}
 use Rattle.selection_scope.specs.Scoping.{Visible}
 use Rattle.selection_scope.specs.declared.place.Place.{Place}

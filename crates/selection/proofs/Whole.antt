@@ -18,7 +18,7 @@ use Rattle.mach_ir.specs.declared.reg.Reg.{Reg}
 use Rattle.selection_rules.specs.Select.{scopes, fresh, is_no_value, select, seats, with_params, params_from, moves_all, returns, colour_regs, selected, width}
 use Rattle.selection.specs.Whole.{numbers_in, body_code}
 use Rattle.selection.specs.declared.function.Numbers.{Numbers}
-use Rattle.selection.proofs.Bindings.{scopes-params}
+use Rattle.selection_control.proofs.Bindings.{scopes-params}
 use Rattle.selection_scope.specs.Scoping.{Visible, names_in}
 
 abbrev record_of : ℕ → ℕ → ℕ → ℕ → ℕ → Numbers

@@ -2,17 +2,17 @@
 ghost use Rattle.std.specs.Prelude.{◌≡◌, ◌+◌, ◌≤◌, OnOk};
 ghost use Rattle.cmm_tree.specs.View.{expr_view};
 ghost use Rattle.cmm_types.specs.Annotated.{IsAnnotated};
-ghost use Rattle.selection.specs.Below.{code_at, MayCall, Selects};
+ghost use Rattle.selection_operands.specs.Below.{code_at, MayCall, Selects};
 ghost use Rattle.selection_scope.specs.Room.{HasRoom, most_tries};
 ghost use Rattle.selection_scope.specs.Scoping.{names_in};
 
-use crate::choices::{if_else, operator, seq, switch};
-use crate::leaving::{Outside, app, exit, extcall, raise};
-use crate::memory::{alloc, checkbound, load, store};
-use crate::operands::Below;
-use crate::scoping::{assign, catch, let_in, try_with};
 use cmm_tree::{Expr, Form};
 use selection_code::backwards::Backwards;
+use selection_control::choices::{if_else, operator, seq, switch};
+use selection_control::scoping::{assign, catch, let_in, try_with};
+use selection_operands::leaving::{Outside, app, exit, extcall, raise};
+use selection_operands::memory::{alloc, checkbound, load, store};
+use selection_operands::operands::Below;
 use selection_scope::place::{Node, Place};
 use selection_scope::scope::Scope;
 use std::alloc::AllocError;

@@ -5,12 +5,7 @@
 //! that the checked tree holds.
 #![tactic(auto)]
 
-mod choices;
 mod forms;
 mod function;
-mod leaving;
-mod memory;
-mod operands;
-mod scoping;
 
 pub use function::{select, select_function};

@@ -1,7 +1,7 @@
 use Rattle.std.proofs.Common.{length, ap, ◌∙◌, arith}
 use Rattle.std.proofs.lemmas.List.{length-map}
 use Rattle.cmm_tree.specs.View.{param_view, params_view}
-use Rattle.selection.proofs.Rooms.{length-params}
+use Rattle.selection_control.proofs.Rooms.{length-params}
 use Rattle.selection.proofs.function.put_params.Goals as goal
 
 pub seats-requires : goal.seats-requires

@@ -1,0 +1,9 @@
+pub mod Ends
+pub mod Rooms
+pub mod Bindings
+pub mod Choosing
+pub mod Binding
+pub mod LastParts
+pub mod Branches
+pub mod TwoOperands
+pub mod Outlines

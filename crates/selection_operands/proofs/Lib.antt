@@ -1,0 +1,9 @@
+pub mod Addresses
+pub mod Rooms
+pub mod Ordered
+pub mod Steps
+pub mod Accesses
+pub mod Waiting
+pub mod RowForms
+pub mod CallNumbers
+pub mod Outlines

@@ -1,0 +1,76 @@
+-- Operands in a row, from the first on: each is put into its register at once, or waits.
+use Rattle.std.proofs.Common.{◌≡◌, ℕ, suc, ◌+◌, ◌-◌, ◌≤◌, ◌&&◌, Bool, true, false, not, List, [], ◌∷◌, Option, Some, None, length, get_or, take, drop, refl, ap, ◌∙◌, arith}
+use Rattle.cmm_tree.specs.Rows.{row_of}
+use Rattle.cmm_tree.specs.View.{expr_view}
+use Rattle.cmm_tree.specs.declared.expr.Expr.{Expr}
+use Rattle.cmm_types.specs.Annotated.{IsAnnotated}
+use Rattle.cmm_types.specs.Light.{is_light_address}
+use Rattle.cmm_types.specs.Types.{type_of}
+use Rattle.mach_ir.specs.declared.mach.Instr.{Instr}
+use Rattle.mach_ir.specs.declared.reg.Reg.{Reg}
+use Rattle.selection_rules.specs.Select.{Code, fresh, select, only_when, unless_symbol, select_waiting, select_filled, width}
+use Rattle.selection_operands.specs.Operands.{lacks}
+use Rattle.selection_scope.specs.Scoping.{Visible, names_in}
+
+-- the code of an operand, if it is needed here
+abbrev here : Visible → ℕ → Expr → List Instr → Bool → Reg → List Instr
+here scope base e next needed r = only_when needed (select scope.names scope.labels false false r base (expr_view e)) next
+
+here-is : (scope : Visible) (reg base : ℕ) (e : Expr) (r : Reg) (needed now : Bool) (next made : List Instr)
+    → needed ≡ now
+    → IsAnnotated (names_in scope) e
+    → r ≡ fresh reg e.ty
+    → made ≡ here scope base e next needed r
+    → made ≡ here scope base e next now (fresh reg (type_of (names_in scope) (expr_view e)))
+here-is scope reg base e r needed now next made w t f m =
+    m ∙ ap (λ x. here scope base e next x r) w ∙ ap (here scope base e next now) (f ∙ ap (fresh reg) t.type)
+
+pub waiting-more : (scope : Visible) (n b reg base : ℕ) (r : Reg) (light needed : Bool) (e : Expr) (rest : List Expr) (next made : List Instr)
+    → n ≡ suc reg
+    → b ≡ base + width (expr_view e)
+    → light ≡ is_light_address (names_in scope) (expr_view e)
+    → needed ≡ not light
+    → IsAnnotated (names_in scope) e
+    → r ≡ fresh reg e.ty
+    → made ≡ only_when needed (select scope.names scope.labels false false r base (expr_view e)) next
+    → select_waiting scope.names scope.labels n b (row_of rest) made ≡ select_waiting scope.names scope.labels reg base (row_of (e ∷ rest)) next
+waiting-more scope n b reg base r light needed e rest next made p q l w t f m =
+    let env = scope.names in
+    let labels = scope.labels in
+    ap (λ k. select_waiting env labels k b (row_of rest) made) p
+    ∙ ap (λ k. select_waiting env labels (suc reg) k (row_of rest) made) q
+    ∙ ap (select_waiting env labels (suc reg) (base + width (expr_view e)) (row_of rest)) (here-is scope reg base e r needed _ next made (w ∙ ap not l) t f m)
+
+pub filled-more : (scope : Visible) (n b reg base : ℕ) (r : Reg) (light : Bool) (e : Expr) (rest : List Expr) (next made : List Instr)
+    → n ≡ suc reg
+    → b ≡ base + width (expr_view e)
+    → light ≡ is_light_address (names_in scope) (expr_view e)
+    → IsAnnotated (names_in scope) e
+    → r ≡ fresh reg e.ty
+    → made ≡ only_when light (select scope.names scope.labels false false r base (expr_view e)) next
+    → select_filled scope.names scope.labels n b (row_of rest) made ≡ select_filled scope.names scope.labels reg base (row_of (e ∷ rest)) next
+filled-more scope n b reg base r light e rest next made p q l t f m =
+    let env = scope.names in
+    let labels = scope.labels in
+    ap (λ k. select_filled env labels k b (row_of rest) made) p
+    ∙ ap (λ k. select_filled env labels (suc reg) k (row_of rest) made) q
+    ∙ ap (select_filled env labels (suc reg) (base + width (expr_view e)) (row_of rest)) (here-is scope reg base e r light _ next made l t f m)
+
+-- a callee that is no symbol and does not wait
+pub called-here : (light : Bool) (name : Option (List ℕ)) (c : Code) (n : List Instr) → only_when (not light && lacks name) c n ≡ only_when (not light) (unless_symbol name c) n
+called-here true (Some name) c n = refl
+called-here true None c n = refl
+called-here false (Some name) c n = refl
+called-here false None c n = refl
+
+-- ---- the first of a row
+
+take-whole : {A : Type 0} (xs : List A) → take (length xs) xs ≡ xs
+take-whole [] = refl
+take-whole (x ∷ xs) = ap (λ l. x ∷ l) (take-whole xs)
+
+pub first-of : {A : Type 0} (xs : List A) (x : A) → 1 ≤ length xs → x ≡ get_or xs 0 x → x ∷ take (length xs - 1) (drop 1 xs) ≡ xs
+first-of [] x some is = absurd (omega arith)
+first-of (y ∷ ys) x some is =
+    let count : length (y ∷ ys) - 1 ≡ length ys = omega arith in
+    ap (λ z. z ∷ take (length (y ∷ ys) - 1) ys) is ∙ ap (λ n. y ∷ take n ys) count ∙ ap (λ l. y ∷ l) (take-whole ys)

@@ -1,0 +1,56 @@
+use Rattle.std.proofs.Common.{◌≡◌, suc, ◌+◌, ◌-◌, ◌∷◌, not, List, length, take, drop, refl, ap, sym, ◌∙◌, subst, arith}
+use Rattle.cmm_tree.specs.Rows.{row_of}
+use Rattle.cmm_tree.specs.declared.expr.Expr.{Expr}
+use Rattle.cmm_types.specs.Lists.{AreAnnotated}
+use Rattle.selection_rules.specs.Select.{select_waiting}
+use Rattle.selection_operands.proofs.Waiting.{waiting-more, first-of}
+use Rattle.selection_operands.proofs.Rooms.{row-first, row-room-first}
+use Rattle.selection_scope.specs.Scoping.{Visible, names_in}
+use Rattle.selection_operands.proofs.operands.waiting.Goals as goal
+
+pub loop-rest-preserved : goal.loop-rest-preserved
+loop-rest-preserved g c =
+    let e = c.expr-item.result in
+    let rest = c.loop-rest.rest.now in
+    let others = take (length rest - 1) (drop 1 rest) in
+    let s = c.loop-rest.scope in
+    let reg = c.loop-rest.reg in
+    let base = c.loop-rest.base in
+    let number = reg + 1 in
+    let behind = c.behind-base.result in
+    let made = c.put_operand.new.code in
+    let light = c.is_light_address-waits.result in
+    let whole : e ∷ others ≡ rest = first-of rest e c.in-len1-up.len_at_least c.expr-item.is in
+    let P : List Expr → Type 0 = λ l. AreAnnotated (names_in s) l in
+    let typed : P (e ∷ others) = subst P (sym whole) c.loop-rest.invariant.typed in
+    let Q : Visible → Type 0 = λ v. AreAnnotated (names_in v) others in
+    let next : number ≡ suc reg = omega arith in
+    record {
+      code =
+          sym (ap (λ (v : Visible). select_waiting v.names v.labels number behind (row_of others) made) c.loop-rest.invariant.scope)
+          ∙ waiting-more s number behind reg base c.fresh.result light (not light) e others c.loop-rest.code made next c.behind-base.ensures c.is_light_address-waits.ensures refl typed.0 c.fresh.ensures c.in_ok-put_operand.ensures.code
+          ∙ ap (λ l. select_waiting s.names s.labels reg base (row_of l) c.loop-rest.code) whole
+          ∙ ap (λ (v : Visible). select_waiting v.names v.labels reg base (row_of rest) c.loop-rest.code) c.loop-rest.invariant.scope
+          ∙ c.loop-rest.invariant.code;
+      reg = omega (arith, c.loop-rest.invariant.reg, ap length whole);
+      begins = omega (arith, c.loop-rest.invariant.begins, c.behind-base.ensures);
+      room = omega (arith, row-first base rest others e whole c.loop-rest.invariant.room, c.behind-base.ensures);
+      scope = c.in_ok-put_operand.ensures.scope ∙ c.loop-rest.invariant.scope;
+      typed = subst Q (sym c.in_ok-put_operand.ensures.scope) typed.1;
+    }
+
+pub put_operand-requires-clause-room : goal.put_operand-requires-clause-room
+put_operand-requires-clause-room g c =
+    let e = c.expr-item.result in
+    let rest = c.loop-rest.rest.now in
+    let others = take (length rest - 1) (drop 1 rest) in
+    let whole : e ∷ others ≡ rest = first-of rest e c.in-len1-up.len_at_least c.expr-item.is in
+    row-room-first c.loop-rest.base rest others e whole c.loop-rest.invariant.room
+
+pub behind-base-requires : goal.behind-base-requires
+behind-base-requires g c =
+    let e = c.expr-item.result in
+    let rest = c.loop-rest.rest.now in
+    let others = take (length rest - 1) (drop 1 rest) in
+    let whole : e ∷ others ≡ rest = first-of rest e c.in-len1-up.len_at_least c.expr-item.is in
+    omega (arith, row-room-first c.loop-rest.base rest others e whole c.loop-rest.invariant.room)

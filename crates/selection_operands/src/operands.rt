@@ -1,0 +1,192 @@
+//! Operands: the order of their code, and those that need none.
+ghost use Rattle.std.specs.Prelude.{◌≡◌, ◌+◌, ◌<◌, ◌≤◌, length, OnOk};
+ghost use Rattle.cmm_tree.specs.Rows.{row_of};
+ghost use Rattle.cmm_tree.specs.View.{expr_view};
+ghost use Rattle.cmm_types.specs.Annotated.{IsAnnotated};
+ghost use Rattle.cmm_types.specs.Lists.{AreAnnotated};
+ghost use Rattle.selection_rules.specs.Select.{ordered, select_waiting, select_filled, width_row};
+ghost use Rattle.selection_operands.specs.Below.{code_at, MayCall, Selects};
+ghost use Rattle.selection_operands.specs.Operands.{operand_code};
+ghost use Rattle.selection_scope.specs.Room.{HasRoom, indexes_in_row, most_numbers, most_tries};
+ghost use Rattle.selection_scope.specs.Scoping.{names_in};
+
+use cmm_tree::Expr;
+use mach_ir::Reg;
+use selection_code::backwards::Backwards;
+use selection_scope::light::is_light_address;
+use selection_scope::place::{Place, fresh, operand_at};
+use selection_scope::scope::Scope;
+use selection_scope::width::behind;
+use std::alloc::AllocError;
+
+/// What selects the expressions below a node, whose numbers begin with this one or a later one.
+#[derive(Drop)]
+pub struct Below<'f, F> {
+    pub first: u32,
+    pub select: &'f F,
+}
+
+/// An operand: the register for its value, and the first of its own numbers. Where the instruction has a constant in its
+/// place it needs no code.
+#[derive(Clone, Copy)]
+pub struct Operand<'e> {
+    pub expr: &'e Expr,
+    pub reg: Reg,
+    pub base: u32,
+    pub needed: bool,
+}
+
+/// An expression.
+pub fn one<F: Fn(&mut Scope, &mut Backwards, Place, &Expr) -> Result<(), AllocError>>(
+    below: &Below<'_, F>,
+    scope: &mut Scope,
+    code: &mut Backwards,
+    place: Place,
+    expr: &Expr,
+) -> Result<(), AllocError>
+    requires callable { MayCall (F.pre below.now.select.now) below.now.first }
+    requires selects { Selects (F.post below.now.select.now) below.now.first }
+    requires tries { most_tries scope.old.labels ≤ below.now.first }
+    requires begins { below.now.first ≤ place.base }
+    requires room { HasRoom place.base (expr_view expr.now) }
+    requires typed { IsAnnotated (names_in scope.old) expr.now }
+    ensures code { OnOk result (code.new ≡ code_at scope.old place expr.now code.old) }
+    ensures scope { OnOk result (scope.new ≡ scope.old) }
+{
+    (below.select)(scope, code, place, expr)
+}
+
+/// An operand.
+pub fn put_operand<F: Fn(&mut Scope, &mut Backwards, Place, &Expr) -> Result<(), AllocError>>(
+    below: &Below<'_, F>,
+    scope: &mut Scope,
+    code: &mut Backwards,
+    operand: &Operand<'_>,
+) -> Result<(), AllocError>
+    requires callable { MayCall (F.pre below.now.select.now) below.now.first }
+    requires selects { Selects (F.post below.now.select.now) below.now.first }
+    requires tries { most_tries scope.old.labels ≤ below.now.first }
+    requires begins { below.now.first ≤ operand.now.base }
+    requires room { HasRoom operand.now.base (expr_view operand.now.expr.now) }
+    requires typed { IsAnnotated (names_in scope.old) operand.now.expr.now }
+    ensures code { OnOk result (code.new ≡ operand_code scope.old operand.now code.old) }
+    ensures scope { OnOk result (scope.new ≡ scope.old) }
+{
+    if operand.needed {
+        let place = operand_at(operand.reg, operand.base);
+        return one(below, scope, code, place, operand.expr);
+    }
+    Ok(())
+}
+
+/// Two operands, the left one first or the right one.
+pub fn both<F: Fn(&mut Scope, &mut Backwards, Place, &Expr) -> Result<(), AllocError>>(
+    below: &Below<'_, F>,
+    scope: &mut Scope,
+    code: &mut Backwards,
+    left_first: bool,
+    left: &Operand<'_>,
+    right: &Operand<'_>,
+) -> Result<(), AllocError>
+    requires callable { MayCall (F.pre below.now.select.now) below.now.first }
+    requires selects { Selects (F.post below.now.select.now) below.now.first }
+    requires tries { most_tries scope.old.labels ≤ below.now.first }
+    requires left_begins { below.now.first ≤ left.now.base }
+    requires right_begins { below.now.first ≤ right.now.base }
+    requires left_room { HasRoom left.now.base (expr_view left.now.expr.now) }
+    requires right_room { HasRoom right.now.base (expr_view right.now.expr.now) }
+    requires left_typed { IsAnnotated (names_in scope.old) left.now.expr.now }
+    requires right_typed { IsAnnotated (names_in scope.old) right.now.expr.now }
+    ensures code { OnOk result (code.new ≡ ordered left_first
+        (operand_code scope.old left.now) (operand_code scope.old right.now) code.old) }
+    ensures scope { OnOk result (scope.new ≡ scope.old) }
+{
+    if left_first {
+        put_operand(below, scope, code, right)?;
+        put_operand(below, scope, code, left)
+    } else {
+        put_operand(below, scope, code, left)?;
+        put_operand(below, scope, code, right)
+    }
+}
+
+/// The operands that do not wait. Their registers have the numbers from `number` on, and their own numbers begin with
+/// `first`.
+pub fn waiting<F: Fn(&mut Scope, &mut Backwards, Place, &Expr) -> Result<(), AllocError>>(
+    below: &Below<'_, F>,
+    scope: &mut Scope,
+    code: &mut Backwards,
+    number: u32,
+    first: u32,
+    exprs: &[Expr],
+) -> Result<(), AllocError>
+    requires callable { MayCall (F.pre below.now.select.now) below.now.first }
+    requires selects { Selects (F.post below.now.select.now) below.now.first }
+    requires tries { most_tries scope.old.labels ≤ below.now.first }
+    requires begins { below.now.first ≤ first }
+    requires numbers { number + length exprs.now < most_numbers }
+    requires room { first + (width_row (row_of exprs.now) + indexes_in_row (row_of exprs.now))
+        < most_numbers + length exprs.now }
+    requires typed { AreAnnotated (names_in scope.old) exprs.now }
+    ensures code { OnOk result (code.new ≡ select_waiting scope.old.names scope.old.labels
+        number first (row_of exprs.now) code.old) }
+    ensures scope { OnOk result (scope.new ≡ scope.old) }
+{
+    let mut reg = number;
+    let mut base = first;
+    let mut rest = exprs;
+    while let [expr, others @ ..] = rest {
+        let waits = is_light_address(scope, expr);
+        let next = Operand {
+            expr,
+            reg: fresh(reg, expr.ty),
+            base,
+            needed: !waits,
+        };
+        put_operand(below, scope, code, &next)?;
+        reg += 1;
+        base = behind(base, expr);
+        rest = others;
+    }
+    Ok(())
+}
+
+/// The operands that have waited, as light addresses do.
+pub fn filled<F: Fn(&mut Scope, &mut Backwards, Place, &Expr) -> Result<(), AllocError>>(
+    below: &Below<'_, F>,
+    scope: &mut Scope,
+    code: &mut Backwards,
+    number: u32,
+    first: u32,
+    exprs: &[Expr],
+) -> Result<(), AllocError>
+    requires callable { MayCall (F.pre below.now.select.now) below.now.first }
+    requires selects { Selects (F.post below.now.select.now) below.now.first }
+    requires tries { most_tries scope.old.labels ≤ below.now.first }
+    requires begins { below.now.first ≤ first }
+    requires numbers { number + length exprs.now < most_numbers }
+    requires room { first + (width_row (row_of exprs.now) + indexes_in_row (row_of exprs.now))
+        < most_numbers + length exprs.now }
+    requires typed { AreAnnotated (names_in scope.old) exprs.now }
+    ensures code { OnOk result (code.new ≡ select_filled scope.old.names scope.old.labels
+        number first (row_of exprs.now) code.old) }
+    ensures scope { OnOk result (scope.new ≡ scope.old) }
+{
+    let mut reg = number;
+    let mut base = first;
+    let mut rest = exprs;
+    while let [expr, others @ ..] = rest {
+        let waits = is_light_address(scope, expr);
+        let next = Operand {
+            expr,
+            reg: fresh(reg, expr.ty),
+            base,
+            needed: waits,
+        };
+        put_operand(below, scope, code, &next)?;
+        reg += 1;
+        base = behind(base, expr);
+        rest = others;
+    }
+    Ok(())
+}
