@@ -47,7 +47,8 @@ pub fn operator<F: Fn(&mut Scope, &mut Backwards, Place, &Expr) -> Result<(), Al
     requires selects { Selects (F.post below.now.select.now) below.now.first }
     requires tries { most_tries scope.old.labels ≤ node.place.base }
     requires begins { below.now.first ≡ node.place.base + 1 }
-    requires room { HasRoom node.place.base (Operator 0 op (expr_view left.now) (expr_view right.now)) }
+    requires room { HasRoom node.place.base
+        (Operator 0 op (expr_view left.now) (expr_view right.now)) }
     requires left_typed { IsAnnotated (names_in scope.old) left.now }
     requires right_typed { IsAnnotated (names_in scope.old) right.now }
     requires ty { (at : ℕ) → node.ty ≡ type_of (names_in scope.old) (Operator at op (expr_view
@@ -242,8 +243,8 @@ pub fn if_else<F: Fn(&mut Scope, &mut Backwards, Place, &Expr) -> Result<(), All
     requires selects { Selects (F.post below.now.select.now) below.now.first }
     requires tries { most_tries scope.old.labels ≤ node.place.base }
     requires begins { below.now.first ≡ node.place.base + 1 }
-    requires room { HasRoom node.place.base (If 0 (expr_view condition_of.now) (expr_view on_true.now)
-        (expr_view on_false.now)) }
+    requires room { HasRoom node.place.base
+        (If 0 (expr_view condition_of.now) (expr_view on_true.now) (expr_view on_false.now)) }
     requires condition_typed { IsAnnotated (names_in scope.old) condition_of.now }
     requires true_typed { IsAnnotated (names_in scope.old) on_true.now }
     requires false_typed { IsAnnotated (names_in scope.old) on_false.now }
@@ -463,7 +464,8 @@ pub fn switch<F: Fn(&mut Scope, &mut Backwards, Place, &Expr) -> Result<(), Allo
     requires selects { Selects (F.post below.now.select.now) below.now.first }
     requires tries { most_tries scope.old.labels ≤ node.place.base }
     requires begins { below.now.first ≡ node.place.base + 1 }
-    requires room { HasRoom node.place.base (Switch 0 0 size (expr_view selector.now) (cases_of cases.now)) }
+    requires room { HasRoom node.place.base
+        (Switch 0 0 size (expr_view selector.now) (cases_of cases.now)) }
     requires selector_typed { IsAnnotated (names_in scope.old) selector.now }
     requires typed { AreCasesAnnotated (names_in scope.old) cases.now }
     requires ty { (at size_at : ℕ) → node.ty ≡ type_of (names_in scope.old) (Switch at size_at size

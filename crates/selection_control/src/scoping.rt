@@ -120,7 +120,8 @@ pub fn let_in<F: Fn(&mut Scope, &mut Backwards, Place, &Expr) -> Result<(), Allo
     requires selects { Selects (F.post below.now.select.now) below.now.first }
     requires tries { most_tries scope.old.labels ≤ node.place.base }
     requires begins { below.now.first ≡ node.place.base + 1 }
-    requires room { HasRoom node.place.base (Let 0 (bindings_of bindings.now) (expr_view body.now)) }
+    requires room { HasRoom node.place.base
+        (Let 0 (bindings_of bindings.now) (expr_view body.now)) }
     requires typed { AreBindingsAnnotated (names_in scope.old) bindings.now }
     requires body_typed { IsAnnotated (with_bindings (names_in scope.old) (bindings_of
         bindings.now)) body.now }
@@ -221,7 +222,8 @@ pub fn catch<F: Fn(&mut Scope, &mut Backwards, Place, &Expr) -> Result<(), Alloc
     requires selects { Selects (F.post below.now.select.now) below.now.first }
     requires tries { most_tries scope.old.labels ≤ node.place.base }
     requires begins { below.now.first ≡ node.place.base + 1 }
-    requires room { HasRoom node.place.base (Catch 0 (expr_view body.now) (handlers_of handlers.now)) }
+    requires room { HasRoom node.place.base
+        (Catch 0 (expr_view body.now) (handlers_of handlers.now)) }
     requires body_typed { IsAnnotated (names_in scope.old) body.now }
     requires typed { AreHandlersAnnotated (names_in scope.old) handlers.now }
     requires ty { (at : ℕ) → node.ty ≡ type_of (names_in scope.old) (Catch at (expr_view body.now)
@@ -315,7 +317,8 @@ pub fn try_with<F: Fn(&mut Scope, &mut Backwards, Place, &Expr) -> Result<(), Al
     requires selects { Selects (F.post below.now.select.now) below.now.first }
     requires tries { most_tries scope.old.labels ≤ node.place.base }
     requires begins { below.now.first ≡ node.place.base + 1 }
-    requires room { HasRoom node.place.base (Try 0 (expr_view body.now) 0 name.now (expr_view handler.now)) }
+    requires room { HasRoom node.place.base
+        (Try 0 (expr_view body.now) 0 name.now (expr_view handler.now)) }
     requires body_typed { IsAnnotated (names_in scope.old) body.now }
     requires typed { IsAnnotated (record {
       name = name.now;

@@ -112,7 +112,8 @@ pub fn app<F: Fn(&mut Scope, &mut Backwards, Place, &Expr) -> Result<(), AllocEr
     requires selects { Selects (F.post below.now.select.now) below.now.first }
     requires tries { most_tries scope.old.labels ≤ node.place.base }
     requires begins { below.now.first ≡ node.place.base + 1 }
-    requires room { HasRoom node.place.base (App 0 (expr_view callee.now) (row_of arguments.now) written 0) }
+    requires room { HasRoom node.place.base
+        (App 0 (expr_view callee.now) (row_of arguments.now) written 0) }
     requires callee_typed { IsAnnotated (names_in scope.old) callee.now }
     requires typed { AreAnnotated (names_in scope.old) arguments.now }
     requires ty { (at result_at : ℕ) → node.ty ≡ type_of (names_in scope.old) (App at (expr_view
@@ -267,7 +268,8 @@ pub fn exit<F: Fn(&mut Scope, &mut Backwards, Place, &Expr) -> Result<(), AllocE
     requires selects { Selects (F.post below.now.select.now) below.now.first }
     requires tries { most_tries scope.old.labels ≤ node.place.base }
     requires begins { below.now.first ≡ node.place.base + 1 }
-    requires room { HasRoom node.place.base (Exit 0 0 (label_view label.now) (row_of arguments.now)) }
+    requires room { HasRoom node.place.base
+        (Exit 0 0 (label_view label.now) (row_of arguments.now)) }
     requires typed { AreAnnotated (names_in scope.old) arguments.now }
     requires ty { (at label_at : ℕ) → node.ty ≡ type_of (names_in scope.old) (Exit at label_at
         (label_view label.now) (row_of arguments.now)) }

@@ -104,7 +104,8 @@ pub fn store<F: Fn(&mut Scope, &mut Backwards, Place, &Expr) -> Result<(), Alloc
     requires selects { Selects (F.post below.now.select.now) below.now.first }
     requires tries { most_tries scope.old.labels ≤ node.place.base }
     requires begins { below.now.first ≡ node.place.base + 1 }
-    requires room { HasRoom node.place.base (Store 0 chunk (expr_view address.now) (expr_view value.now)) }
+    requires room { HasRoom node.place.base
+        (Store 0 chunk (expr_view address.now) (expr_view value.now)) }
     requires address_typed { IsAnnotated (names_in scope.old) address.now }
     requires value_typed { IsAnnotated (names_in scope.old) value.now }
     requires ty { (at : ℕ) → node.ty ≡ type_of (names_in scope.old) (Store at chunk (expr_view
@@ -146,7 +147,8 @@ pub fn checkbound<F: Fn(&mut Scope, &mut Backwards, Place, &Expr) -> Result<(), 
     requires selects { Selects (F.post below.now.select.now) below.now.first }
     requires tries { most_tries scope.old.labels ≤ node.place.base }
     requires begins { below.now.first ≡ node.place.base + 1 }
-    requires room { HasRoom node.place.base (Checkbound 0 (expr_view bound.now) (expr_view index.now)) }
+    requires room { HasRoom node.place.base
+        (Checkbound 0 (expr_view bound.now) (expr_view index.now)) }
     requires bound_typed { IsAnnotated (names_in scope.old) bound.now }
     requires index_typed { IsAnnotated (names_in scope.old) index.now }
     requires ty { (at : ℕ) → node.ty ≡ type_of (names_in scope.old) (Checkbound at (expr_view
