@@ -6,7 +6,7 @@
 
 mod made;
 
-ghost use Rattle.std.specs.Prelude.{◌≡◌, length, map, IfOk};
+ghost use Rattle.std.specs.Prelude.{◌≡◌, ◌<◌, ◌^◌, length, map};
 ghost use Rattle.cmm_front.specs.FileOf.{HasPlace};
 ghost use Rattle.cmm_tree.specs.Tree.{functions_among};
 ghost use Rattle.cmm_tree.specs.View.{file_view, item_view};

@@ -5,7 +5,7 @@
 //! beginning on and numbers registers from the tree alone.
 #![tactic(auto)]
 
-ghost use Rattle.std.specs.Prelude.{◌≡◌, length, map, IfOk};
+ghost use Rattle.std.specs.Prelude.{◌≡◌, ◌<◌, ◌^◌, length, map};
 ghost use Rattle.cmm_tree.specs.Tree.{functions_among};
 ghost use Rattle.cmm_tree.specs.View.{item_view};
 
@@ -14,7 +14,7 @@ use cmm_front::front;
 use cmm_tree::Item;
 use mach_ir::text;
 use selection::select;
-use std::alloc::{AllocError, Global};
+use std::alloc::Global;
 use std::io::{self, BufRead, BufReader, BufWriter, Write};
 
 fn main(rt: HostRuntime) -> Result<()> {
