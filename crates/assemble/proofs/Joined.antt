@@ -12,7 +12,7 @@ use Rattle.fork_join.specs.Calls.{AreGiven, AreGivenFrom}
 use Rattle.image_form.specs.Tables.{Desc, desc}
 use Rattle.layout_rules.specs.declared.form.Form.{Form}
 use Rattle.layout_rules.specs.Forms.{total_words}
-use Rattle.layout_rules.specs.Laid.{stub_words, entries_from, function_words, code_from, descs_in, descs_from}
+use Rattle.layout_rules.specs.Laid.{stub_words, entries_from, code_from, descs_from}
 use Rattle.rv_pieces.specs.declared.piece.Pieces.{Pieces}
 
 -- the parts are the code of these functions, the first of which begins here

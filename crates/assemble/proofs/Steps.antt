@@ -11,8 +11,8 @@ use Rattle.layout_rules.specs.declared.form.Form.{Form}
 use Rattle.layout_rules.specs.Forms.{total_words}
 use Rattle.layout_rules.specs.Laid.{entries_from, AreAllForms}
 use Rattle.layout_rules.proofs.Rules.{all_words}
-use Rattle.rv_layout.proofs.Steps.{drop_step}
 use Rattle.rv_pieces.specs.declared.piece.Pieces.{Pieces}
+use Rattle.bs_words.proofs.Lists.{drop_step}
 
 abbrev pub own_forms : Laid → List Form
 own_forms own = own.forms.items

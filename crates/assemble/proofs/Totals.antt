@@ -15,20 +15,21 @@ use Rattle.cmm_tree.specs.Tree.{FunctionTree, Parameter, functions_among}
 use Rattle.cmm_tree.specs.View.{param_view, function_view, item_view}
 use Rattle.cmm_tree.specs.declared.file.Item.{Item}
 use Rattle.cmm_tree.specs.declared.file.Item.TheVariants as item
-use Rattle.image_form.specs.Image.{IsExt, le16, le32, le_entry, name_bytes, params_bytes, func_bytes, sym_bytes, ext_bytes, desc_bytes, table_bytes, comp_byte, ret_byte}
+use Rattle.image_form.specs.Image.{IsExt, le32, le_entry, name_bytes, params_bytes, func_bytes, sym_bytes, ext_bytes, desc_bytes, table_bytes, ret_byte}
 use Rattle.image_form.specs.Tables.{Func, Sym, Ext, Desc, ext}
 use Rattle.image_form.specs.declared.image.ExtRow.{ExtRow}
-use Rattle.image_form.proofs.Lengths.{length-le16, length-le32}
+use Rattle.image_form.proofs.Lengths.{length-le32, name_length, params_length}
 use Rattle.layout_rules.specs.declared.form.Form.{Form}
 use Rattle.layout_rules.specs.Conditions.{IsRowLaid, weight, weight_of}
 use Rattle.layout_rules.specs.Forms.{words_of, total_words, place_of}
 use Rattle.layout_rules.specs.Laid.{row_at, rows_from, sym_of, desc_at, descs_in, descs_from, AreAllForms}
 use Rattle.layout_rules.proofs.Functions.{forms_length}
 use Rattle.rv_layout.specs.Descs.{desc_in}
-use Rattle.rv_layout.proofs.Steps.{drop_step, descs_step}
+use Rattle.rv_layout.proofs.Steps.{descs_step}
 use Rattle.rv_pieces.specs.declared.piece.Piece.{Piece}
 use Rattle.rv_pieces.specs.declared.piece.Piece.TheVariants.{Known, Label, Branch, Jump, Row, LabelAddress, Call, TailCall, SymbolAddress, ExternalNumber, Descriptor}
 use Rattle.rv_pieces.specs.declared.piece.Pieces.{Pieces}
+use Rattle.bs_words.proofs.Lists.{drop_step}
 
 -- ---- a sum that is made one after the other
 
@@ -51,14 +52,6 @@ flat_length row size each (x ∷ xs) = omega (arith, length-append (row x) (flat
 pub table_length : {A : Type 0} (row : A → List ℕ) (size : A → ℕ) → ((x : A) → length (row x) ≡ size x) → (xs : List A) → length (table_bytes row xs) ≡ 4 + sum_by size xs
 unfolding table_bytes
 table_length row size each xs = omega (arith, length-append (le32 (length xs)) (flat_map row xs), length-le32 (length xs), flat_length row size each xs)
-
-name_length : (name : List ℕ) → length (name_bytes name) ≡ 2 + length name
-unfolding name_bytes
-name_length name = omega (arith, length-append (le16 (length name)) name, length-le16 (length name))
-
-params_length : (params : List _) → length (params_bytes params) ≡ 1 + length params
-unfolding params_bytes
-params_length params = omega (arith, length-map params comp_byte)
 
 -- ---- functions
 

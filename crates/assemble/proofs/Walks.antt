@@ -25,12 +25,12 @@ use Rattle.layout_rules.specs.Words.{Named, target_of, words_to}
 use Rattle.layout_rules.proofs.Rules.{all_words}
 use Rattle.layout_rules.proofs.Standing.{words_by_targets}
 use Rattle.mach_ir.specs.Acts.{row_of}
-use Rattle.rv_layout.proofs.Steps.{drop_step}
 use Rattle.rv_layout.specs.Tables.{places_of, IsTableOf}
 use Rattle.rv_layout.specs.declared.labels.Labels.{Labels}
 use Rattle.rv_pieces.specs.declared.piece.Piece.{Piece}
 use Rattle.rv_pieces.specs.declared.piece.Piece.TheVariants.{Known, Label, Branch, Jump, Row, LabelAddress, Call, TailCall, SymbolAddress, ExternalNumber, Descriptor}
 use Rattle.rv_pieces.specs.declared.piece.Pieces.{Pieces}
+use Rattle.bs_words.proofs.Lists.{drop_step}
 
 -- Function i of a file is these pieces, laid out so, and its entry is here.
 pub record At (s : Source) (i : ℕ) (p : Pieces) (own : Laid) (entry : ℕ) : Type 0 where

@@ -3,3 +3,4 @@ pub mod Word
 mod Rows
 pub mod Lists
 pub mod Truths
+pub mod Places

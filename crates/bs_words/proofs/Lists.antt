@@ -1,5 +1,5 @@
 -- Lists and their members, where std's lemmas have no such form.
-use Rattle.std.proofs.Common.{[], arith, List, ◌∷◌, refl, suc, ◌≡◌, ℕ, zero, ◌<◌, ◌⊎◌, inl, inr, length, Some, drop, ⊎_elim, map, subst, All, AllPairs}
+use Rattle.std.proofs.Common.{[], arith, List, ◌∷◌, refl, suc, ◌≡◌, ◌∙◌, ap, sym, ℕ, zero, ◌+◌, ◌<◌, ◌⊎◌, inl, inr, ◌++◌, length, Some, drop, drop-cons, get_or, ⊎_elim, map, subst, All, AllPairs}
 use Rattle.std.specs.List.{Contains}
 use Rattle.std.specs.Prelude.{slice_index_or, slice_get}
 
@@ -33,11 +33,38 @@ pub drop_none : {A : Type 0} (xs : List A) → drop 0 xs ≡ xs
 drop_none [] = refl
 drop_none (x ∷ xs) = refl
 
+pub drop_step : {A : Type 0} (xs : List A) (i : ℕ) (x : A) → i < length xs → x ≡ get_or xs i x → drop i xs ≡ x ∷ drop (i + 1) xs
+drop_step xs i x h e =
+    let next : suc i ≡ i + 1 = omega arith in
+    drop-cons xs i x h ∙ (ap (λ y. y ∷ drop (suc i) xs) (sym e) ∙ ap (λ n. x ∷ drop n xs) next)
+
+pub same_some : {A : Type 0} (x y : A) → Some x ≡ Some y → x ≡ y
+same_some x y e = cc
+
 pub mapped : {A B : Type 0} (f : A → B) (xs : List A) (x : A) → Contains xs x → Contains (map f xs) (f x)
 mapped f [] x c = absurd (none_in x c)
 mapped f (y ∷ ys) x c =
     ⊎_elim (λ e. subst (λ z. Contains (f y ∷ map f ys) (f z)) e (first_in (f y) (map f ys)))
     (λ d. later_in (f y) (f x) (map f ys) (mapped f ys x d)) (in_cons y x ys c)
+
+-- ---- one more
+
+pub pushed_kept : {A : Type 0} (xs : List A) (y x : A) (q : ℕ) → slice_get xs q ≡ Some x → slice_get (xs ++ y ∷ []) q ≡ Some x
+pushed_kept [] y x q e = absurd (cc)
+pushed_kept (z ∷ zs) y x zero e = e
+pushed_kept (z ∷ zs) y x (suc q) e = pushed_kept zs y x q e
+
+pub pushed_here : {A : Type 0} (xs : List A) (y : A) → slice_get (xs ++ y ∷ []) (length xs) ≡ Some y
+pushed_here [] y = refl
+pushed_here (z ∷ zs) y = pushed_here zs y
+
+pub pushed_cases : {A : Type 0} (xs : List A) (y x : A) (q : ℕ) → slice_get (xs ++ y ∷ []) q ≡ Some x →
+    (slice_get xs q ≡ Some x) ⊎ ((q ≡ length xs) × (y ≡ x))
+pushed_cases [] y x zero e = inr (refl, (let f : y ≡ x = cc in f))
+pushed_cases [] y x (suc q) e = absurd (cc)
+pushed_cases (z ∷ zs) y x zero e = inl e
+pushed_cases (z ∷ zs) y x (suc q) e =
+    ⊎_elim (λ f. inl f) (λ f. inr (ap suc f.0, f.1)) (pushed_cases zs y x q e)
 
 -- ---- beginnings
 

@@ -6,3 +6,6 @@ bool_same true true f g = refl
 bool_same true false f g = sym (f refl)
 bool_same false true f g = g refl
 bool_same false false f g = refl
+
+pub not_both : (b : Bool) → b ≡ true → b ≡ false → ⊥
+not_both b e h = cc

@@ -23,6 +23,7 @@ use Rattle.placed_functions.specs.Placed.{IsPlacedFor}
 use Rattle.placed_functions.proofs.Exits.{selected_exits}
 use Rattle.placed_functions.proofs.Tries.{few_nest}
 use Rattle.chained_functions.proofs.Chained.{ended_few}
+use Rattle.bs_words.proofs.Places.{same_slot}
 
 -- ---- products
 
@@ -69,15 +70,12 @@ module _ {defined : List ℕ → Option DefinedSymbol} {tree : FunctionTree} (ac
       let at : r.origin ≡ k = of_place ((is.placed).places r among) in
       subst (λ n. n < 23 * tree.tokens) (o.same ∙ at) low
     where
-      same_slot : {a b : ℕ} → loc.Slot a ≡ loc.Slot b → a ≡ b
-      same_slot e = cc
-
       of_place : IsPlaced r → r.origin ≡ k
       of_place (in_colour n c e) = absurd (no_slot (sym e ∙ stands))
         where
           no_slot : {n : ℕ} → loc.Machine n ≡ loc.Slot k → ⊥
           no_slot e = cc
-      of_place (in_slot e) = same_slot (sym e ∙ stands)
+      of_place (in_slot e) = same_slot e stands
 
   pub line_room : HasLineRoom q
   line_room =

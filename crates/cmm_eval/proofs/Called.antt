@@ -36,10 +36,10 @@ use Rattle.eval_frames.specs.declared.frame.Frame.{Frame}
 use Rattle.eval_frames.specs.declared.frame.Step.TheVariants as step
 use Rattle.eval_frames.specs.declared.here.Here as here
 use Rattle.eval_frames.proofs.HeldCalls.{function_seen}
-use Rattle.eval_frames.proofs.Listed.{from_here}
 use Rattle.eval_frames.specs.declared.tests.Tests.{Tests}
 use Rattle.cmm_eval.proofs.Turns.{pushed}
 use Rattle.cmm_eval.proofs.Passing.{Meets, returns_none, returns_written}
+use Rattle.bs_words.proofs.Lists.{drop_step}
 
 -- ---- what lies outside
 
@@ -199,7 +199,7 @@ pub function_found : (items : List Item) (k : ℕ) (i : Item) (f : Bor Function)
     k < length items → i ≡ get_or items k i → i ≡ item.Function f.now → gs ≡ fs ++ f ∷ [] → AreFound items k fs → AreFound items (k + 1) gs
 function_found items k i f fs gs less at is more so =
     let rest = functions_in (drop (k + 1) items) in
-    let here : drop k items ≡ item.Function f.now ∷ drop (k + 1) items = from_here items k i less at ∙ ap (λ (j : Item). j ∷ drop (k + 1) items) is in
+    let here : drop k items ≡ item.Function f.now ∷ drop (k + 1) items = drop_step items k i less at ∙ ap (λ (j : Item). j ∷ drop (k + 1) items) is in
     ap (λ (l : List (Bor Function)). map (λ (g : Bor Function). g.now) l ++ rest) more
     ∙ found_last fs f rest
     ∙ sym (ap (λ (l : List Item). map (λ (g : Bor Function). g.now) fs ++ functions_in l) here)
@@ -208,7 +208,7 @@ function_found items k i f fs gs less at is more so =
 pub data_passed : (items : List Item) (k : ℕ) (i : Item) (d : DataList) (fs gs : List (Bor Function)) →
     k < length items → i ≡ get_or items k i → i ≡ item.Data d → gs ≡ fs → AreFound items k fs → AreFound items (k + 1) gs
 data_passed items k i d fs gs less at is same so =
-    let here : drop k items ≡ item.Data d ∷ drop (k + 1) items = from_here items k i less at ∙ ap (λ (j : Item). j ∷ drop (k + 1) items) is in
+    let here : drop k items ≡ item.Data d ∷ drop (k + 1) items = drop_step items k i less at ∙ ap (λ (j : Item). j ∷ drop (k + 1) items) is in
     ap (λ (l : List (Bor Function)). map (λ (g : Bor Function). g.now) l ++ functions_in (drop (k + 1) items)) same
     ∙ sym (ap (λ (l : List Item). map (λ (g : Bor Function). g.now) fs ++ functions_in l) here)
     ∙ so

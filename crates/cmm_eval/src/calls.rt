@@ -146,7 +146,8 @@ impl<'a> Machine<'a> {
         self.activate(around.alloc, form, tail, callee, arguments, written)
     }
 
-    /// The stack bytes below a callee: in tail position it takes the place of its caller.
+    /// The stack bytes below a callee: in tail position it takes the place of its caller. A stack of 2^64
+    /// bytes or more is answered as want of memory.
     fn stack_below(&self, tail: bool) -> Result<u64, AllocError>
         ensures { IfOk result (λ bytes. bytes ≡ stack_below tail (here_view self.now.here)) }
     {
@@ -157,7 +158,8 @@ impl<'a> Machine<'a> {
         }
     }
 
-    /// A call of a function with a frame of so many bytes.
+    /// A call of a function with a frame of so many bytes. The error is want of memory; a stack of 2^64
+    /// bytes or more is answered so too.
     fn activate(
         &mut self,
         alloc: Global,

@@ -30,7 +30,8 @@ pub(crate) struct Machine<'a> {
 impl<'a> Machine<'a> {
     /// Evaluates to the end, and answers how that came.
     ///
-    /// Each turn takes a unit, ends a frame or goes on in one, so that the turns never run out.
+    /// Each turn takes a unit, ends a frame or goes on in one. The error is want of memory; a stack or a heap of
+    /// 2^64 bytes or more, and more than 2^64 turns, are answered so too.
     #[tactic(auto, using(crate::proofs::Resumed::resume_push, crate::proofs::Resumed::resume_stops))]
     pub(crate) fn run(
         &mut self,

@@ -131,7 +131,7 @@ impl<'a> Machine<'a> {
         }
     }
 
-    /// The body of a try begins.
+    /// The body of a try begins. A stack of 2^64 bytes or more is answered as want of memory.
     fn begin_try(&mut self, body: &'a Expr) -> Result<Now<'a>, AllocError>
         ensures { IfOk result (λ now. (s : evaluation.Surroundings) →
             stands_in s self.new now ≡ goes_on_in s self.old (λ h w.

@@ -1,14 +1,13 @@
 -- The runs of what is drawn are proper.
 use Rattle.std.proofs.Common.{◌≡◌, ℕ, suc, ◌<◌, ◌^◌, false, List, [], ◌∷◌, length, refl, ap, arith}
 use Rattle.std.proofs.lemmas.Option.{slice_get_within}
-use Rattle.bs_words.specs.declared.values.Value.TheVariants.{Word}
 use Rattle.cmm_tree.specs.Tree.{FunctionTree, ItemTree, FileTree, functions, functions_among}
 use Rattle.cmm_meaning.specs.Layout.{Layout}
 use Rattle.cmm_meaning.specs.Evaluation.{Evaluation}
 use Rattle.cmm_meaning.specs.Run.{IsProper, first_world, callees, finished, cmm_run}
 use Rattle.cmm_gen.specs.Drawn.{DrawnFunction}
 use Rattle.cmm_gen.proofs.Trees
-use Rattle.cmm_gen.proofs.Trees.{IsFunctionTreeOf, AreItemsOf}
+use Rattle.cmm_gen.proofs.Trees.{AreItemsOf}
 use Rattle.cmm_gen.specs.Generated.{RunsProperly}
 use Rattle.cmm_gen.proofs.Symbols.{HasFunction, function_at, two_parameters}
 use Rattle.cmm_gen.proofs.Calls.{IsEnd, gives, out, call_on, callee_ends}

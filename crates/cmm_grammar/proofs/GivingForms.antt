@@ -30,7 +30,7 @@ use Rattle.cmm_grammar.specs.Parts.{ResultPart, BindingPart, CasePart, HandlerPa
 use Rattle.cmm_grammar.specs.Rewriting.{element_by, element, turn_by, turn}
 use Rattle.cmm_grammar.specs.Words.{leaf_of, word_of, passing, is_symbol_token, data_word_of}
 use Rattle.cmm_grammar.specs.Rule.{AToken, AnExpression, ABinding, ACase, AHandler, ADataItem, ADataWord, AnItem, Both, Rule}
-use Rattle.cmm_grammar.specs.Grammar.{a_token, close, a_comp, a_result, operands, sequence_to_close, sequence_to_with, a_binding, a_mutable_binding, bindings_to_close, let_body, let_form, assign_form, arguments_of, app_form, extcall_rest, extcall_form, alloc_form, loaded, stored, load_rest, store_rest, chunk_rest, chunked, load_form, store_form, paired, tripled, raise_form, pair_form, triple_form, float_form, seq_form, while_form, case_number, another_number, case_body, a_case, switch_form, a_parameter, parameters, label_rest, handler_rest, a_label, next_handler, more_handlers, labelled_handlers, bare_handler, catch_form, exit_rest, exit_form, try_form, form_of, form, a_data_integer, datum_of, a_data_item, data_items, data_list, a_function, item_rest, an_item}
+use Rattle.cmm_grammar.specs.Grammar.{a_token, a_comp, a_result, operands, sequence_to_close, sequence_to_with, a_binding, a_mutable_binding, bindings_to_close, let_body, let_form, assign_form, arguments_of, app_form, extcall_rest, extcall_form, alloc_form, loaded, stored, load_rest, store_rest, chunk_rest, chunked, load_form, store_form, paired, tripled, raise_form, pair_form, triple_form, float_form, seq_form, while_form, case_number, another_number, case_body, a_case, switch_form, a_parameter, parameters, label_rest, handler_rest, a_label, next_handler, more_handlers, labelled_handlers, bare_handler, catch_form, exit_rest, exit_form, try_form, form_of, form, a_data_integer, datum_of, a_data_item, data_items, data_list, a_function, item_rest, an_item}
 use Rattle.cmm_grammar.specs.Spelling.{Spells, AreItems, none, more}
 use Rattle.cmm_grammar.proofs.Giving.{Facts, AllKnown, front, back, DataHave, ItemHas, PartHas, PartsHave, Given, Gives, given}
 

@@ -1,12 +1,9 @@
 -- Measures of expressions that are put together, by the tokens of their parts.
-use Rattle.std.proofs.Common.{◌≡◌, ℕ, ◌+◌, ◌*◌, ◌%◌, ◌^◌, ◌<◌, ◌≤◌, zero, suc, Bool, true, false, cond, List, [], ◌∷◌, ◌++◌, length, Option, Some, None, All, lit<, refl, subst, arith}
-use Rattle.std.proofs.Math.Nat.{mod-lt}
-use Rattle.bs_words.specs.declared.types.Chunk.{Chunk}
-use Rattle.cmm_tree.specs.Tree.{Expression, Integer, Pointer, Symbol, Name, Nothing, Float, Let, Assign, Operator, Load, Store, Alloc, App, Extcall, Checkbound, Raise, Seq, If, Switch, Catch, Exit, Try, Expressions, NoMore, More, Bindings, Cases, Handlers, Parameter, Index, DatumTree, DataItemTree}
-use Rattle.cmm_tree.specs.Measures.{total, row_total, bindings_total, cases_total, handlers_total, counts_one, is_try, names_in, params_in, own_values, nodes_in, all_tries, values_in, IndexesFit, IntegersFit, RowFits, BindingsFit, CasesFit, HandlersFit, DatumFits, DataFits}
-use Rattle.cmm_grammar.specs.Parts.{BindingPart, CasePart, HandlerPart, HeadPart, ItemPart, FunctionItem, DataItem, expressions, bindings, cases, handlers, sequence_at}
+use Rattle.std.proofs.Common.{◌≡◌, ℕ, ◌+◌, ◌*◌, ◌%◌, ◌^◌, ◌<◌, ◌≤◌, zero, List, [], ◌∷◌, ◌++◌, length, arith}
+use Rattle.cmm_tree.specs.Tree.{Expression, Expressions, Bindings, Cases, Handlers}
+use Rattle.cmm_tree.specs.Measures.{row_total, bindings_total, cases_total, handlers_total, counts_one, is_try, names_in, params_in, own_values, nodes_in, all_tries, values_in, IndexesFit, IntegersFit, RowFits, BindingsFit, CasesFit, HandlersFit, DatumFits, DataFits}
+use Rattle.cmm_grammar.specs.Parts.{BindingPart, CasePart, HandlerPart, ItemPart, FunctionItem, DataItem, expressions, bindings, cases, handlers, sequence_at}
 use Rattle.cmm_grammar.specs.Rule.{Sort, Value, AnExpression, AParameter, ABinding, AnIndex, ACase, AHandler, ALabel, ADataItem, AnItem}
-use Rattle.cmm_grammar.specs.Rule as rule
 
 -- what is known of an expression of so many tokens
 pub record Measured (e : Expression) (n : ℕ) : Type 0 where

@@ -1,6 +1,6 @@
 -- What is known of every file whose items are spelled by tokens.
 use Rattle.std.specs.Prelude.{ℕ, ◌+◌, ◌*◌, ◌<◌, length, All}
-use Rattle.cmm_tree.specs.Tree.{FunctionTree, DataListTree, FileTree, functions, data_lists}
+use Rattle.cmm_tree.specs.Tree.{FunctionTree, FileTree, functions, data_lists}
 use Rattle.cmm_tree.specs.Measures.{nodes_in, all_tries, values_in, IntegersFit, DataFits}
 
 -- What is known of a function of so many tokens. Of them it has six itself, and three for each parameter.

@@ -8,7 +8,7 @@ use Rattle.bs_words.specs.declared.types.Chunk.TheVariants as chunk
 use Rattle.cmm_lex.specs.Token.{TokenTree}
 use Rattle.cmm_lex.specs.Integers.{integer_value}
 use Rattle.cmm_lex.specs.Strings.{string_bytes}
-use Rattle.cmm_tree.specs.Tree.{Expression, Expressions, NoMore, More, Let, Assign, Operator, Load, Store, Alloc, App, Extcall, Checkbound, Raise, Float, If, Switch, Catch, Exit, Try, Bare, Parameter, Declaration, Index, Handlers, NoHandler, Handle, DatumTree, DataItemTree, ItemTree, AFunction, AData}
+use Rattle.cmm_tree.specs.Tree.{Expression, Expressions, NoMore, More, Let, Assign, Operator, Load, Store, Alloc, App, Extcall, Checkbound, Raise, Float, If, Switch, Catch, Exit, Try, Bare, Index, NoHandler, Handle, DatumTree}
 use Rattle.cmm_tree.specs.Tree as tree
 use Rattle.cmm_tree.specs.Place.{place_of}
 use Rattle.cmm_grammar.specs.declared.word.Head.{Head}

@@ -2,7 +2,7 @@
 use Rattle.std.proofs.Common.{◌≡◌, ℕ, ◌<◌, ◌≤◌, Bool, true, false, cond, List, [], ◌∷◌, length, Option, Some, None, Result, Ok, Err, refl, sym, ap, ◌∙◌, subst, arith}
 use Rattle.bs_fault.specs.declared.fault.Fault.{Fault}
 use Rattle.bs_fault.specs.declared.fault.Fault.TheVariants.{IntRange, DataTooLarge, DataItem}
-use Rattle.cmm_lex.specs.Lexing.{Splits, first_range, is_out_of_range}
+use Rattle.cmm_lex.specs.Lexing.{first_range, is_out_of_range}
 use Rattle.cmm_lex.specs.Token.{TokenTree}
 use Rattle.cmm_lex.proofs.Unique.{one-split}
 use Rattle.cmm_lex.proofs.Languages.{AreBytes}
@@ -10,11 +10,9 @@ use Rattle.cmm_tree.specs.Tree.{ItemTree, FileTree}
 use Rattle.cmm_data.specs.Placement.{PlacedItem, placed_items}
 use Rattle.cmm_data.specs.Faults.{data_fault_of, first_fault, or_later, fault_on, passes_limit, keeps_rule}
 use Rattle.cmm_limits.proofs.Plain.{Plain, AllPlain, plain-both, plain-of, limits-plain, one-leftmost}
-use Rattle.bs_fault.specs.Reported.{Faultless, IsFirst}
 use Rattle.cmm_grammar.specs.Reading.{Outcome, Read, Stops, items_at}
 use Rattle.cmm_grammar.specs.Spelling.{nesting}
 use Rattle.cmm_reader.specs.Text.{file_faults, ReadsAs}
-use Rattle.bs_fault.specs.Limits.{longest_text}
 use Rattle.cmm_reader.specs.Telling.{TellsFile, TellsItems, Tells, IsReading, too_long, by_tokens}
 use Rattle.cmm_reader.proofs.Telling.{said_reading}
 

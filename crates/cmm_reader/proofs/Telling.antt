@@ -11,13 +11,13 @@ use Rattle.cmm_lex.specs.Lexing.{Splits, first_range}
 use Rattle.cmm_tree.specs.Tree.{ItemTree, FileTree}
 use Rattle.cmm_tree.specs.View.{file_view}
 use Rattle.cmm_tree.specs.declared.file.File.{File}
-use Rattle.cmm_grammar.specs.Faults.{Unexpected, TooDeep, EndsInside, Stands}
+use Rattle.cmm_grammar.specs.Faults.{Unexpected, TooDeep, Stands}
 use Rattle.cmm_grammar.specs.Reading.{Outcome, Read, Stops, Why, Stuck, Deep, items_at}
 use Rattle.cmm_grammar.specs.Spelling.{AreItems, Begins, nesting}
 use Rattle.cmm_grammar.proofs.Apart.{unexpected_stops, deep_stops, inside_stops}
 use Rattle.cmm_grammar.proofs.Places.{begins_less, items_begin, read_items, items_read, stuck_end, stuck_token, deep_token}
 use Rattle.cmm_reader.specs.Text as said
-use Rattle.cmm_reader.specs.Text.{file_faults, ReadsAs, IsRefused}
+use Rattle.cmm_reader.specs.Text.{ReadsAs, IsRefused}
 use Rattle.bs_fault.specs.Limits.{longest_text}
 use Rattle.cmm_reader.specs.Telling as telling
 use Rattle.cmm_reader.specs.Telling.{stop_fault, place_with, TellsFile, TellsItems, Tells, IsReading, IsStopOf}

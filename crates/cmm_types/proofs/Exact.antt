@@ -6,13 +6,13 @@ use Rattle.bs_words.specs.declared.types.Ty.{Ty}
 use Rattle.bs_words.specs.declared.types.Ty.TheVariants as ty
 use Rattle.bs_fault.specs.declared.fault.Fault.{Fault}
 use Rattle.bs_fault.specs.declared.fault.Fault.TheVariants as fault
-use Rattle.cmm_tree.specs.Tree.{FunctionTree, Parameter, DatumTree, DataItemTree, DataListTree, ItemTree, AFunction, AData, FileTree, functions, functions_among, data_lists, data_among}
+use Rattle.cmm_tree.specs.Tree.{FunctionTree, DatumTree, DataItemTree, DataListTree, ItemTree, AFunction, AData, FileTree, functions, functions_among, data_lists, data_among}
 use Rattle.cmm_tree.specs.Tree as tree
 use Rattle.cmm_types.specs.Types.{with_parameters, body_type}
 use Rattle.cmm_types.specs.Standing
 use Rattle.cmm_tree.specs.Symbols.{DefinedSymbol, built_in, definition_of, symbols, symbols_among}
 use Rattle.cmm_types.specs.Faults
-use Rattle.cmm_types.specs.Faults.{FaultOf, TypeFault}
+use Rattle.cmm_types.specs.Faults.{TypeFault}
 use Rattle.bs_fault.specs.Order.{IsLeftmost, Precedes}
 use Rattle.cmm_types.specs.Gathered.{is_address, function_faults, datum_faults, data_faults, items_faults, first_symbols, file_faults}
 use Rattle.bs_fault.specs.Reported.{noted_all}

@@ -9,8 +9,8 @@ use Rattle.cmm_tree.specs.Symbols.{DefinedSymbol, item_symbols, symbols_among, d
 use Rattle.cmm_types.specs.Gathered.{item_faults, items_faults, with_symbols, symbol_faults}
 use Rattle.bs_fault.specs.Reported.{noted_all}
 use Rattle.cmm_types.specs.Typing.{IsItemAnnotated, AreItemsAnnotated}
-use Rattle.cmm_types.proofs.Turns.{drop_here}
 use Rattle.cmm_types.proofs.Appending.{with_symbols-append, symbol_faults-append}
+use Rattle.bs_words.proofs.Lists.{drop_step}
 
 pub items_view-set : (xs : List Item) (i : ℕ) (x y : Item) → i < length xs → x ≡ get_or xs i x → item_view y ≡ item_view x → map item_view (set xs i y) ≡ map item_view xs
 items_view-set [] i x y lt at v = absurd (omega arith)
@@ -31,7 +31,7 @@ pub items_turn : (d : List ℕ → Option DefinedSymbol) (xs : List Item) (i : �
     → noted_all (items_faults d (map item_view (drop (i + 1) xs))) after ≡ noted_all (items_faults d (map item_view (drop i xs))) found
 items_turn d xs i x found after lt at is =
     ap (noted_all (items_faults d (map item_view (drop (i + 1) xs)))) is
-    ∙ sym (ap (λ k. noted_all (items_faults d (map item_view k)) found) (drop_here xs i x lt at))
+    ∙ sym (ap (λ k. noted_all (items_faults d (map item_view k)) found) (drop_step xs i x lt at))
 
 -- ---- symbols
 
@@ -42,7 +42,7 @@ symbols_turn xs i x known after lt at is =
     let rest = symbols_among (map item_view (drop (i + 1) xs)) in
     ap (λ k. with_symbols k rest) is
     ∙ sym (with_symbols-append known (item_symbols (item_view x)) rest)
-    ∙ sym (ap (λ k. with_symbols known (symbols_among (map item_view k))) (drop_here xs i x lt at))
+    ∙ sym (ap (λ k. with_symbols known (symbols_among (map item_view k))) (drop_step xs i x lt at))
 
 pub symbol_faults_turn : (xs : List Item) (i : ℕ) (x : Item) (known after : List DefinedSymbol) (found noted : Option Fault) → i < length xs → x ≡ get_or xs i x
     → after ≡ with_symbols known (item_symbols (item_view x))
@@ -53,7 +53,7 @@ symbol_faults_turn xs i x known after found noted lt at is told =
     ap (λ k. noted_all (symbol_faults k rest) noted) is
     ∙ ap (noted_all (symbol_faults (with_symbols known (item_symbols (item_view x))) rest)) told
     ∙ sym (symbol_faults-append known (item_symbols (item_view x)) rest found)
-    ∙ sym (ap (λ k. noted_all (symbol_faults known (symbols_among (map item_view k))) found) (drop_here xs i x lt at))
+    ∙ sym (ap (λ k. noted_all (symbol_faults known (symbols_among (map item_view k))) found) (drop_step xs i x lt at))
 
 pub data_turn : (xs : List DataItem) (i : ℕ) (x : DataItem) (known after : List DefinedSymbol) → i < length xs → x ≡ get_or xs i x
     → after ≡ with_symbols known (datum_symbols x.at (data_item_view x).datum)
@@ -62,7 +62,7 @@ data_turn xs i x known after lt at is =
     let rest = data_symbols (map data_item_view (drop (i + 1) xs)) in
     ap (λ k. with_symbols k rest) is
     ∙ sym (with_symbols-append known (datum_symbols x.at (data_item_view x).datum) rest)
-    ∙ sym (ap (λ k. with_symbols known (data_symbols (map data_item_view k))) (drop_here xs i x lt at))
+    ∙ sym (ap (λ k. with_symbols known (data_symbols (map data_item_view k))) (drop_step xs i x lt at))
 
 pub data_faults_turn : (xs : List DataItem) (i : ℕ) (x : DataItem) (known after : List DefinedSymbol) (found noted : Option Fault) → i < length xs → x ≡ get_or xs i x
     → after ≡ with_symbols known (datum_symbols x.at (data_item_view x).datum)
@@ -74,4 +74,4 @@ data_faults_turn xs i x known after found noted lt at is told =
     ap (λ k. noted_all (symbol_faults k rest) noted) is
     ∙ ap (noted_all (symbol_faults (with_symbols known own) rest)) told
     ∙ sym (symbol_faults-append known own rest found)
-    ∙ sym (ap (λ k. noted_all (symbol_faults known (data_symbols (map data_item_view k))) found) (drop_here xs i x lt at))
+    ∙ sym (ap (λ k. noted_all (symbol_faults known (data_symbols (map data_item_view k))) found) (drop_step xs i x lt at))

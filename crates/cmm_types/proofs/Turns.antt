@@ -1,6 +1,6 @@
 -- One turn of a loop over the parts of a node: the part at the index is replaced by one of the same view.
 use Rattle.std.proofs.Common.{◌≡◌, ℕ, zero, suc, ◌+◌, ◌<◌, List, [], ◌∷◌, ◌++◌, length, get_or, take, drop, set, map, option_map, Option, Bool, ◌||◌, refl, ap, sym, ◌∙◌, subst, arith}
-use Rattle.std.proofs.lemmas.List.{drop_more, drop-set-lt, take_more_set}
+use Rattle.std.proofs.lemmas.List.{drop-set-lt, take_more_set}
 use Rattle.cmm_tree.specs.Tree.{Expression, Expressions, NoMore, More, NoBinding, Bind, Choose, Handle}
 use Rattle.cmm_tree.specs.View.{expr_view, params_view, label_view, declared_view, index_view}
 use Rattle.cmm_tree.specs.declared.expr.Expr.{Expr}
@@ -22,10 +22,9 @@ use Rattle.std.proofs.Math.Bool.{or_assoc}
 use Rattle.cmm_types.specs.Annotated.{IsAnnotated}
 use Rattle.cmm_tree.specs.Rows.{row_of, bindings_of, cases_of, handlers_of}
 use Rattle.cmm_types.specs.Lists.{AreAnnotated, AreBindingsAnnotated, AreCasesAnnotated, AreHandlersAnnotated, with_binding}
+use Rattle.bs_words.proofs.Lists.{drop_step}
 
 -- what is left begins with the item at the index, and the rest stays as it is
-pub drop_here : {A : Type 0} → (xs : List A) (i : ℕ) (x : A) → i < length xs → x ≡ get_or xs i x → drop i xs ≡ x ∷ drop (i + 1) xs
-drop_here xs i x lt at = drop_more xs i x lt ∙ ap (λ y. y ∷ drop (i + 1) xs) (sym at)
 
 pub drop_behind : {A : Type 0} → (xs : List A) (i : ℕ) (y : A) → drop (i + 1) (set xs i y) ≡ drop (i + 1) xs
 drop_behind xs i y = drop-set-lt (i + 1) xs i y (omega arith)
@@ -131,7 +130,7 @@ row_turn role d xs i x before now after all lt at noting names labels found =
           (found
           ∙ ap (λ p. noted_all (used_as role p (expr_view x) (faults_in d p now.labels (expr_view x))) now.found) noting.names
           ∙ ap (λ q. noted_all (used_as role n (expr_view x) (faults_in d n q (expr_view x))) now.found) noting.labels)
-          ∙ sym (ap (λ k. noted_all (row_faults role d n l (row_of k)) now.found) (drop_here xs i x lt at))
+          ∙ sym (ap (λ k. noted_all (row_faults role d n l (row_of k)) now.found) (drop_step xs i x lt at))
           ∙ noting.found;
     }
 
@@ -139,12 +138,12 @@ pub row_float_turn : (xs : List Expr) (i : ℕ) (x : Expr) (float held : Bool) �
 row_float_turn xs i x float held lt at is =
     ap (λ h. (float || h) || row_holds_float (row_of (drop (i + 1) xs))) is
     ∙ or_assoc float (holds_float (expr_view x)) (row_holds_float (row_of (drop (i + 1) xs)))
-    ∙ sym (ap (λ k. float || row_holds_float (row_of k)) (drop_here xs i x lt at))
+    ∙ sym (ap (λ k. float || row_holds_float (row_of k)) (drop_step xs i x lt at))
 
 pub last_turn : (names : List Scoped) (xs : List Expr) (i : ℕ) (x : Expr) (before plain : Ty) → i < length xs → x ≡ get_or xs i x → plain ≡ type_without_float names (expr_view x) → last_or names plain (row_of (drop (i + 1) xs)) ≡ last_or names before (row_of (drop i xs))
 last_turn names xs i x before plain lt at is =
     ap (λ p. last_or names p (row_of (drop (i + 1) xs))) is
-    ∙ sym (ap (λ k. last_or names before (row_of k)) (drop_here xs i x lt at))
+    ∙ sym (ap (λ k. last_or names before (row_of k)) (drop_step xs i x lt at))
 
 pub last_is : (names : List Scoped) (row : Expressions) → last_or names NoValue row ≡ type_of_last names row
 last_is names NoMore = refl
@@ -170,7 +169,7 @@ cases_turn d xs i x before now after all lt at noting names labels found =
           (found
           ∙ ap (λ p. noted_all (faults_in d p now.labels (expr_view x.body)) now.found) noting.names
           ∙ ap (λ q. noted_all (faults_in d n q (expr_view x.body)) now.found) noting.labels)
-          ∙ sym (ap (λ k. noted_all (cases_faults d n l (cases_of k)) now.found) (drop_here xs i x lt at))
+          ∙ sym (ap (λ k. noted_all (cases_faults d n l (cases_of k)) now.found) (drop_step xs i x lt at))
           ∙ noting.found;
     }
 
@@ -178,13 +177,13 @@ pub cases_float_turn : (xs : List Case) (i : ℕ) (x : Case) (float held : Bool)
 cases_float_turn xs i x float held lt at is =
     ap (λ h. (float || h) || cases_hold_float (cases_of (drop (i + 1) xs))) is
     ∙ or_assoc float (holds_float (expr_view x.body)) (cases_hold_float (cases_of (drop (i + 1) xs)))
-    ∙ sym (ap (λ k. float || cases_hold_float (cases_of k)) (drop_here xs i x lt at))
+    ∙ sym (ap (λ k. float || cases_hold_float (cases_of k)) (drop_step xs i x lt at))
 
 pub cases_join_turn : (names : List Scoped) (xs : List Case) (i : ℕ) (x : Case) (before plain : Ty) → i < length xs → x ≡ get_or xs i x → plain ≡ type_without_float names (expr_view x.body) → join (join before plain) (type_of_cases names (cases_of (drop (i + 1) xs))) ≡ join before (type_of_cases names (cases_of (drop i xs)))
 cases_join_turn names xs i x before plain lt at is =
     ap (λ p. join (join before p) (type_of_cases names (cases_of (drop (i + 1) xs)))) is
     ∙ join_assoc before (type_without_float names (expr_view x.body)) (type_of_cases names (cases_of (drop (i + 1) xs)))
-    ∙ sym (ap (λ k. join before (type_of_cases names (cases_of k))) (drop_here xs i x lt at))
+    ∙ sym (ap (λ k. join before (type_of_cases names (cases_of k))) (drop_step xs i x lt at))
 
 pub handlers_turn : (d : List ℕ → Option DefinedSymbol) (xs : List Handler) (i : ℕ) (x : Handler) (before now after : Checker) (all : Faults) → i < length xs → x ≡ get_or xs i x
     → Noting before now (handlers_faults d before.names before.labels (handlers_of (drop i xs))) all
@@ -203,7 +202,7 @@ handlers_turn d xs i x before now after all lt at noting names labels found =
           (found
           ∙ ap (λ p. noted_all (faults_in d (with_parameters ps p) now.labels (expr_view x.body)) (noted_all (params_faults ps) now.found)) noting.names
           ∙ ap (λ q. noted_all (faults_in d (with_parameters ps n) q (expr_view x.body)) (noted_all (params_faults ps) now.found)) noting.labels)
-          ∙ sym (ap (λ k. noted_all (handlers_faults d n l (handlers_of k)) now.found) (drop_here xs i x lt at))
+          ∙ sym (ap (λ k. noted_all (handlers_faults d n l (handlers_of k)) now.found) (drop_step xs i x lt at))
           ∙ noting.found;
     }
 
@@ -211,19 +210,19 @@ pub handlers_float_turn : (xs : List Handler) (i : ℕ) (x : Handler) (float hel
 handlers_float_turn xs i x float held lt at is =
     ap (λ h. (float || h) || handlers_hold_float (handlers_of (drop (i + 1) xs))) is
     ∙ or_assoc float (has_float_parameter (params_view x.params.items) || holds_float (expr_view x.body)) (handlers_hold_float (handlers_of (drop (i + 1) xs)))
-    ∙ sym (ap (λ k. float || handlers_hold_float (handlers_of k)) (drop_here xs i x lt at))
+    ∙ sym (ap (λ k. float || handlers_hold_float (handlers_of k)) (drop_step xs i x lt at))
 
 pub handlers_join_turn : (names : List Scoped) (xs : List Handler) (i : ℕ) (x : Handler) (before plain : Ty) → i < length xs → x ≡ get_or xs i x → plain ≡ type_without_float (with_parameters (params_view x.params.items) names) (expr_view x.body) → join (join before plain) (type_of_handlers names (handlers_of (drop (i + 1) xs))) ≡ join before (type_of_handlers names (handlers_of (drop i xs)))
 handlers_join_turn names xs i x before plain lt at is =
     ap (λ p. join (join before p) (type_of_handlers names (handlers_of (drop (i + 1) xs)))) is
     ∙ join_assoc before (type_without_float (with_parameters (params_view x.params.items) names) (expr_view x.body)) (type_of_handlers names (handlers_of (drop (i + 1) xs)))
-    ∙ sym (ap (λ k. join before (type_of_handlers names (handlers_of k))) (drop_here xs i x lt at))
+    ∙ sym (ap (λ k. join before (type_of_handlers names (handlers_of k))) (drop_step xs i x lt at))
 
 -- the names after the bindings that are left, after one of them
 pub names_turn : (xs : List Binding) (i : ℕ) (x : Binding) (now after : List Scoped) → i < length xs → x ≡ get_or xs i x → after ≡ with_binding now x → with_bindings after (bindings_of (drop (i + 1) xs)) ≡ with_bindings now (bindings_of (drop i xs))
 names_turn xs i x now after lt at names =
     ap (λ n. with_bindings n (bindings_of (drop (i + 1) xs))) names
-    ∙ sym (ap (λ k. with_bindings now (bindings_of k)) (drop_here xs i x lt at))
+    ∙ sym (ap (λ k. with_bindings now (bindings_of k)) (drop_step xs i x lt at))
 
 pub bindings_turn : (d : List ℕ → Option DefinedSymbol) (xs : List Binding) (i : ℕ) (x : Binding) (now after : Checker) → i < length xs → x ≡ get_or xs i x
     → after.names ≡ with_binding now.names x → after.labels ≡ now.labels
@@ -233,13 +232,13 @@ bindings_turn d xs i x now after lt at names labels found =
     ap (λ n. noted_all (bindings_faults d n after.labels (bindings_of (drop (i + 1) xs))) after.found) names
     ∙ ap (λ l. noted_all (bindings_faults d (with_binding now.names x) l (bindings_of (drop (i + 1) xs))) after.found) labels
     ∙ ap (noted_all (bindings_faults d (with_binding now.names x) now.labels (bindings_of (drop (i + 1) xs)))) found
-    ∙ sym (ap (λ k. noted_all (bindings_faults d now.names now.labels (bindings_of k)) now.found) (drop_here xs i x lt at))
+    ∙ sym (ap (λ k. noted_all (bindings_faults d now.names now.labels (bindings_of k)) now.found) (drop_step xs i x lt at))
 
 pub bindings_float_turn : (xs : List Binding) (i : ℕ) (x : Binding) (float held : Bool) → i < length xs → x ≡ get_or xs i x → held ≡ (is_declared_float (option_map declared_view x.declared) || holds_float (expr_view x.value)) → ((float || held) || bindings_hold_float (bindings_of (drop (i + 1) xs))) ≡ (float || bindings_hold_float (bindings_of (drop i xs)))
 bindings_float_turn xs i x float held lt at is =
     ap (λ h. (float || h) || bindings_hold_float (bindings_of (drop (i + 1) xs))) is
     ∙ or_assoc float (is_declared_float (option_map declared_view x.declared) || holds_float (expr_view x.value)) (bindings_hold_float (bindings_of (drop (i + 1) xs)))
-    ∙ sym (ap (λ k. float || bindings_hold_float (bindings_of k)) (drop_here xs i x lt at))
+    ∙ sym (ap (λ k. float || bindings_hold_float (bindings_of k)) (drop_step xs i x lt at))
 
 -- ---- where a loop ends
 

@@ -1,6 +1,5 @@
 -- What the values of the code stand for.
-use Rattle.std.specs.Prelude.{◌≡◌, ℕ, ◌⊎◌, map, [], slice_index_or}
-use Rattle.bs_words.specs.Contents.{contents}
+use Rattle.std.specs.Prelude.{◌≡◌, ℕ, ◌⊎◌, [], slice_index_or}
 use Rattle.bs_words.specs.Memory.{HeapBlock, StaticList, InHeader, InBlock, InStatic}
 use Rattle.bs_words.specs.Memory as memory
 use Rattle.cmm_values.specs.declared.access.Cell.{Cell}

@@ -343,7 +343,7 @@ impl Memory {
     }
 
     /// A new block with these values in its cells, and the pointer to it; or why that is improper. The outer
-    /// error is that memory is used up.
+    /// error is that memory is used up, as which a heap of 2^64 bytes or more is answered too.
     pub fn allocate(
         &mut self,
         header: u64,
@@ -364,7 +364,7 @@ impl Memory {
     }
 }
 
-// The heap need with a block more of so many cells.
+// The heap need with a block more of so many cells; 2^64 bytes or more are answered as want of memory.
 fn added_need(need: u64, cells: u64) -> Result<u64, AllocError>
     ensures { IfOk result (λ more. more ≡ need + 8 * (cells + 1)) }
 {

@@ -83,10 +83,10 @@ held-row n s t (item.Handler scope slot handlers own first rest) fits h = is-row
 held-row n s t (item.Handles scope slot name_at name handler entry rest) fits h = tt
 
 pub row-first : (first : ℕ) (hs : List Handler) → IsRow first hs → 1 ≤ length hs → first + 1 < 2 ^ 64
-row-first first hs row some = omega (arith, row 0 (omega arith))
+row-first first hs within some = omega (arith, within 0 (omega arith))
 
 pub row-next : (first : ℕ) (hs : List Handler) (h : Handler) (others : List Handler) → hs ≡ h ∷ others → IsRow first hs → IsRow (first + 1) others
-row-next first hs h others e row = λ k within. omega (arith, row (suc k) (omega (arith, ap length e)))
+row-next first hs h others e numbered = λ k within. omega (arith, numbered (suc k) (omega (arith, ap length e)))
 
 pub own-as : (label : LabelTree) (n : ℕ) (s : ℕ → List Slotted) (t : ℕ → List Task) (x y : Item) (found : Option ℕ) → x ≡ y
     → (IsHeld n s t y → LeadsTo n t found (own_handler label s t y)) → IsHeld n s t x → LeadsTo n t found (own_handler label s t x)

@@ -4,7 +4,7 @@ use mathlib.Core.Former.{Count}
 use Rattle.bs_words.specs.declared.types.Ret.{Ret}
 use Rattle.cmm_tree.specs.Tree.{Expression, NoBinding}
 use Rattle.cmm_tree.specs.Tree as tree
-use Rattle.cmm_tree.specs.View.{expr_view, form_view, bindings_view, declared_view, label_view}
+use Rattle.cmm_tree.specs.View.{expr_view, form_view, declared_view, label_view}
 use Rattle.cmm_tree.specs.declared.expr.Binding.{Binding}
 use Rattle.cmm_tree.specs.declared.expr.Case.{Case}
 use Rattle.cmm_tree.specs.declared.expr.Expr.{Expr}

@@ -2,7 +2,7 @@
 use Rattle.std.proofs.Common.{◌≡◌, ℕ, Bool, true, List, [], ◌∷◌, ◌++◌, sym, ap, refl, subst, append_assoc}
 use Rattle.std.specs.List.{Contains}
 use Rattle.cmm_tree.specs.Tree.{FunctionTree}
-use Rattle.cmm_walks.specs.Walks.{Event, Binds, Uses, Passes, Slotted, Task, Does, Evaluates, Enters, OneOf, MayRaise, Raises, Exits, Catches, Handles, tasks_of, entering, behind_raise, behind_exit, Walk, stops, walk_tasks, Next, does, evaluates, enters, one_of, goes_on, may_raise, raises, exits, leaves_catch, leaves_try}
+use Rattle.cmm_walks.specs.Walks.{Event, Binds, Uses, Passes, Task, Does, Evaluates, Enters, OneOf, MayRaise, Raises, Exits, Catches, Handles, tasks_of, entering, Walk, stops, walk_tasks, Next, does, evaluates, enters, one_of, goes_on, may_raise, raises, exits, leaves_catch, leaves_try}
 use Rattle.cmm_walks.specs.Walks as walk
 use Rattle.cmm_walks.specs.AddrLive.{IsLiveIn}
 use Rattle.cmm_walks.specs.Table.{shown, step_at, next_at, Trail, here, goes, LeadsToUse, LeadsToPoint, LeadsToBinding}

@@ -1,19 +1,9 @@
 -- How many bytes the rows of an image have.
 use Rattle.std.proofs.Common.{◌≡◌, ℕ, ◌+◌, ◌*◌, List, [], ◌∷◌, ◌++◌, length, refl, length-append, arith}
 use Rattle.std.specs.List.{flat_map}
-use Rattle.std.proofs.lemmas.List.{length-map}
-use Rattle.bs_words.specs.declared.types.Comp.{Comp}
-use Rattle.image_form.specs.Image.{le16, le32, le_entry, comp_byte, ret_byte, name_bytes, params_bytes, func_bytes, sym_bytes, ext_bytes, desc_bytes, table_bytes}
+use Rattle.image_form.specs.Image.{le32, le_entry, ret_byte, name_bytes, params_bytes, func_bytes, sym_bytes, ext_bytes, desc_bytes, table_bytes}
 use Rattle.image_form.specs.Tables.{Func, Sym, Ext, Desc}
-use Rattle.image_form.proofs.Lengths.{length-le16, length-le32}
-
-name_length : (name : List ℕ) → length (name_bytes name) ≡ 2 + length name
-unfolding name_bytes
-name_length name = omega (arith, length-append (le16 (length name)) name, length-le16 (length name))
-
-params_length : (params : List Comp) → length (params_bytes params) ≡ 1 + length params
-unfolding params_bytes
-params_length params = let same = length-map params comp_byte in omega (arith, same)
+use Rattle.image_form.proofs.Lengths.{length-le32, name_length, params_length}
 
 pub func_length : (r : Func) → length (func_bytes r) ≡ 16 + (length r.name + length r.params)
 unfolding func_bytes

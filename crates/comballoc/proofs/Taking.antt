@@ -1,5 +1,5 @@
 -- A scan takes an instruction.
-use Rattle.std.proofs.Common.{◌≡◌, ℕ, ◌+◌, Bool, true, false, cond, List, [], ◌∷◌, ◌++◌, Option, Some, None, refl, sym, ap, ◌∙◌, subst, append_assoc}
+use Rattle.std.proofs.Common.{◌≡◌, ℕ, ◌+◌, true, false, cond, List, [], ◌∷◌, ◌++◌, Option, Some, None, refl, sym, ap, ◌∙◌, append_assoc}
 use Rattle.combine_rules.specs.Combined.{joins, Scanned, allocation, open_past, allocated, scanned_at, scan}
 use Rattle.combine_rules.proofs.Scan.{bytes_append, nothing_goes}
 use Rattle.comballoc.specs.Finished.{held_bytes, closed, closed_by, finished, HasTaken}

@@ -6,7 +6,7 @@ use Rattle.std.proofs.lemmas.List.{length-set, map-append, get_or_append_left, s
 use Rattle.std.proofs.Math.Seq.{map-set_same}
 use Rattle.bs_words.specs.Fits.{fits, misfit}
 use Rattle.bs_words.specs.Memory.{Memory, HeapBlock, StaticList, Cell, InHeader, InBlock, InStatic, sizes, loaded_from, loaded_as, stored, stored_in, stored_as, put_in, put_part, put_whole, replaced, with_value, value_in, type_in, cell_at, in_block, cell_of_block, in_statics, width, offset_in_cell, end_of_data}
-use Rattle.bs_words.specs.Operators.{apply, is_in, is_near, equality_of, order_of, comparison_of, as_value, unequal_if, truth, signed_holds, unsigned_holds}
+use Rattle.bs_words.specs.Operators.{apply, is_in, is_near, equality_of, order_of, comparison_of, as_value, unequal_if, signed_holds, unsigned_holds}
 use Rattle.bs_words.specs.Operators as operators
 use Rattle.bs_words.specs.declared.operators.CmpOp.{CmpOp}
 use Rattle.bs_words.specs.declared.operators.CmpOp.TheVariants.{Eq, Ne, Lt, Le, Gt, Ge}

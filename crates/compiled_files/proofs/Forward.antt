@@ -6,18 +6,18 @@ use Rattle.bs_words.specs.Memory.{Memory}
 use Rattle.bs_words.specs.declared.types.Loc.{Loc}
 use Rattle.bs_words.specs.declared.values.Value.{Value}
 use Rattle.cmm_meaning.specs.State.{Callee, Inside, Outside}
-use Rattle.mach_ir.specs.Acts.{Act, Around, Target, On, At}
+use Rattle.mach_ir.specs.Acts.{Act, Around, Target, On}
 use Rattle.mach_ir.specs.Runs.{Place, Step, entered}
 use Rattle.mach_ir.specs.Walks.{OneOf, this, other}
 use Rattle.lin_ir.specs.Formed.{is_exit, is_label}
 use Rattle.lin_ir.specs.Meaning.{Locations, NamedAt, State, after_label, at_code, at_handler, are_vals, begun, clear, code_at, destroyed_by, flow_act, lin_act, on_act, on_values, passes_frame, past_frame, put_all, unless_misnamed, values, wrote}
-use Rattle.lin_ir.specs.Walks.{Reached, Leads, goes, Raises, raises, by_step, by_raise, targets, tries_after}
+use Rattle.lin_ir.specs.Walks.{Reached, goes, raises, targets, tries_after}
 use Rattle.lin_ir.specs.declared.lin.Flow.TheVariants as flow
 use Rattle.lin_ir.specs.declared.lin.Lin.{Lin}
 use Rattle.lin_ir.specs.declared.lin.Line.{Line}
 use Rattle.lin_ir.specs.declared.lin.LinOp.{LinOp}
 use Rattle.lin_ir.specs.declared.lin.LinOp.TheVariants as lin
-use Rattle.linear_rules.proofs.Walked.{Tail, tail_next, tail_label, tail_target, reached_tail}
+use Rattle.linear_rules.proofs.Walked.{Tail, tail_label, tail_target, reached_tail}
 use Rattle.tidy_rules.proofs.Ends.{tail_length}
 use Rattle.tidy_rules.proofs.Turns.{Turns, goes_in, exits_in, jumps_in, unwinds_in, pushes_in, asks_in, replaces_in, ends_in, raising_in, stuck_in, turns}
 use Rattle.linear_machine.specs.Relation.{Laid}

@@ -30,7 +30,8 @@ use Rattle.cse_deadcode.specs.declared.events.Event.{Event}
 use Rattle.cse_deadcode.specs.declared.events.Event.TheVariants as event
 use Rattle.cse_deadcode.specs.Events.{rank_of_operator, constant_of, computation}
 use Rattle.cse_deadcode.specs.Times.{is_same}
-use Rattle.cse_deadcode.proofs.Noting.{differ, equal_numbers}
+use Rattle.cse_deadcode.proofs.Noting.{equal_numbers}
+use Rattle.bs_words.proofs.Truths.{not_both}
 
 -- ---- operators by their ranks
 
@@ -79,19 +80,19 @@ same_operator f g e = sym (at_rank f) ∙ ap operator_at e ∙ at_rank g
 -- ---- what is computed
 
 first_equal : (a b : Ordering) → is_eq (ordering_then a b) ≡ true → is_eq a ≡ true
-first_equal Less b e = absurd (differ false e refl)
+first_equal Less b e = absurd (not_both false e refl)
 first_equal Equal b e = refl
-first_equal Greater b e = absurd (differ false e refl)
+first_equal Greater b e = absurd (not_both false e refl)
 
 second_equal : (a b : Ordering) → is_eq (ordering_then a b) ≡ true → is_eq b ≡ true
-second_equal Less b e = absurd (differ false e refl)
+second_equal Less b e = absurd (not_both false e refl)
 second_equal Equal b e = e
-second_equal Greater b e = absurd (differ false e refl)
+second_equal Greater b e = absurd (not_both false e refl)
 
 same_number : (a b : Option ℕ) → is_eq (option_cmp nat_cmp a b) ≡ true → a ≡ b
 same_number None None e = refl
-same_number None (Some b) e = absurd (differ false e refl)
-same_number (Some a) None e = absurd (differ false e refl)
+same_number None (Some b) e = absurd (not_both false e refl)
+same_number (Some a) None e = absurd (not_both false e refl)
 same_number (Some a) (Some b) e = ap Some (equal_numbers a b e)
 
 record SameParts (c d : Computed) : Type 0 where
@@ -202,13 +203,13 @@ operator_shape (formed_op {f = op.Pure (pure.Operator f r)} {args = args} {resul
     let one : length results ≡ 1 = sym (length-map results (λ (r : Reg). r.comp)) ∙ one_result f r (comps args) (comps results) h in
     let o = one_of results one in
     record { f = f; r = r; is = refl; few = omega (arith, few, many); result = o.0; results = o.1 }
-operator_shape (formed_op {f = op.Pure (pure.Copy kind)} h) e = absurd (differ false e refl)
-operator_shape (formed_op {f = op.Pure (pure.Constant w)} h) e = absurd (differ false e refl)
-operator_shape (formed_op {f = op.Pure (pure.Symbol name)} h) e = absurd (differ false e refl)
-operator_shape (formed_op {f = op.Access f} h) e = absurd (differ false e refl)
-operator_shape (formed_op {f = op.Calling f} h) e = absurd (differ false e refl)
-operator_shape (formed_op {f = op.Leaving f} h) e = absurd (differ false e refl)
-operator_shape (formed_mark h) e = absurd (differ false e refl)
+operator_shape (formed_op {f = op.Pure (pure.Copy kind)} h) e = absurd (not_both false e refl)
+operator_shape (formed_op {f = op.Pure (pure.Constant w)} h) e = absurd (not_both false e refl)
+operator_shape (formed_op {f = op.Pure (pure.Symbol name)} h) e = absurd (not_both false e refl)
+operator_shape (formed_op {f = op.Access f} h) e = absurd (not_both false e refl)
+operator_shape (formed_op {f = op.Calling f} h) e = absurd (not_both false e refl)
+operator_shape (formed_op {f = op.Leaving f} h) e = absurd (not_both false e refl)
+operator_shape (formed_mark h) e = absurd (not_both false e refl)
 
 abbrev pub operator_of : IntOp → Right → MachOp
 operator_of f r = mach.Op (op.Pure (pure.Operator f r))

@@ -29,12 +29,13 @@ use Rattle.cse_deadcode.specs.Times.{Clock, writes, happens, last_time}
 use Rattle.cse_deadcode.specs.Repeats.{result_stands}
 use Rattle.cse_deadcode.specs.Copies.{is_move, is_copy, source_first, source_by, source_found, source_at, source_of, read_by, with_sources}
 use Rattle.cse_deadcode.proofs.Last.{AreQuiet, Found, find, last_from}
-use Rattle.cse_deadcode.proofs.Noting.{differ, first_true, only_first, number_written, written_number, number_write, unwritten, quiet, ends_run, in_run}
+use Rattle.cse_deadcode.proofs.Noting.{first_true, only_first, number_written, written_number, number_write, unwritten, quiet, ends_run, in_run}
 use Rattle.cse_deadcode.proofs.Alike.{one_of}
 use Rattle.cse_deadcode.proofs.Parts.{in_front, behind, at_seam, head_of, Places, one_place, further_on, places, operand_in, result_in}
 use Rattle.cse_deadcode.proofs.Planned as step
 use Rattle.cse_deadcode.proofs.Standing.{of_each, all_straight, quiet_later, later_quiet, still_holds, holds_still}
 use Rattle.mach_ir.specs.Places.{is_open, same_comp}
+use Rattle.bs_words.proofs.Truths.{not_both}
 
 -- ---- components and places
 
@@ -43,18 +44,18 @@ one_comp comp.Int comp.Int e = refl
 one_comp comp.Val comp.Val e = refl
 one_comp comp.Addr comp.Addr e = refl
 one_comp comp.Float comp.Float e = refl
-one_comp comp.Int comp.Val e = absurd (differ false e refl)
-one_comp comp.Int comp.Addr e = absurd (differ false e refl)
-one_comp comp.Int comp.Float e = absurd (differ false e refl)
-one_comp comp.Val comp.Int e = absurd (differ false e refl)
-one_comp comp.Val comp.Addr e = absurd (differ false e refl)
-one_comp comp.Val comp.Float e = absurd (differ false e refl)
-one_comp comp.Addr comp.Int e = absurd (differ false e refl)
-one_comp comp.Addr comp.Val e = absurd (differ false e refl)
-one_comp comp.Addr comp.Float e = absurd (differ false e refl)
-one_comp comp.Float comp.Int e = absurd (differ false e refl)
-one_comp comp.Float comp.Val e = absurd (differ false e refl)
-one_comp comp.Float comp.Addr e = absurd (differ false e refl)
+one_comp comp.Int comp.Val e = absurd (not_both false e refl)
+one_comp comp.Int comp.Addr e = absurd (not_both false e refl)
+one_comp comp.Int comp.Float e = absurd (not_both false e refl)
+one_comp comp.Val comp.Int e = absurd (not_both false e refl)
+one_comp comp.Val comp.Addr e = absurd (not_both false e refl)
+one_comp comp.Val comp.Float e = absurd (not_both false e refl)
+one_comp comp.Addr comp.Int e = absurd (not_both false e refl)
+one_comp comp.Addr comp.Val e = absurd (not_both false e refl)
+one_comp comp.Addr comp.Float e = absurd (not_both false e refl)
+one_comp comp.Float comp.Int e = absurd (not_both false e refl)
+one_comp comp.Float comp.Val e = absurd (not_both false e refl)
+one_comp comp.Float comp.Addr e = absurd (not_both false e refl)
 
 comp_itself : (a : Comp) → same_comp a a ≡ true
 comp_itself comp.Int = refl
@@ -64,8 +65,8 @@ comp_itself comp.Float = refl
 
 open_place : (l : Loc) → is_open l ≡ true → l ≡ loc.Unset
 open_place loc.Unset e = refl
-open_place (loc.Machine k) e = absurd (differ false e refl)
-open_place (loc.Slot k) e = absurd (differ false e refl)
+open_place (loc.Machine k) e = absurd (not_both false e refl)
+open_place (loc.Slot k) e = absurd (not_both false e refl)
 
 -- what makes a register a copy by the times
 record Copied (at : Clock) (time : ℕ) (q r : Reg) : Type 0 where
@@ -124,15 +125,15 @@ moves_of (formed_op {f = op.Pure (pure.Copy kind.Move)} {args = args} {results =
     let r = one_of args reads in
     let w = one_of results gives in
     record { from = r.0; to = w.0; is = a_move args results r.0 w.0 r.1 w.1 }
-moves_of (formed_op {f = op.Pure (pure.Copy kind.Spill)} h) e = absurd (differ false e refl)
-moves_of (formed_op {f = op.Pure (pure.Copy kind.Reload)} h) e = absurd (differ false e refl)
-moves_of (formed_op {f = op.Pure (pure.Constant w)} h) e = absurd (differ false e refl)
-moves_of (formed_op {f = op.Pure (pure.Symbol name)} h) e = absurd (differ false e refl)
-moves_of (formed_op {f = op.Pure (pure.Operator f r)} h) e = absurd (differ false e refl)
-moves_of (formed_op {f = op.Access f} h) e = absurd (differ false e refl)
-moves_of (formed_op {f = op.Calling f} h) e = absurd (differ false e refl)
-moves_of (formed_op {f = op.Leaving f} h) e = absurd (differ false e refl)
-moves_of (formed_mark h) e = absurd (differ false e refl)
+moves_of (formed_op {f = op.Pure (pure.Copy kind.Spill)} h) e = absurd (not_both false e refl)
+moves_of (formed_op {f = op.Pure (pure.Copy kind.Reload)} h) e = absurd (not_both false e refl)
+moves_of (formed_op {f = op.Pure (pure.Constant w)} h) e = absurd (not_both false e refl)
+moves_of (formed_op {f = op.Pure (pure.Symbol name)} h) e = absurd (not_both false e refl)
+moves_of (formed_op {f = op.Pure (pure.Operator f r)} h) e = absurd (not_both false e refl)
+moves_of (formed_op {f = op.Access f} h) e = absurd (not_both false e refl)
+moves_of (formed_op {f = op.Calling f} h) e = absurd (not_both false e refl)
+moves_of (formed_op {f = op.Leaving f} h) e = absurd (not_both false e refl)
+moves_of (formed_mark h) e = absurd (not_both false e refl)
 
 -- what is written in a move
 target_of : (q w : Reg) (n : ℕ) → happens (event.Writes n) (move q w) ≡ true → w.number ≡ n
@@ -220,7 +221,7 @@ module _ (m : Mach) (formed : WellFormed m) where
           by : Places c.others (move q r) c.run f.others f.found f.run → IsTheMove q c
           by (one_place a b g) = record { is = b; place = a }
           by (further_on mid a b) =
-              absurd (differ (happens key f.found) f.holds
+              absurd (not_both (happens key f.found) f.holds
               (silent q c f.found (subst (λ run. Contains run f.found) (sym b) (behind mid (f.found ∷ f.run) f.found (first_in f.found f.run)))))
 
       -- another instruction leaves no copy
@@ -228,7 +229,7 @@ module _ (m : Mach) (formed : WellFormed m) where
       other_last h =
           subst (ReadFor made r)
           (sym (at_found ∙ ap (λ b. cond b (source_first (last_time made) time (slice_get f.found.args 0) r) r) h))
-          (itself (λ q c. differ (is_move f.found.op) (ap (λ (j : Instr). is_move j.op) (sym (the_move q c).is)) h))
+          (itself (λ q c. not_both (is_move f.found.op) (ap (λ (j : Instr). is_move j.op) (sym (the_move q c).is)) h))
 
       record MovedTo : Type 0 where
         from : Reg
@@ -297,7 +298,7 @@ module _ (m : Mach) (formed : WellFormed m) where
           by false e =
               subst (ReadFor made r) (sym (by_move d ∙ ap (λ b. cond b d.from r) e))
               (itself (λ q c.
-              differ (is_copy (last_time made) time d.from r)
+              not_both (is_copy (last_time made) time d.from r)
               (sym (ap (λ xs. is_copy (last_time made) (suc (length xs)) q r) (the_move q c).place
               ∙ ap (λ q. is_copy (last_time made) time q r) (same_source q c))
               ∙ copy_is q c) e))

@@ -4,13 +4,11 @@ use Rattle.std.proofs.lemmas.Bool.{cases_lt}
 use Rattle.std.specs.List.{Contains}
 use Rattle.bs_words.proofs.Lists.{none_in, first_in, later_in, in_cons}
 use Rattle.cse_deadcode.specs.Last.{or_before, last}
+use Rattle.bs_words.proofs.Truths.{not_both}
 
 -- none here passes
 abbrev pub AreQuiet : {X : Type 0} → (X → Bool) → List X → Type 0
 AreQuiet {X} test xs = (x : X) → Contains xs x → test x ≡ false
-
-differ : (b : Bool) → b ≡ true → b ≡ false → ⊥
-differ b e h = cc
 
 module _ {X : Type 0} (test : X → Bool) where
   -- ---- one more at the end
@@ -95,7 +93,7 @@ module _ {X : Type 0} (test : X → Bool) where
   none_later false (suc m) e = absurd (omega (arith, e))
 
   none_both : (b : Bool) (m : ℕ) → b ≡ false → m ≤ 0 → or_before b m ≤ 0
-  none_both true m e h = absurd (differ true refl e)
+  none_both true m e h = absurd (not_both true refl e)
   none_both false zero e h = omega arith
   none_both false (suc m) e h = absurd (omega (arith, h))
 
@@ -123,4 +121,4 @@ module _ {X : Type 0} (test : X → Bool) where
       by : (length others < last test (others ++ x ∷ run)) ⊎ (last test (others ++ x ∷ run) ≤ length others) →
           length others < last test (others ++ x ∷ run)
       by (inl lt) = lt
-      by (inr le) = absurd (differ (test x) h (quiet_past others (x ∷ run) le x (first_in x run)))
+      by (inr le) = absurd (not_both (test x) h (quiet_past others (x ∷ run) le x (first_in x run)))

@@ -25,35 +25,33 @@ use Rattle.cse_deadcode.specs.declared.events.Event.TheVariants as event
 use Rattle.cse_deadcode.specs.Events.{computation}
 use Rattle.cse_deadcode.specs.Times.{is_same, writes_place, writes, does, happens}
 use Rattle.cse_deadcode.proofs.Last.{AreQuiet}
+use Rattle.bs_words.proofs.Truths.{not_both}
 
 -- ---- truth
 
-pub differ : (b : Bool) → b ≡ true → b ≡ false → ⊥
-differ b e h = cc
-
 pub not_false : (b : Bool) → not b ≡ false → b ≡ true
 not_false true e = refl
-not_false false e = absurd (differ true refl e)
+not_false false e = absurd (not_both true refl e)
 
 pub true_not : (b : Bool) → b ≡ true → not b ≡ false
 true_not true e = refl
-true_not false e = absurd (differ false e refl)
+true_not false e = absurd (not_both false e refl)
 
 pub first_false : (a b : Bool) → a || b ≡ false → a ≡ false
-first_false true b e = absurd (differ true refl e)
+first_false true b e = absurd (not_both true refl e)
 first_false false b e = refl
 
 pub second_false : (a b : Bool) → a || b ≡ false → b ≡ false
-second_false true b e = absurd (differ true refl e)
+second_false true b e = absurd (not_both true refl e)
 second_false false b e = e
 
 pub both_false : (a b : Bool) → a ≡ false → b ≡ false → a || b ≡ false
-both_false true b e h = absurd (differ true refl e)
+both_false true b e h = absurd (not_both true refl e)
 both_false false b e h = h
 
 pub first_true : (a b : Bool) → a ≡ true → a || b ≡ true
 first_true true b e = refl
-first_true false b e = absurd (differ false e refl)
+first_true false b e = absurd (not_both false e refl)
 
 pub second_true : (a b : Bool) → b ≡ true → a || b ≡ true
 second_true true b e = refl
@@ -61,7 +59,7 @@ second_true false b e = e
 
 pub only_first : (a b : Bool) → b ≡ false → a || b ≡ true → a ≡ true
 only_first true b e h = refl
-only_first false b e h = absurd (differ b h e)
+only_first false b e h = absurd (not_both b h e)
 
 -- ---- numbers
 
@@ -69,9 +67,9 @@ pub equal_numbers : (a b : ℕ) → is_eq (nat_cmp a b) ≡ true → a ≡ b
 equal_numbers a b e = exact_unsigned a b (by (nat_cmp a b) e)
   where
     by : (o : Ordering) → is_eq o ≡ true → o ≡ Equal
-    by Less e = absurd (differ false e refl)
+    by Less e = absurd (not_both false e refl)
     by Equal e = refl
-    by Greater e = absurd (differ false e refl)
+    by Greater e = absurd (not_both false e refl)
 
 pub numbers_equal : (a b : ℕ) → a ≡ b → is_eq (nat_cmp a b) ≡ true
 numbers_equal a b e = ap (λ x. is_eq (nat_cmp x b)) e ∙ ap is_eq (tied_itself nat_cmp_total b)
@@ -137,9 +135,9 @@ pub colour_written : (n : ℕ) (w : Reg) → writes (event.WritesColour n) w ≡
 colour_written n w e = by w.loc e
   where
     by : (l : Loc) → writes_place (event.WritesColour n) l ≡ true → l ≡ loc.Machine n
-    by loc.Unset e = absurd (differ false e refl)
+    by loc.Unset e = absurd (not_both false e refl)
     by (loc.Machine k) e = ap loc.Machine (equal_numbers k n e)
-    by (loc.Slot k) e = absurd (differ false e refl)
+    by (loc.Slot k) e = absurd (not_both false e refl)
 
 pub written_colour : (n : ℕ) (w : Reg) → w.loc ≡ loc.Machine n → writes (event.WritesColour n) w ≡ true
 written_colour n w e = ap (writes_place (event.WritesColour n)) e ∙ numbers_equal n n refl
@@ -148,8 +146,8 @@ pub slot_written : (n : ℕ) (w : Reg) → writes (event.WritesSlot n) w ≡ tru
 slot_written n w e = by w.loc e
   where
     by : (l : Loc) → writes_place (event.WritesSlot n) l ≡ true → l ≡ loc.Slot n
-    by loc.Unset e = absurd (differ false e refl)
-    by (loc.Machine k) e = absurd (differ false e refl)
+    by loc.Unset e = absurd (not_both false e refl)
+    by (loc.Machine k) e = absurd (not_both false e refl)
     by (loc.Slot k) e = ap loc.Slot (equal_numbers k n e)
 
 pub written_slot : (n : ℕ) (w : Reg) → w.loc ≡ loc.Slot n → writes (event.WritesSlot n) w ≡ true
@@ -164,7 +162,7 @@ AreUnwritten e xs =
 
 pub unwritten : (e : Event) (xs : List Instr) → AreQuiet (happens e) xs → AreUnwritten e xs
 unwritten e xs q i c w d h =
-    differ (writes e w) h
+    not_both (writes e w) h
     (none_any (writes e) i.results (first_false (list_any (writes e) i.results) (does e i.op i.args) (q i c)) w d)
 
 -- an event that is only by a write

@@ -25,11 +25,12 @@ use Rattle.cse_deadcode.specs.Made.{remade, made_by}
 use Rattle.cse_deadcode.specs.Times.{is_same, writes, does, happens, last_time}
 use Rattle.cse_deadcode.specs.Repeats.{stands, standing_first, standing, standing_found, standing_at, repeated_op, repeated, without_repeat}
 use Rattle.cse_deadcode.proofs.Last.{Found, find, last_from}
-use Rattle.cse_deadcode.proofs.Noting.{differ, second_true, any_none, never_written}
+use Rattle.cse_deadcode.proofs.Noting.{second_true, any_none, never_written}
 use Rattle.cse_deadcode.proofs.Alike.{operator_of, same_itself, OperatorShape, operator_shape, alike}
 use Rattle.cse_deadcode.proofs.Parts.{in_front, behind, none_cons, some_same, none_some, some_none, at_seam, Places, one_place, further_on, places, places_end, operand_in}
 use Rattle.cse_deadcode.proofs.Planned as step
 use Rattle.cse_deadcode.proofs.Standing.{of_each, all_straight, still_stands, stands_still}
+use Rattle.bs_words.proofs.Truths.{not_both}
 
 -- ---- what is done in an operator
 
@@ -47,21 +48,21 @@ data Computing (c : Computed) : MachOp → List Reg → Type 0 where
 
 computing_of : (c : Computed) (f : MachOp) (args : List Reg) → does (event.Computes c) f args ≡ true → Computing c f args
 computing_of c (mach.Op (op.Pure (pure.Operator g q))) args e = computing e
-computing_of c (mach.Op (op.Pure (pure.Copy kind))) args e = absurd (differ false e refl)
-computing_of c (mach.Op (op.Pure (pure.Constant w))) args e = absurd (differ false e refl)
-computing_of c (mach.Op (op.Pure (pure.Symbol name))) args e = absurd (differ false e refl)
-computing_of c (mach.Op (op.Access (access.Alloc blocks))) args e = absurd (differ false e refl)
-computing_of c (mach.Op (op.Access (access.Load chunk offset))) args e = absurd (differ false e refl)
-computing_of c (mach.Op (op.Access (access.Store chunk offset))) args e = absurd (differ false e refl)
-computing_of c (mach.Op (op.Calling f)) args e = absurd (differ false e refl)
-computing_of c (mach.Op (op.Leaving f)) args e = absurd (differ false e refl)
-computing_of c (mach.Mark f) args e = absurd (differ false e refl)
+computing_of c (mach.Op (op.Pure (pure.Copy kind))) args e = absurd (not_both false e refl)
+computing_of c (mach.Op (op.Pure (pure.Constant w))) args e = absurd (not_both false e refl)
+computing_of c (mach.Op (op.Pure (pure.Symbol name))) args e = absurd (not_both false e refl)
+computing_of c (mach.Op (op.Access (access.Alloc blocks))) args e = absurd (not_both false e refl)
+computing_of c (mach.Op (op.Access (access.Load chunk offset))) args e = absurd (not_both false e refl)
+computing_of c (mach.Op (op.Access (access.Store chunk offset))) args e = absurd (not_both false e refl)
+computing_of c (mach.Op (op.Calling f)) args e = absurd (not_both false e refl)
+computing_of c (mach.Op (op.Leaving f)) args e = absurd (not_both false e refl)
+computing_of c (mach.Mark f) args e = absurd (not_both false e refl)
 
 computing_operates : (c : Computed) (f : MachOp) (args : List Reg) → Computing c f args → is_operator f ≡ true
 computing_operates c f args (computing e) = refl
 
 second_of : (a b : Bool) → a ≡ false → a || b ≡ true → b ≡ true
-second_of true b e h = absurd (differ true refl e)
+second_of true b e h = absurd (not_both true refl e)
 second_of false b e h = h
 
 computes_in : (c : Computed) (i : Instr) → happens (event.Computes c) i ≡ true → does (event.Computes c) i.op i.args ≡ true
@@ -72,7 +73,7 @@ computes_in c i e =
 -- ---- an instruction and what it repeats
 
 alone : (at : Event → ℕ) (made : List Instr) (f : MachOp) (args : List Reg) → is_operator f ≡ false → repeated_op at made f args ≡ None
-alone at made (mach.Op (op.Pure (pure.Operator g q))) args e = absurd (differ true refl e)
+alone at made (mach.Op (op.Pure (pure.Operator g q))) args e = absurd (not_both true refl e)
 alone at made (mach.Op (op.Pure (pure.Copy kind))) args e = refl
 alone at made (mach.Op (op.Pure (pure.Constant w))) args e = refl
 alone at made (mach.Op (op.Pure (pure.Symbol name))) args e = refl
@@ -284,11 +285,11 @@ module _ (m : Mach) (formed : WellFormed m) where
       where
         last_of : (j : Instr) → remade without_repeat made i ≡ j → is_operator j.op ≡ true → Fate → Contains m.code j
         last_of j e o (same_left n h) = subst (Contains m.code) (sym h ∙ e) known
-        last_of j e o (made_move n) = absurd (differ (is_operator j.op) o (ap (λ (j : Instr). is_operator j.op) (sym e) ∙ n))
+        last_of j e o (made_move n) = absurd (not_both (is_operator j.op) o (ap (λ (j : Instr). is_operator j.op) (sym e) ∙ n))
 
         fresh_last : (r : Reg) → Fate → Repeats made (remade without_repeat made i) r → ⊥
         fresh_last r (same_left n h) p = none_is n r (subst (λ (i : Instr). Repeats made i r) h p)
-        fresh_last r (made_move n) p = differ (is_operator (remade without_repeat made i).op) (ap is_operator (sym p.same_op) ∙ p.stands.operates) n
+        fresh_last r (made_move n) p = not_both (is_operator (remade without_repeat made i).op) (ap is_operator (sym p.same_op) ∙ p.stands.operates) n
 
         by : (others : List Instr) (j : Instr) (run : List Instr) → made ++ remade without_repeat made i ∷ [] ≡ others ++ j ∷ run → (r : Reg) →
             Repeats others j r → Places others j run made (remade without_repeat made i) [] → ⊥

@@ -22,7 +22,8 @@ use Rattle.cse_deadcode.specs.declared.events.Event.TheVariants as event
 use Rattle.cse_deadcode.specs.Times.{writes, happens, last_time}
 use Rattle.cse_deadcode.specs.Repeats.{operands_stand, place_stands, value_stands, result_stands, stands}
 use Rattle.cse_deadcode.proofs.Last.{AreQuiet, quiet_past, past_quiet}
-use Rattle.cse_deadcode.proofs.Noting.{differ, number_written, written_number, origin_written, written_origin, colour_written, written_colour, slot_written, written_slot, number_write, origin_write, colour_write, slot_write, unwritten, quiet, ends_run, in_run, keeps_addrs, addrs_kept}
+use Rattle.cse_deadcode.proofs.Noting.{number_written, written_number, origin_written, written_origin, colour_written, written_colour, slot_written, written_slot, number_write, origin_write, colour_write, slot_write, unwritten, quiet, ends_run, in_run, keeps_addrs, addrs_kept}
+use Rattle.bs_words.proofs.Truths.{not_both}
 
 pub of_each : {A : Type 0} (P : A → Type 0) (xs : List A) (x : A) → All P xs → Contains xs x → P x
 of_each P xs x h c = subst P c.2 (h c.0 x c.1)
@@ -40,10 +41,10 @@ in_all test (y ∷ xs) h =
 
 operator_straight : (f : MachOp) → is_operator f ≡ true → is_straight f ≡ true
 operator_straight (mach.Op (op.Pure f)) e = refl
-operator_straight (mach.Op (op.Access f)) e = absurd (differ false e refl)
-operator_straight (mach.Op (op.Calling f)) e = absurd (differ false e refl)
-operator_straight (mach.Op (op.Leaving f)) e = absurd (differ false e refl)
-operator_straight (mach.Mark f) e = absurd (differ false e refl)
+operator_straight (mach.Op (op.Access f)) e = absurd (not_both false e refl)
+operator_straight (mach.Op (op.Calling f)) e = absurd (not_both false e refl)
+operator_straight (mach.Op (op.Leaving f)) e = absurd (not_both false e refl)
+operator_straight (mach.Mark f) e = absurd (not_both false e refl)
 
 -- each of these is straight
 pub all_straight : (run : List Instr) → ((i : Instr) → Contains run i → is_straight i.op ≡ true) → AreStraight run

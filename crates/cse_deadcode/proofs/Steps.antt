@@ -8,11 +8,9 @@ use Rattle.dataflow.specs.Flow.{Graph}
 use Rattle.dataflow.specs.Rows.{row}
 use Rattle.dataflow.proofs.Steps.{passing, or_left, or_right, passed, contains_from, from_contains, not_from}
 use Rattle.cse_deadcode.specs.Flows.{UsedBefore, read, read_for, on, aside, is_wanted, enters, IsSound, IsClosedAt}
+use Rattle.bs_words.proofs.Truths.{not_both}
 
 -- ---- what enters a place
-
-pub differ : (b : Bool) → b ≡ true → b ≡ false → ⊥
-differ b e h = cc
 
 module _ (g : Graph) (computes : ℕ → Bool) (rows : List (List Bool)) where
   -- in the set of a next place, and of one aside
@@ -41,7 +39,7 @@ module _ (g : Graph) (computes : ℕ → Bool) (rows : List (List Bool)) where
     by_later p r both =
         let parts = and_parts (later p r) (not (writes p r)) both in
         let to = passing (λ q. has (row rows q) r) (g.next p) parts.0 in
-        on (λ c. differ (writes p r) (from_contains (g.writes p) r c) (not-true (writes p r) parts.1)) to.within
+        on (λ c. not_both (writes p r) (from_contains (g.writes p) r c) (not-true (writes p r) parts.1)) to.within
         (sound.used to.element r to.passes)
 
     by_past : (p r : ℕ) → past p r ≡ true → UsedBefore g computes p r

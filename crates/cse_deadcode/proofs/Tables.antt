@@ -15,7 +15,7 @@ use Rattle.mach_laws.proofs.Walking.{drop_ending, place_is}
 use Rattle.dead_rules.specs.Dropped.{may_go, IsUsed, without, dropped, AreDead, IsDropped}
 use Rattle.cse_deadcode.specs.Uses.{AreUses, is_one_used, is_dead, is_first_dead, drops_by}
 use Rattle.dataflow.proofs.Steps.{or_left, or_right}
-use Rattle.cse_deadcode.proofs.Steps.{differ}
+use Rattle.bs_words.proofs.Truths.{not_both}
 
 -- ---- registers that are used
 
@@ -33,7 +33,7 @@ record UsedOne (rows : List (List Bool)) (p : ℕ) (rs : List Reg) : Type 0 wher
   used : has (row rows p) number ≡ true
 
 some_used : (rows : List (List Bool)) (p : ℕ) (rs : List Reg) → is_one_used rows p rs ≡ true → UsedOne rows p rs
-some_used rows p [] e = absurd (differ false e refl)
+some_used rows p [] e = absurd (not_both false e refl)
 some_used rows p (r ∷ rs) e =
     elim (or_cases (has (row rows p) r.number) (is_one_used rows p rs) e) [
       | inl h ↦ record { number = r.number; among = first refl; used = h }
@@ -47,15 +47,15 @@ dead_at : (rows : List (List Bool)) (code : List Instr) (i : Instr) (next : List
     drops_by rows code (length next) ≡ is_dead rows (length code - length next) i
 dead_at rows code i next e = ap (is_first_dead rows (length code - length next)) (drop_ending e)
 
-not_both : (g b : Bool) → g ≡ true → g && not b ≡ true → b ≡ false
-not_both true true e h = absurd (differ false h refl)
-not_both true false e h = refl
-not_both false b e h = absurd (differ false e refl)
+other_false : (g b : Bool) → g ≡ true → g && not b ≡ true → b ≡ false
+other_false true true e h = absurd (not_both false h refl)
+other_false true false e h = refl
+other_false false b e h = absurd (not_both false e refl)
 
 not_none : (g b : Bool) → g ≡ true → g && not b ≡ false → b ≡ true
 not_none true true e h = refl
-not_none true false e h = absurd (differ true refl h)
-not_none false b e h = absurd (differ false e refl)
+not_none true false e h = absurd (not_both true refl h)
+not_none false b e h = absurd (not_both false e refl)
 
 module _ (m : Mach) (rows : List (List Bool)) (uses : AreUses m rows) where
   abbrev drops : ℕ → Bool
@@ -72,9 +72,9 @@ module _ (m : Mach) (rows : List (List Bool)) (uses : AreUses m rows) where
       record {
         dead = λ i next s g d it.
             let e = ending_of s in
-            differ (is_one_used rows (place_of m next) i.results)
+            not_both (is_one_used rows (place_of m next) i.results)
             (one_used rows (place_of m next) i.results it.number it.among (used_at it.number (ending_next e) it.used))
-            (not_both (may_go i.op) (is_one_used rows (place_of m next) i.results) g (sym (dead_at rows m.code i next e) ∙ d));
+            (other_false (may_go i.op) (is_one_used rows (place_of m next) i.results) g (sym (dead_at rows m.code i next e) ∙ d));
         wanted = λ i next s g d.
             let e = ending_of s in
             let w =

@@ -1,5 +1,5 @@
 -- Rows of the tree, and the lists that the code goes through.
-use Rattle.std.proofs.Common.{◌≡◌, ◌∙◌, ℕ, suc, ◌+◌, ◌<◌, ◌≤◌, ◌==◌, Bool, true, false, cond, List, [], ◌∷◌, Option, Some, None, map, option_map, drop, length, get_or, slice_get, refl, ap, sym, subst, add-one, drop-cons, Vec, Box, Global}
+use Rattle.std.proofs.Common.{◌≡◌, ◌∙◌, ℕ, ◌+◌, ◌<◌, ◌≤◌, ◌==◌, Bool, true, false, cond, List, [], ◌∷◌, Option, Some, None, map, option_map, drop, length, get_or, slice_get, refl, ap, sym, subst, Vec, Box, Global}
 use mathlib.Core.Former.{Count}
 use Rattle.std.proofs.lemmas.List.{drop_all}
 use Rattle.bs_words.specs.declared.values.Value.{Value}
@@ -11,13 +11,13 @@ use Rattle.cmm_tree.specs.declared.expr.Binding.{Binding}
 use Rattle.cmm_tree.specs.declared.expr.Case.{Case}
 use Rattle.cmm_tree.specs.declared.expr.CaseIndex.{CaseIndex}
 use Rattle.cmm_tree.specs.declared.expr.Handler.{Handler}
-use Rattle.cmm_tree.specs.declared.expr.Form.{Form}
 use Rattle.cmm_tree.specs.declared.expr.Form as form
 use Rattle.cmm_meaning.specs.State.{World, Here}
 use Rattle.cmm_meaning.specs.Evaluation.{Body, Evaluated, Evaluation, Gives, Exits, Raises, Stops, Surroundings, and_then, with_value, tested, with_bound}
 use Rattle.cmm_meaning.specs.Choices.{Chosen, is_named, last_naming, first_case, ready_for}
 use Rattle.eval_frames.specs.Held.{inside, in_order_held, bindings_held, choices_held, readied_held}
 use Rattle.eval_frames.specs.Filled.{expression, elements_from, scoped_binding, bindings_from, first_bound, body_of, case_ready, cases_ready, handler_ready, handlers_ready, handlers_of}
+use Rattle.bs_words.proofs.Lists.{drop_step}
 
 -- what goes on alike gives the same
 pub then_same : {A B : Type 0} (e : Evaluated A) (f g : A → Here → World → Evaluated B) → ((a : A) (h : Here) (w : World) → f a h w ≡ g a h w) →
@@ -36,9 +36,6 @@ value_same (Raises v h w) f g p = refl
 value_same (Stops why w) f g p = refl
 
 -- the item at an index, and those after it
-pub from_here : {A : Type 0} (xs : List A) (i : ℕ) (x : A) → i < length xs → x ≡ get_or xs i x → drop i xs ≡ x ∷ drop (i + 1) xs
-from_here xs i x lt this =
-    drop-cons xs i x lt ∙ ap (λ y. y ∷ drop (suc i) xs) (sym this) ∙ ap (λ k. x ∷ drop k xs) (sym (add-one i))
 
 -- ---- elements and bindings
 
@@ -100,7 +97,7 @@ choices_is s n (form.more_of-Case indexes at type f rest) tail =
 
 module _ (xs : List CaseIndex) (i : ℕ) (x : CaseIndex) (number : ℕ) (lt : i < length xs) (this : x ≡ get_or xs i x) where
   pub named_turn : is_named (map index_view (drop i xs)) number ≡ cond (x.index == number) true (is_named (map index_view (drop (i + 1) xs)) number)
-  named_turn = ap (λ l. is_named (map index_view l) number) (from_here xs i x lt this)
+  named_turn = ap (λ l. is_named (map index_view l) number) (drop_step xs i x lt this)
 
 pub named_end : (xs : List CaseIndex) (i number : ℕ) → length xs ≤ i → is_named (map index_view (drop i xs)) number ≡ false
 named_end xs i number le = ap (λ l. is_named (map index_view l) number) (drop_all i xs le)
@@ -112,7 +109,7 @@ first_is s tail (x ∷ xs) = refl
 pub naming_turn : (s : Surroundings) (tail : Bool) (xs : List Case) (i : ℕ) (x : Case) (number : ℕ) (so_far : Option (Chosen Body)) → i < length xs → x ≡ get_or xs i x →
     last_naming (cases_ready s tail (drop i xs)) number so_far
     ≡ last_naming (cases_ready s tail (drop (i + 1) xs)) number (cond (is_named (map index_view x.indexes.items) number) (Some (case_ready s tail x)) so_far)
-naming_turn s tail xs i x number so_far lt this = ap (λ l. last_naming (cases_ready s tail l) number so_far) (from_here xs i x lt this)
+naming_turn s tail xs i x number so_far lt this = ap (λ l. last_naming (cases_ready s tail l) number so_far) (drop_step xs i x lt this)
 
 pub naming_end : (s : Surroundings) (tail : Bool) (xs : List Case) (i number : ℕ) (so_far : Option (Chosen Body)) → length xs ≤ i →
     last_naming (cases_ready s tail (drop i xs)) number so_far ≡ so_far
@@ -134,7 +131,7 @@ handlers_is s b v tail =
 
 pub ready_turn : (s : Surroundings) (tail within : Bool) (label : LabelTree) (xs : List Handler) (i : ℕ) (x : Handler) → i < length xs → x ≡ get_or xs i x →
     ready_for within label (handlers_ready s tail (drop i xs)) ≡ ready_for within label (handlers_ready s tail (x ∷ drop (i + 1) xs))
-ready_turn s tail within label xs i x lt this = ap (λ l. ready_for within label (handlers_ready s tail l)) (from_here xs i x lt this)
+ready_turn s tail within label xs i x lt this = ap (λ l. ready_for within label (handlers_ready s tail l)) (drop_step xs i x lt this)
 
 pub ready_end : (s : Surroundings) (tail within : Bool) (label : LabelTree) (xs : List Handler) (i : ℕ) → length xs ≤ i →
     ready_for within label (handlers_ready s tail (drop i xs)) ≡ None

@@ -61,7 +61,8 @@ impl<'a> Here<'a> {
         }
     }
 
-    /// The stack bytes up to here: a try takes 16. No memory holds as many bytes as would pass a `u64`.
+    /// The stack bytes up to here: a try takes 16. The error is want of memory; a stack of
+    /// 2^64 bytes or more is answered so too.
     pub fn taken(&self) -> Result<u64, AllocError>
         ensures { IfOk result (λ bytes. bytes ≡ taken (here_view self.now)) }
     {

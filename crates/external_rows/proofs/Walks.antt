@@ -1,5 +1,5 @@
 -- How rows grow while nodes are walked.
-use Rattle.std.proofs.Common.{◌≡◌, ℕ, suc, ◌+◌, ◌<◌, ◌≤◌, List, [], ◌∷◌, ◌++◌, length, get_or, drop, refl, sym, ap, ap₂, ◌∙◌, subst, OnOk, Ok, Err, Result, drop-cons, arith}
+use Rattle.std.proofs.Common.{◌≡◌, ℕ, ◌+◌, ◌<◌, ◌≤◌, List, [], ◌∷◌, ◌++◌, length, get_or, drop, refl, sym, ap, ap₂, ◌∙◌, subst, OnOk, Ok, Err, Result}
 use Rattle.std.proofs.lemmas.List.{drop_all, append-nil}
 use Rattle.bs_words.specs.External.{External}
 use Rattle.cmm_tree.specs.declared.expr.Expr.{Expr}
@@ -8,11 +8,7 @@ use Rattle.cmm_tree.specs.declared.file.Item.TheVariants as item
 use Rattle.image_rules.specs.Held.{calls_held, calls_among_items}
 use Rattle.image_rules.proofs.Externals.{firsts_append}
 use Rattle.layout_rules.specs.Externals.{firsts_behind}
-
-pub drop_step : {A : Type 0} → (xs : List A) (i : ℕ) (x : A) → i < length xs → x ≡ get_or xs i x → drop i xs ≡ x ∷ drop (i + 1) xs
-drop_step xs i x h e =
-    let next : suc i ≡ i + 1 = omega arith in
-    drop-cons xs i x h ∙ (ap (λ y. y ∷ drop (suc i) xs) (sym e) ∙ ap (λ n. x ∷ drop n xs) next)
+use Rattle.bs_words.proofs.Lists.{drop_step}
 
 -- the calls of one item after the other
 pub one_more : {A : Type 0} (calls : List A → List External) (own : A → List External) → ((x : A) (xs : List A) → calls (x ∷ xs) ≡ own x ++ calls xs) →

@@ -8,7 +8,7 @@ use Rattle.cmm_tree.specs.declared.file.Function.{Function}
 use Rattle.cmm_tree.specs.declared.file.Item.{Item}
 use Rattle.cmm_tree.specs.declared.file.Item.TheVariants as item
 use Rattle.cmm_types.specs.Typing.{AreItemsAnnotated, IsFunctionAnnotated}
-use Rattle.cmm_types.proofs.Turns.{drop_here}
+use Rattle.bs_words.proofs.Lists.{drop_step}
 
 abbrev tree : Bor Function → FunctionTree
 tree f = function_view f.now
@@ -26,7 +26,7 @@ moved (g ∷ fs) f rest = ap (λ (l : List FunctionTree). tree g ∷ l) (moved f
 pub function_listed : (items : List Item) (k : ℕ) (i : Item) (f : Bor Function) (fs gs : List (Bor Function)) →
     k < length items → i ≡ get_or items k i → i ≡ item.Function f.now → gs ≡ fs ++ (f ∷ []) → AreListed items k fs → AreListed items (k + 1) gs
 function_listed items k i f fs gs less at is more so =
-    let here : drop k items ≡ item.Function f.now ∷ drop (k + 1) items = drop_here items k i less at ∙ ap (λ (j : Item). j ∷ drop (k + 1) items) is in
+    let here : drop k items ≡ item.Function f.now ∷ drop (k + 1) items = drop_step items k i less at ∙ ap (λ (j : Item). j ∷ drop (k + 1) items) is in
     let both : IsFunctionAnnotated f.now × AreItemsAnnotated (drop (k + 1) items) = subst AreItemsAnnotated here so.rest in
     record {
       trees =
@@ -41,7 +41,7 @@ function_listed items k i f fs gs less at is more so =
 pub data_passed : (items : List Item) (k : ℕ) (i : Item) (d : DataList) (fs gs : List (Bor Function)) →
     k < length items → i ≡ get_or items k i → i ≡ item.Data d → gs ≡ fs → AreListed items k fs → AreListed items (k + 1) gs
 data_passed items k i d fs gs less at is same so =
-    let here : drop k items ≡ item.Data d ∷ drop (k + 1) items = drop_here items k i less at ∙ ap (λ (j : Item). j ∷ drop (k + 1) items) is in
+    let here : drop k items ≡ item.Data d ∷ drop (k + 1) items = drop_step items k i less at ∙ ap (λ (j : Item). j ∷ drop (k + 1) items) is in
     let both : Unit {0} × AreItemsAnnotated (drop (k + 1) items) = subst AreItemsAnnotated here so.rest in
     subst (AreListed items (k + 1)) (sym same) (record {
       trees = sym (ap (λ (l : List Item). map tree fs ++ functions_among (map item_view l)) here) ∙ so.trees;

@@ -3,7 +3,7 @@ use Rattle.std.proofs.Common.{◌≡◌, ℕ, zero, suc, List, [], ◌∷◌, So
 use Rattle.std.specs.Prelude.{Contains, slice_get, ◌<◌, ◌^◌}
 use Rattle.std.specs.List.{AllByRecursion, AllZip}
 use Rattle.std.proofs.lemmas.Option.{none-some, same_Some}
-use Rattle.compiled_files.proofs.Known.{file_can, function_accepted, definitions}
+use Rattle.compiled_files.proofs.Known.{file_can, function_accepted}
 use Rattle.code_bounds.proofs.Known.{chained}
 use Rattle.cmm_front.specs.FileOf.{IsFileOf}
 use Rattle.cmm_tree.specs.Tree.{FunctionTree, FileTree, functions}

@@ -15,8 +15,7 @@ use Rattle.lin_ir.specs.declared.lin.Lin.{Lin}
 use Rattle.lin_laws.specs.declared.position.Position.{Position}
 use Rattle.lin_flow.specs.Nodes.{AreWalkedTo}
 use Rattle.lin_flow.specs.Sizes.{IsCountable}
-use Rattle.lin_flow.proofs.Searching.{pushed_kept, pushed_here}
-use Rattle.bs_words.proofs.Lists.{got}
+use Rattle.bs_words.proofs.Lists.{got, same_some, pushed_kept, pushed_here}
 use Rattle.frame_tables.specs.Described.{described, AreDescribed}
 use Rattle.frame_tables.specs.Points.{ArePoints}
 use Rattle.frame_tables.specs.declared.after.Point.{Point}
@@ -77,9 +76,6 @@ pub describing_none : (frame first : ℕ) (points : List Point) (sets : List (Li
     Describing frame first points sets 0 ds
 describing_none frame first points sets ds e =
     record { len = ap length e; each = λ j point lt f. absurd (omega (arith, lt)) }
-
-same_some : {A : Type 0} (x y : A) → Some x ≡ Some y → x ≡ y
-same_some x y e = cc
 
 pub describing_more : (frame first : ℕ) (points : List Point) (sets : List (List Bool)) (k : ℕ) (ds more : List Descr) (point : Point)
     (set : List Bool) (d : Descr) → slice_get points k ≡ Some point → set ≡ row sets (first + k) → d ≡ described frame point set →

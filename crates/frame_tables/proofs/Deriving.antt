@@ -6,7 +6,7 @@ use Rattle.std.proofs.lemmas.Bool.{cases_lt}
 use Rattle.std.proofs.lemmas.List.Elements.{All-nil}
 use Rattle.std.proofs.lemmas.Option.{slice_get_within, slice_get-get_or, get_or_from_slice_get}
 use Rattle.bs_words.specs.Contents.{contents}
-use Rattle.bs_words.proofs.Lists.{got}
+use Rattle.bs_words.proofs.Lists.{got, same_some}
 use Rattle.dataflow.specs.Flow.{IsPlace, WellFormed}
 use Rattle.dataflow.specs.Live.{IsLiveness}
 use Rattle.dataflow.specs.Rows.{row}
@@ -32,9 +32,6 @@ use Rattle.frame_tables.specs.Points.{HasRoots, IsSearched, IsPoint, ArePoints}
 use Rattle.lin_flow.specs.Search.{all_of}
 use Rattle.frame_tables.specs.declared.after.Point.{Point}
 use Rattle.lin_flow.specs.declared.search.Search.{Search}
-
-same_some : {A : Type 0} (x y : A) → Some x ≡ Some y → x ≡ y
-same_some x y e = cc
 
 -- ---- the search
 

@@ -8,7 +8,7 @@ use Rattle.std.proofs.lemmas.List.Elements.{All-nil, All-push, All-weaker, Conta
 use Rattle.std.proofs.lemmas.List.Quantifiers.{all_pairs_push}
 use Rattle.std.proofs.lemmas.Option.{slice_get_within}
 use Rattle.bs_words.specs.Contents.{contents}
-use Rattle.bs_words.proofs.Lists.{none_in, got, drop_none}
+use Rattle.bs_words.proofs.Lists.{none_in, got, drop_none, same_some, pushed_kept, pushed_here, pushed_cases}
 use Rattle.dataflow.specs.declared.flow.Place as place
 use Rattle.lin_ir.specs.Descriptors.{frame_points}
 use Rattle.lin_ir.specs.Meaning.{passes_frame}
@@ -20,16 +20,12 @@ use Rattle.lin_laws.proofs.Numbers.{are_writes}
 use Rattle.lin_laws.proofs.Places.{drop_is, place_drop, number_is, number_all}
 use Rattle.lin_laws.specs.Graph.{place_of, position, steps, raise_steps, AreWrites, AreNodes, IsAfter}
 use Rattle.lin_laws.specs.declared.position.Position.{Position}
-use Rattle.lin_flow.proofs.Searching.{pushed_cases, pushed_kept, pushed_here}
 use Rattle.lin_flow.proofs.Visiting.{results_numbered}
 use Rattle.frame_tables.specs.Points.{IsOneOf, IsChosen, IsChoice, HasTraps, edges_of, ComesFrom, Gathers, IsGathered, IsAfterNode, IsFramePoint, IsRooted, HasRoots, IsSearched, IsPoint, ArePoints}
 use Rattle.lin_flow.specs.Search.{all_of, groups_of, members, Entered, HasFirst}
 use Rattle.frame_tables.specs.declared.after.Choice.{Choice}
 use Rattle.frame_tables.specs.declared.after.Point.{Point}
 use Rattle.lin_flow.specs.declared.search.Search.{Search}
-
-same_some : {A : Type 0} (x y : A) → Some x ≡ Some y → x ≡ y
-same_some x y e = cc
 
 -- ---- which positions are those of a frame point
 

@@ -11,9 +11,7 @@ use Rattle.lin_laws.specs.Graph.{place_of, position, AreReached}
 use Rattle.lin_laws.specs.declared.position.Position.{Position}
 use Rattle.lin_flow.specs.Nodes.{AreWalkedTo}
 use Rattle.frame_tables.specs.Pushed.{AreTabled, AreCounted}
-
-same_some : {A : Type 0} (x y : A) → Some x ≡ Some y → x ≡ y
-same_some x y e = cc
+use Rattle.bs_words.proofs.Lists.{same_some}
 
 module _ (m : Lin) (all : List Position) where
   zeros : (n left : ℕ) → slice_index (replicate n 0) left ≡ 0

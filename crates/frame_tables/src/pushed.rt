@@ -36,7 +36,8 @@ fn table_of(alloc: Global, lin: &Lin, positions: &[Position]) -> Result<Vec<u32>
 /// no walk comes to.
 ///
 /// Walks are followed with the traps that are pushed, so that a handler counts only where something
-/// is raised to it. What is asked of the function is what its descriptors ask too.
+/// is raised to it. What is asked of the function is what its descriptors ask too. More positions of
+/// walks than a number can count are want of memory.
 pub fn pushed_traps(alloc: Global, lin: &Lin) -> Result<Vec<u32>, AllocError>
     requires located { AreLocated lin.now }
     requires depth { OneDepth lin.now }

@@ -78,7 +78,8 @@ fn describe_searched(
 /// point with different traps, a walk from any of them counts.
 ///
 /// Each location of the function has to be a colour, t0 or one of its slots; each place has to have
-/// one number of pushed traps; and frames, traps and lines have to fit what descriptors can say.
+/// one number of pushed traps; and frames, traps and lines have to fit what descriptors can say. More
+/// positions of walks than a number can count are want of memory.
 pub fn descriptors(alloc: Global, lin: &Lin) -> Result<Seq<Descr>, AllocError>
     requires located { AreLocated lin.now }
     requires depth { OneDepth lin.now }

@@ -1,8 +1,10 @@
 -- How long the parts of an image are, and what holds of each row.
-use Rattle.std.proofs.Common.{◌≡◌, ℕ, zero, suc, ◌*◌, ◌^◌, ◌<◌, ◌≤◌, Bool, true, false, cond, eqb, List, [], ◌∷◌, ◌++◌, length, get_or, map, refl, ap, subst, arith, inl, inr, length-append}
+use Rattle.std.proofs.Common.{◌≡◌, ℕ, zero, suc, ◌+◌, ◌*◌, ◌^◌, ◌<◌, ◌≤◌, Bool, true, false, cond, eqb, List, [], ◌∷◌, ◌++◌, length, get_or, map, refl, subst, arith, inl, inr, length-append}
 use Rattle.std.specs.List.{flat_map, AllByRecursion}
+use Rattle.bs_words.specs.declared.types.Comp.{Comp}
 use Rattle.image_form.specs.Tables.{Desc}
-use Rattle.image_form.specs.Image.{le16, le32, name_bytes, func_bytes, sym_bytes, ext_bytes, desc_bytes, table_bytes, table_limit, entry_limit, IsEntry, IsDesc}
+use Rattle.image_form.specs.Image.{le16, le32, comp_byte, name_bytes, params_bytes, func_bytes, sym_bytes, ext_bytes, desc_bytes, table_bytes, table_limit, entry_limit, IsEntry, IsDesc}
+use Rattle.std.proofs.lemmas.List.{length-map}
 
 -- what holds of each row's view holds of the row at an index
 pub each_at : {X Y : Type 0} (P : Y → Type 0) (view : X → Y) (xs : List X) (i : ℕ) (d : X) → AllByRecursion P (map view xs) → i < length xs → P (view (get_or xs i d))
@@ -18,6 +20,14 @@ pub length-le32 : (n : ℕ) → length (le32 n) ≡ 4
 unfolding le32
 length-le32 n = refl
 
+pub name_length : (name : List ℕ) → length (name_bytes name) ≡ 2 + length name
+unfolding name_bytes
+name_length name = omega (arith, length-append (le16 (length name)) name, length-le16 (length name))
+
+pub params_length : (params : List Comp) → length (params_bytes params) ≡ 1 + length params
+unfolding params_bytes
+params_length params = let same = length-map params comp_byte in omega (arith, same)
+
 pub length-words : (ws : List ℕ) → length (flat_map le32 ws) ≡ 4 * length ws
 length-words [] = refl
 length-words (w ∷ ws) = omega (arith, length-append (le32 w) (flat_map le32 ws), length-le32 w, length-words ws)
@@ -31,16 +41,12 @@ rows_long : {A : Type 0} (row : A → List ℕ) (rows : List A) → Nonempty row
 rows_long row [] some = omega arith
 rows_long row (x ∷ rows) some = omega (arith, length-append (row x) (flat_map row rows), some x, rows_long row rows some)
 
-length-map' : {X Y : Type 0} (view : X → Y) (xs : List X) → length (map view xs) ≡ length xs
-length-map' view [] = refl
-length-map' view (x ∷ xs) = ap suc (length-map' view xs)
-
 pub few : {A : Type 0} (row : A → List ℕ) (rows : List A) → Nonempty row → length (table_bytes row rows) ≤ table_limit → length rows < 2 ^ 32
 unfolding table_bytes
 few row rows some short = omega (arith, length-append (le32 (length rows)) (flat_map row rows), rows_long row rows some)
 
 pub few_rows : {X A : Type 0} (view : X → A) (row : A → List ℕ) (xs : List X) → Nonempty row → length (table_bytes row (map view xs)) ≤ table_limit → length xs < 2 ^ 32
-few_rows view row xs some short = subst (λ n. n < 2 ^ 32) (length-map' view xs) (few row (map view xs) some short)
+few_rows view row xs some short = subst (λ n. n < 2 ^ 32) (length-map xs view) (few row (map view xs) some short)
 
 pub few_roots : (roots : List ℕ) → length (table_bytes le32 roots) ≤ table_limit → length roots < 2 ^ 32
 unfolding table_bytes

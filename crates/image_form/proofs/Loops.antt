@@ -4,6 +4,7 @@ use Rattle.std.specs.List.{slice_get}
 use Rattle.image_form.specs.declared.fault.Stop.{Stop}
 use Rattle.image_form.specs.declared.fault.Stop.TheVariants as stops
 use Rattle.image_form.specs.Fields.{Stops, rows_at, at_some, at_last}
+use Rattle.std.proofs.lemmas.List.{length-map}
 
 pub goes_on : {A : Type 0} (row : List A → List ℕ → Result (A × List ℕ) ℕ) (before : List A) (n i : ℕ) (bytes : List ℕ) (x : A) (after : List ℕ) (total : Result (List A × List ℕ) ℕ)
     → i < n → row before bytes ≡ Ok (x, after) → rows_at row before (n - i) bytes ≡ total → rows_at row (before ++ x ∷ []) (n - (i + 1)) after ≡ total
@@ -36,13 +37,9 @@ slice_get-map p view [] i = refl
 slice_get-map p view (x ∷ xs) zero = refl
 slice_get-map p view (x ∷ xs) (suc i) = slice_get-map p view xs i
 
-length-map' : {X A : Type 0} (view : X → A) (xs : List X) → length (map view xs) ≡ length xs
-length-map' view [] = refl
-length-map' view (x ∷ xs) = ap suc (length-map' view xs)
-
 pub at_last-map : {X A : Type 0} (p : A → Bool) (view : X → A) (xs : List X) → at_last p (map view xs) ≡ at_some (λ x. p (view x)) (slice_get xs (length xs - 1))
 unfolding at_last
-at_last-map p view xs = rw (length-map' view xs) (slice_get-map p view xs (length xs - 1))
+at_last-map p view xs = rw (length-map xs view) (slice_get-map p view xs (length xs - 1))
 
 pub none_at_last : {X A : Type 0} (p : A → Bool) (view : X → A) (xs : List X) → None ≡ slice_get xs (length xs - 1) → true ≡ at_last p (map view xs)
 none_at_last p view xs e = sym (at_last-map p view xs ∙ ap (at_some (λ x. p (view x))) (sym e))

@@ -13,7 +13,7 @@ use Rattle.emit_rules.proofs.Acts.{ActsAt, part_acts, falls_act}
 use Rattle.emit_rules.proofs.Units.{free_is_exit, part_unless_free}
 use Rattle.image_form.specs.Image.{First, EachNext, IsEntry, IsNextEntry}
 use Rattle.layout_rules.specs.Conditions.{IsDescriptor}
-use Rattle.lin_ir.specs.Descriptors.{AreExact, ComesBefore, Describes, IsWithin, NamesLive, frame_bytes, has_frame_point, of_register, of_slot, register_first, rising}
+use Rattle.lin_ir.specs.Descriptors.{AreExact, ComesBefore, Describes, IsWithin, frame_bytes, has_frame_point, of_register, of_slot, register_first, rising}
 use Rattle.lin_ir.specs.Descriptors as descriptors
 use Rattle.lin_ir.specs.Formed.{IsHome, is_colour, is_slot}
 use Rattle.lin_ir.specs.Meaning.{passes_frame}

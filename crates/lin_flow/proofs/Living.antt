@@ -8,7 +8,7 @@ use Rattle.std.proofs.lemmas.Option.{slice_get_within, slice_get-get_or}
 use Rattle.bs_bits.specs.Set.{has}
 use Rattle.bs_words.specs.Contents.{contents}
 use Rattle.bs_words.specs.declared.types.Comp.TheVariants as comp
-use Rattle.bs_words.proofs.Lists.{none_in, got}
+use Rattle.bs_words.proofs.Lists.{none_in, got, same_some}
 use Rattle.dataflow.specs.Flow.{IsPlace, WellFormed}
 use Rattle.dataflow.specs.Rows.{row}
 use Rattle.dataflow.specs.declared.flow.Flow as flow
@@ -211,6 +211,3 @@ from_node w p n q node there b is same = (
       let other : r.node ≡ node = same_some r.node node (sym r.is ∙ is) in
       same.1 (subst (λ (x : place.Place). ReadsOnAmong w (contents x.next) n) other r.on),
 )
-  where
-    same_some : (x y : place.Place) → Some x ≡ Some y → x ≡ y
-    same_some x y e = cc

@@ -1,5 +1,5 @@
 -- Positions that come in.
-use Rattle.std.proofs.Common.{◌≡◌, ◌≢◌, ℕ, zero, suc, ◌+◌, ◌<◌, ◌≤◌, ◌⊎◌, inl, inr, ⊎_elim, List, [], ◌∷◌, ◌++◌, Some, length, map, take, set, get_or, refl, sym, ap, ◌∙◌, subst, arith}
+use Rattle.std.proofs.Common.{◌≡◌, ◌≢◌, ℕ, zero, ◌+◌, ◌<◌, ◌≤◌, ◌⊎◌, inl, inr, ⊎_elim, List, [], ◌∷◌, ◌++◌, Some, length, map, take, set, get_or, refl, sym, ap, ◌∙◌, subst, arith}
 use Rattle.std.specs.List.{Contains}
 use Rattle.std.specs.Prelude.{slice_get, slice_index}
 use Rattle.std.proofs.lemmas.Bool.{cases_eq, cases_lt}
@@ -7,7 +7,7 @@ use Rattle.std.proofs.lemmas.List.{length-set, length-map, map-set, get_or-map, 
 use Rattle.std.proofs.lemmas.List.Elements.{Contains-append_left, Contains-append_right, Contains-push}
 use Rattle.lin_laws.specs.Graph.{position, AreNumbersOf}
 use Rattle.lin_laws.specs.declared.position.Position.{Position}
-use Rattle.bs_words.proofs.Lists.{first_in}
+use Rattle.bs_words.proofs.Lists.{first_in, pushed_kept, pushed_here, pushed_cases}
 use Rattle.lin_flow.specs.Nodes.{Landed}
 use Rattle.lin_flow.specs.Search.{all_of, groups_of, members, HasMember, AreGrouped, Grown, Entered, IsThere, HasFirst}
 use Rattle.lin_flow.specs.declared.search.Group as group
@@ -52,23 +52,6 @@ has_member old new k member g g' within read more is =
     }
 
 -- ---- one more position
-
-pub pushed_kept : {A : Type 0} (xs : List A) (y x : A) (q : ℕ) → slice_get xs q ≡ Some x → slice_get (xs ++ y ∷ []) q ≡ Some x
-pushed_kept [] y x q e = absurd (cc)
-pushed_kept (z ∷ zs) y x zero e = e
-pushed_kept (z ∷ zs) y x (suc q) e = pushed_kept zs y x q e
-
-pub pushed_here : {A : Type 0} (xs : List A) (y : A) → slice_get (xs ++ y ∷ []) (length xs) ≡ Some y
-pushed_here [] y = refl
-pushed_here (z ∷ zs) y = pushed_here zs y
-
-pub pushed_cases : {A : Type 0} (xs : List A) (y x : A) (q : ℕ) → slice_get (xs ++ y ∷ []) q ≡ Some x →
-    (slice_get xs q ≡ Some x) ⊎ ((q ≡ length xs) × (y ≡ x))
-pushed_cases [] y x zero e = inr (refl, (let f : y ≡ x = cc in f))
-pushed_cases [] y x (suc q) e = absurd (cc)
-pushed_cases (z ∷ zs) y x zero e = inl e
-pushed_cases (z ∷ zs) y x (suc q) e =
-    ⊎_elim (λ f. inl f) (λ f. inr (ap suc f.0, f.1)) (pushed_cases zs y x q e)
 
 pub entered_new : (old new : Search) (y : Position) (number : ℕ) → length (all_of old) < 4294967295 → all_of new ≡ all_of old ++ y ∷ [] →
     number ≡ length (all_of old) → HasMember (groups_of old) (groups_of new) y.place number → Entered old new y number

@@ -6,7 +6,7 @@ use Rattle.std.proofs.lemmas.List.{drop_all, length_push}
 use Rattle.std.proofs.lemmas.List.Elements.{All-nil, All-cons, All-head, All-drop, Contains-append_cases}
 use Rattle.std.proofs.lemmas.Option.{slice_get_within}
 use Rattle.bs_words.specs.Contents.{contents}
-use Rattle.bs_words.proofs.Lists.{none_in, got, drop_none}
+use Rattle.bs_words.proofs.Lists.{none_in, got, drop_none, same_some, pushed_cases}
 use Rattle.dataflow.specs.declared.flow.Place as place
 use Rattle.mach_ir.specs.Acts.{Target, On, At}
 use Rattle.mach_ir.specs.Sizes.{number_limit}
@@ -19,7 +19,7 @@ use Rattle.lin_laws.proofs.Reaching.{steps_reached, raises_reached}
 use Rattle.lin_laws.specs.Graph.{place_at, position, steps, steps_at, raise_steps, raises_at, landing, HaveNumbers, AreNumbered, AreNumbersOf, AreReads, AreWrites, IsNode, AreNodes}
 use Rattle.lin_laws.specs.Numbers.{val_numbers, written_numbers}
 use Rattle.lin_laws.specs.declared.position.Position.{Position}
-use Rattle.lin_flow.proofs.Searching.{grown_then, grown_none, numbers_kept, pushed_cases}
+use Rattle.lin_flow.proofs.Searching.{grown_then, grown_none, numbers_kept}
 use Rattle.lin_flow.specs.Labels.{place_in, AreLabelsOf}
 use Rattle.mach_ir.specs.Labels.{place_to}
 use Rattle.lin_flow.specs.Nodes.{landing_to, steps_to, Landed, IsText, IsNodeOfLine, Visited, IsReady, AreWalkedTo, Spreads}
@@ -227,9 +227,6 @@ node_kept m xs ys kept x node h =
       reads = h.reads;
       writes = h.writes;
     }
-
-same_some : {A : Type 0} (x y : A) → Some x ≡ Some y → x ≡ y
-same_some x y e = cc
 
 module _ (m : Lin) where
   pub spreads_none : (s : Search) (nodes : List place.Place) → IsReady m s nodes → Spreads m s s nodes

@@ -16,7 +16,7 @@ use Rattle.mach_ir.specs.declared.op.Leaving.TheVariants as leaving
 use Rattle.mach_ir.specs.declared.op.Op.{Op}
 use Rattle.mach_ir.specs.declared.op.Op.TheVariants as op
 use Rattle.mach_ir.specs.declared.mach.Test.{Test}
-use Rattle.lin_ir.specs.Walks.{targets, may_raise, Leads, Raises, Live, LiveAfter, Stands, Reached, Traps, TrapsBalance}
+use Rattle.lin_ir.specs.Walks.{targets, Leads, Raises, Live, LiveAfter, Stands, Reached, Traps, TrapsBalance}
 use Rattle.lin_ir.specs.declared.lin.Spot.{Spot}
 use Rattle.lin_ir.specs.declared.lin.Flow.{Flow}
 use Rattle.lin_ir.specs.declared.lin.Flow.TheVariants as flow

@@ -87,8 +87,5 @@ not_before a (rising same lt) = omega (arith, lt)
 pub same_machine : (q r : ℕ) → loc.Machine q ≡ loc.Machine r → q ≡ r
 same_machine q r e = cc
 
-pub same_slot : (j k : ℕ) → loc.Slot j ≡ loc.Slot k → j ≡ k
-same_slot j k e = cc
-
 pub not_slot : (m n : ℕ) → loc.Machine m ≡ loc.Slot n → ⊥
 not_slot m n e = cc

@@ -16,7 +16,7 @@ use Rattle.lin_ir.specs.Meaning.{Locations, clear}
 use Rattle.mach_ir.specs.Acts.{Around}
 use Rattle.mach_ir.specs.Meaning.{Temporaries, is_temporary}
 use Rattle.rv_isa.specs.declared.instr.Instr.TheVariants.{Ecall}
-use Rattle.rv_machine.specs.Hart.{Hart, Placed, past_ecall, with_register}
+use Rattle.rv_machine.specs.Hart.{Placed, past_ecall, with_register}
 use Rattle.rv_machine.specs.Hart as next
 use Rattle.rv_machine.specs.Services.{Machine, Going, answered, call_made, called, destroyed, external, filled, served}
 use Rattle.rv_machine.specs.Sound.{AllWords, AreRegisters}

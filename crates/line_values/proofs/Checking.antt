@@ -25,7 +25,7 @@ use Rattle.rv_machine.specs.Arithmetic.{is_taken, imm_u}
 use Rattle.rv_machine.specs.Hart.{Placed}
 use Rattle.rv_pieces.specs.declared.piece.Piece.{Piece}
 use Rattle.linear_machine.specs.Follows.{Agrees, FollowsStep, IsAt, IsDone}
-use Rattle.linear_machine.specs.Relation.{Below, Laid, StandsFor, Within, all_of, AreCarried, traps_of}
+use Rattle.linear_machine.specs.Relation.{Below, Laid, StandsFor, Within, all_of, traps_of}
 use Rattle.linear_machine.specs.Relation as relation
 use Rattle.linear_machine.specs.Straight.{Comes}
 use Rattle.linear_machine.specs.View.{Fixed, View, HasCode, Leads, IsCode}

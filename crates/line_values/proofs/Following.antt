@@ -1,7 +1,6 @@
 -- Each plain line is followed.
-use Rattle.std.proofs.Common.{◌≡◌, ℕ, zero, suc, ◌+◌, ◌^◌, ◌<◌, ◌⊎◌, inl, inr, true, ◌&&◌, nat_le, nat_lt, List, [], ◌∷◌, length, map, Option, Some, None, slice_get, refl, ap, arith, ◌∙◌, sym, subst, ⊎_elim}
+use Rattle.std.proofs.Common.{◌≡◌, ℕ, zero, suc, ◌+◌, ◌^◌, ◌<◌, ◌⊎◌, inl, inr, true, ◌&&◌, List, [], ◌∷◌, length, map, Option, Some, None, slice_get, refl, ap, arith, ◌∙◌, sym, subst, ⊎_elim}
 use Rattle.std.specs.List.{AllByRecursion, Contains}
-use Rattle.std.proofs.lemmas.Bool.{and_parts, leb-true, ltb-true, or_cases}
 use Rattle.std.proofs.lemmas.List.Elements.{recursion_from_All}
 use Rattle.bs_words.specs.declared.types.Comp.{Comp}
 use Rattle.emit_rules.specs.Emitted.{part_of}
@@ -31,8 +30,6 @@ use Rattle.mach_ir.specs.declared.op.Op.{Op}
 use Rattle.mach_ir.specs.declared.op.Op.TheVariants as op
 use Rattle.mach_ir.specs.declared.op.Pure.{Pure}
 use Rattle.mach_ir.specs.declared.op.Pure.TheVariants as pure
-use Rattle.bs_words.specs.declared.operators.IntOp.{IntOp}
-use Rattle.bs_words.specs.declared.operators.IntOp.TheVariants as operator
 use Rattle.bs_words.proofs.Lists.{first_in, none_in}
 use Rattle.mach_ir.specs.declared.op.Right.{Right}
 use Rattle.mach_ir.specs.declared.op.Right.TheVariants as right

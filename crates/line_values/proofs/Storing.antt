@@ -1,7 +1,7 @@
 -- Stores of every chunk follow their lines.
 use Rattle.std.proofs.Common.{◌≡◌, ℕ, ◌+◌, ◌-◌, ◌*◌, ◌%◌, ◌^◌, ◌<◌, ◌≤◌, ◌⊎◌, inl, inr, Bool, true, false, cond, List, [], length, Some, Result, Ok, Err, refl, ap, arith, ◌∙◌, sym, subst, ⊎_elim, slice_get, slice_set, slice_index_or, nat_eq, nat_lt, nat_le}
 use Rattle.bs_words.specs.Fits.{data_start, fits, misfit}
-use Rattle.bs_words.specs.Memory.{Cell, cell_at, end_of_data, extended, loaded_as, loaded_from, of_type, offset_in_cell, part, value_in, width, HeapBlock, InBlock, InHeader, InStatic, Memory, cell_of_block, in_block, in_statics, put_in, put_part, put_whole, replaced, sizes, stored_as, stored_in, type_in, type_of_cells, type_of_chunk, with_value}
+use Rattle.bs_words.specs.Memory.{Cell, cell_at, end_of_data, offset_in_cell, value_in, width, HeapBlock, InBlock, InHeader, InStatic, Memory, in_statics, put_in, put_part, put_whole, replaced, stored_as, stored_in, type_in, type_of_cells, with_value}
 use Rattle.bs_words.specs.Memory as memory
 use Rattle.bs_words.specs.declared.types.Chunk.{Chunk}
 use Rattle.bs_words.specs.declared.types.Chunk.TheVariants as chunk

@@ -17,7 +17,7 @@ use Rattle.moving_laws.specs.Values.{start_of}
 use Rattle.moving_laws.specs.Young.{Rises}
 use Rattle.moving_laws.proofs.Rewriting.{at_start}
 use Rattle.moving_laws.proofs.Usable.{young_readable}
-use Rattle.linear_machine.specs.Relation.{AreCarried, Below, HeapStands, Laid, RegistersHold, SlotsHold, StandsFor, Waits, Within}
+use Rattle.linear_machine.specs.Relation.{AreCarried, Below, HeapStands, Laid, SlotsHold, StandsFor, Waits, Within}
 use Rattle.linear_machine.specs.Relation as relation
 use Rattle.linear_machine.specs.View.{Fixed, View}
 use Rattle.linear_machine.proofs.Fresh.{placed_more, stands_more, start_last, waits_more}

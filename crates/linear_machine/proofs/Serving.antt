@@ -11,7 +11,7 @@ use Rattle.rv_isa.specs.declared.instr.Instr.TheVariants.{Ecall}
 use Rattle.rv_machine.specs.Allocation.{allocated, is_request, young_from}
 use Rattle.rv_machine.specs.FrameCalls.{collected}
 use Rattle.rv_machine.specs.Frames.{descriptor_at}
-use Rattle.rv_machine.specs.Hart.{Hart, Placed, register}
+use Rattle.rv_machine.specs.Hart.{Hart, Placed}
 use Rattle.rv_machine.specs.Hart as next
 use Rattle.rv_machine.specs.Memory.{code_start}
 use Rattle.rv_machine.specs.Placement.{bytes_used}

@@ -14,13 +14,13 @@ use Rattle.moving_laws.specs.Words.{IsReadable}
 use Rattle.moving_laws.proofs.Held.{held_other}
 use Rattle.moving_laws.proofs.Usable.{formed_regions, stack_readable}
 use Rattle.moving_laws.proofs.Words.{readable_write, word_same}
-use Rattle.lin_laws.proofs.Forms.{same_slot}
 use Rattle.linear_machine.specs.Files.{IsPut}
 use Rattle.linear_machine.specs.Relation.{AreCarried, Below, Laid, ReturnStands, StandsFor, Within, all_of}
 use Rattle.linear_machine.specs.Straight.{IsPast}
 use Rattle.linear_machine.specs.View.{Fixed, View}
 use Rattle.linear_machine.proofs.Keeping.{heap_kept, traps_at_all, traps_kept, waits_kept}
 use Rattle.linear_machine.proofs.Standing.{AreScratch, within_past}
+use Rattle.bs_words.proofs.Places.{same_slot}
 
 module _ (s : Fixed) (laid : Laid) (v : View) (young : List Placed) (taken : ℕ) (file : Loc → Option Value) (a : Around) (c : Below)
     (within : Within s laid v young taken file a c) where
@@ -95,7 +95,7 @@ module _ (s : Fixed) (laid : Laid) (v : View) (young : List Placed) (taken : ℕ
         carried = carried a.raised within.carried;
         slots = λ q y h. ⊎_elim
             (λ p.
-            let e : q ≡ k = same_slot q k p.0 in
+            let e : q ≡ k = same_slot refl p.0 in
             let here : word m' (slot_at k) ≡ value = word_same v.memory (slot_at k) value (formed_regions
             (extents s.image s.heap s.base) v.memory within.usable.regions) there.readable small in
             subst (λ z. (z < laid.slots) × StandsFor s (all_of v young) (word m' (slot_at z)) y) (sym e)

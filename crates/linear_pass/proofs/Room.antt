@@ -7,7 +7,6 @@ use Rattle.mach_ir.specs.Placed.{FullyPlaced}
 use Rattle.mach_ir.specs.Seats.{Seated}
 use Rattle.mach_ir.specs.declared.mach.Mach.{Mach}
 use Rattle.lin_ir.specs.Formed.{labels_in}
-use Rattle.lin_ir.specs.declared.lin.Lin.{Lin}
 use Rattle.linear_rules.specs.Lowered.{slots_of, limit_of, slot_number, lowered}
 use Rattle.linear_rules.specs.Sizes.{HasLineRoom}
 use Rattle.linear_rules.proofs.Lowering.{lowered_lines, lowered_labels}

@@ -18,7 +18,7 @@ use Rattle.mach_ir.specs.Meaning.{State, File, Held, put_all, put_if, with_held,
 use Rattle.mach_ir.specs.Formed.{AreDistinct, tries_left, WellFormed}
 use Rattle.mach_ir.specs.Keeps.{ValsWritten, wrote_unless, wrote_at, Ahead, Trails}
 use Rattle.mach_ir.specs.Placed.{IsPlaced, in_colour, in_slot, FullyPlaced, colours}
-use Rattle.mach_ir.specs.Walks.{Among, first, later, Writes, OneOf, this, other, targets, may_raise, goes, raises, Live, read, aside, LiveAcross, across_step, across_raise, LiveAfter, after_step, IsRegister, is_param, is_colour, is_in_code, IsMove, is_move, Meets, at_write, at_params, Joined, one_way}
+use Rattle.mach_ir.specs.Walks.{Among, first, later, Writes, OneOf, this, targets, may_raise, goes, raises, Live, read, aside, LiveAcross, across_step, across_raise, after_step, IsRegister, is_param, is_colour, is_in_code, IsMove, is_move, at_write, at_params, one_way}
 use Rattle.mach_ir.specs.Walks as mach_walks
 use Rattle.mach_ir.specs.declared.op.CopyKind.TheVariants as copy
 use Rattle.mach_ir.specs.declared.op.Op.TheVariants as op

@@ -22,7 +22,7 @@ use Rattle.lin_ir.specs.Walks.{Stands, Traps, by_walk, unreached, Reached, LiveA
 use Rattle.lin_ir.specs.declared.lin.Line.{Line}
 use Rattle.lin_ir.specs.declared.lin.Lin.{Lin}
 use Rattle.lin_ir.specs.declared.lin.Spot.{Spot}
-use Rattle.lin_laws.proofs.Forms.{same_slot, not_slot}
+use Rattle.lin_laws.proofs.Forms.{not_slot}
 use Rattle.linear_rules.specs.Forward.{GoesForward}
 use Rattle.linear_rules.specs.Keeps.{NoAddrReached, OneTraps, KeepsReached}
 use Rattle.linear_rules.specs.Kept.{Does}
@@ -34,6 +34,7 @@ use Rattle.linear_rules.proofs.Lines.{source, params_seated, source_operands, so
 use Rattle.linear_rules.proofs.Does.{begins}
 use Rattle.linear_rules.proofs.Moves.{changes}
 use Rattle.linear_rules.proofs.Walked.{goes_forward, balance, one_traps, no_addr, homes_lines, well_formed}
+use Rattle.bs_words.proofs.Places.{same_slot}
 
 colour_machine : {l : Loc} (ns : List ℕ) → IsIn l (map loc.Machine ns) → (n : ℕ) × (l ≡ loc.Machine n)
 colour_machine [] z = elim z [ ]
@@ -60,7 +61,7 @@ module _ (p : Mach) (well : WellFormed p) (full : FullyPlaced p) where
       by (in_slot e) (in_slot u) =
           e
           ∙ ap loc.Slot (numbers_apart p r.origin k.origin (slot_occurs r.origin r ri e) (slot_occurs k.origin k ki u)
-          (same_slot (slot_number p r.origin) (slot_number p k.origin) (sym (ap (home (slot_number p)) e) ∙ same ∙ ap (home (slot_number p)) u)))
+          (same_slot refl (sym (ap (home (slot_number p)) e) ∙ same ∙ ap (home (slot_number p)) u)))
           ∙ sym u
 
   -- the home of a register is a colour, or one of the function's slots
@@ -136,7 +137,7 @@ slots_below p full s size = slots_low p s.registers (λ k r ri e. by k r (full.p
   where
     by : (k : ℕ) (r : Reg) → IsPlaced r → r.loc ≡ loc.Slot k → r.origin < s.registers → k < s.registers
     by k r (in_colour n c e) u lt = absurd (not_slot n k (sym e ∙ u))
-    by k r (in_slot e) u lt = subst (λ n. n < s.registers) (same_slot r.origin k (sym e ∙ u)) lt
+    by k r (in_slot e) u lt = subst (λ n. n < s.registers) (same_slot e u) lt
 
 -- and so are their numbers
 pub lowered_slots : (p : Mach) → FullyPlaced p → (s : Size) → HasSize p s → slot_count p ≤ s.registers

@@ -9,7 +9,7 @@ use Rattle.bs_words.proofs.Lists.{none_in}
 use Rattle.mach_ir.specs.Acts.{Target, On, At}
 use Rattle.mach_ir.specs.Formed.{HasPlace, tries_left, WellFormed}
 use Rattle.mach_ir.specs.Meaning.{after_label, from_handler, code_at, tries_past, tries_at, Destroyed, Nothing, Temporaries, Everything, destroyed_by, is_destroyed, killed_by}
-use Rattle.mach_ir.specs.Walks.{Among, first, later, Writes, OneOf, this, other, targets, may_raise, Leads, goes, raises, Reached, at_entry, by_step, by_raise, Live, read, LiveAcross, across_step, across_raise, IsRegister, is_in_code, is_colour}
+use Rattle.mach_ir.specs.Walks.{Among, first, later, Writes, OneOf, this, other, targets, may_raise, goes, raises, Reached, at_entry, by_step, by_raise, Live, read, LiveAcross, across_step, across_raise, IsRegister, is_in_code, is_colour}
 use Rattle.mach_ir.specs.Walks as mach_walks
 use Rattle.mach_ir.specs.Placed.{FullyPlaced}
 use Rattle.mach_ir.specs.declared.reg.Reg.{Reg}

@@ -3,7 +3,7 @@ use Rattle.std.proofs.Common.{◌≡◌, ℕ, suc, ◌≤◌, ◌<◌, Bool, tru
 use Rattle.std.proofs.lemmas.Bool.Decides.{leb_tells}
 use Rattle.std.proofs.Math.Bool.{not-not}
 use Rattle.bs_words.specs.Memory.{sizes}
-use Rattle.bs_words.specs.Operators.{truth, signed_holds, unsigned_holds, is_near, equality_of, order_of, as_value, comparison_of}
+use Rattle.bs_words.specs.Operators.{truth, signed_holds, unsigned_holds, equality_of, order_of, as_value, comparison_of}
 use Rattle.bs_words.specs.Operators as operators
 use Rattle.bs_words.specs.Word.{signed_of}
 use Rattle.bs_words.specs.declared.operators.CmpOp.{CmpOp}

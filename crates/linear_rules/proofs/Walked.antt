@@ -8,11 +8,11 @@ use Rattle.bs_words.specs.declared.types.Loc.{Loc}
 use Rattle.bs_words.specs.declared.types.Loc.TheVariants as loc
 use Rattle.mach_ir.specs.Acts.{Target, On, At}
 use Rattle.mach_ir.specs.Formed as mach_formed
-use Rattle.mach_ir.specs.Formed.{HasPlace, HasHandler, handler_here, handler_below, WellFormed}
+use Rattle.mach_ir.specs.Formed.{HasPlace, HasHandler, WellFormed}
 use Rattle.mach_ir.specs.Forms.{results_of}
 use Rattle.mach_ir.specs.Meaning.{tries_at, tries_past, is_handler_of, passes_frame}
 use Rattle.mach_ir.specs.Placed.{FullyPlaced, colours}
-use Rattle.mach_ir.specs.Walks.{OneOf, this, other, targets, IsRegister, is_in_code, is_param, is_colour, InCode, Reached, by_step, goes, LiveAcross}
+use Rattle.mach_ir.specs.Walks.{OneOf, other, targets, IsRegister, is_in_code, is_param, is_colour, InCode, Reached, by_step, goes, LiveAcross}
 use Rattle.mach_ir.specs.Walks as mach_walks
 use Rattle.mach_ir.specs.declared.op.Leaving.TheVariants as leaving
 use Rattle.mach_ir.specs.declared.op.Op.{Op}
@@ -29,9 +29,8 @@ use Rattle.mach_laws.proofs.Instructions.{instr}
 use Rattle.lin_ir.specs.Formed as formed
 use Rattle.lin_ir.specs.Formed.{IsHome, IsLocation, is_home, Locates, SpareIsPassing, NamesLabel, goes_to, pushes, EntersAt, enters_here, enters_below, labels_in, is_exit}
 use Rattle.lin_ir.specs.Meaning as lines
-use Rattle.lin_ir.specs.Meaning.{NamedAt, is_named}
 use Rattle.lin_ir.specs.Walks as walks
-use Rattle.lin_ir.specs.Walks.{Stands, here, below, Traps, by_walk, unreached, TrapsBalance, LiveAt}
+use Rattle.lin_ir.specs.Walks.{Stands, here, below, Traps, by_walk, unreached, TrapsBalance}
 use Rattle.lin_ir.specs.declared.lin.Flow.{Flow}
 use Rattle.lin_ir.specs.declared.lin.Flow.TheVariants as flow
 use Rattle.lin_ir.specs.declared.lin.LinOp.{LinOp}

@@ -8,7 +8,7 @@ use Rattle.mach_ir.specs.declared.reg.Reg.{Reg}
 use Rattle.mach_ir.specs.declared.mach.Instr.{Instr}
 use Rattle.linear_rules.specs.Lowered.{slot_of, slots_of_regs, slots_of_code, is_among, limit_of}
 use Rattle.linear_rules.proofs.Slots.{above_first, above_later}
-use Rattle.bs_words.proofs.Lists.{drop_none}
+use Rattle.bs_words.proofs.Lists.{drop_none, drop_step}
 
 pub regs_append : (rs : List Reg) (ks : List ℕ) → slots_of_regs rs ks ≡ slots_of_regs rs [] ++ ks
 regs_append [] ks = refl
@@ -21,9 +21,6 @@ regs_append (r ∷ rs) ks = by r.loc (regs_append rs ks)
 
 next_is : (k : ℕ) → suc k ≡ k + 1
 next_is k = omega arith
-
-pub drop_step : {A : Type 0} (xs : List A) (k : ℕ) (x : A) → k < length xs → x ≡ get_or xs k x → drop k xs ≡ x ∷ drop (k + 1) xs
-drop_step xs k x lt e = drop-cons xs k x lt ∙ ap (λ y. y ∷ drop (suc k) xs) (sym e) ∙ ap (λ n. x ∷ drop n xs) (next_is k)
 
 pub gathered_first : (params regs : List Reg) (code : List Instr) (new items : List ℕ) → new ≡ [] → regs ≡ params → items ≡ new ++ slots_of_regs regs [] →
     items ++ slots_of_code (drop 0 code) ≡ slots_of_regs params (slots_of_code code)

@@ -7,7 +7,7 @@ use bs_words::Loc;
 use mach_ir::{Mach, Reg};
 use std::alloc::{AllocError, Global};
 
-/// Adds the slots in which registers stand, in order.
+/// Adds the numbers of the slots in which registers stand, in order.
 fn gather_regs(regs: &[Reg], slots: &mut Vec<u32>) -> Result<(), AllocError>
     ensures { IfOk result (λ _. slots.new.items ≡ slots.old.items ++ slots_of_regs regs.now []) }
 {
@@ -21,7 +21,7 @@ fn gather_regs(regs: &[Reg], slots: &mut Vec<u32>) -> Result<(), AllocError>
     Ok(())
 }
 
-/// The slots that occur in a function, some of them more than once.
+/// The numbers of the slots that occur in a function, some of them more than once.
 pub fn gather(alloc: Global, mach: &Mach) -> Result<Vec<u32>, AllocError>
     ensures { IfOk result (λ slots. slots.items ≡ slots_of mach.now) }
 {

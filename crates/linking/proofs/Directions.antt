@@ -15,7 +15,7 @@ use Rattle.machine_laws.specs.Steps.{moments, IsFrontOf, IsOrderly}
 use Rattle.meaning_laws.specs.Fitting.{FitsResult, GivesFit, gives_fit, RaisedFits, raised_fits}
 use Rattle.meaning_laws.proofs.Units.{Begins-same}
 use Rattle.rv_machine.specs.Run.{Seen}
-use Rattle.rv_machine.specs.Services.{End, Running, StackOut, HeapOut, Stopped}
+use Rattle.rv_machine.specs.Services.{End, Running}
 use Rattle.rv_machine.specs.Services as machine
 use Rattle.linking.specs.Carries.{Outer, outer_of, Out, no_stack, no_heap, Comes, Spends, Does}
 use Rattle.linking.specs.Assembled.{IsStub}

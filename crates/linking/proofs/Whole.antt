@@ -22,7 +22,7 @@ use Rattle.mach_ir.specs.Runs.{Place, Run, runs, first_tally}
 use Rattle.meaning_fuel.specs.Whole.{whole}
 use Rattle.meaning_laws.specs.Fitting.{memory_after, FitsCallee, Answered, answered, answered_raise, unfit, unanswered}
 use Rattle.meaning_laws.specs.Handed.{AreHanded}
-use Rattle.meaning_laws.specs.Links.{Call, OfFunction, OfOutside, asked_in, done_by, FitsCall, fits_function, fits_outside, Came, asked_by, doing_of, spent_by, CallsBetween, EndsSo, StoppedIn, stopped, left_by_exit, Linked}
+use Rattle.meaning_laws.specs.Links.{Call, OfFunction, OfOutside, asked_in, done_by, FitsCall, fits_function, Came, asked_by, doing_of, spent_by, EndsSo, StoppedIn, stopped, left_by_exit, Linked}
 use Rattle.meaning_laws.specs.Links as links
 use Rattle.meaning_laws.specs.Pace.{pending}
 use Rattle.meaning_laws.specs.Units.{Later, world_of}
@@ -37,7 +37,7 @@ use Rattle.rv_machine.specs.Services.{Running as Runs_on}
 use Rattle.rv_machine.specs.Services as machine
 use Rattle.linking.specs.Program.{Program, place_in, tally_of, IsMoving, unit_of, IsRegular}
 use Rattle.linking.specs.Pace.{Words, at_start, GoesForward}
-use Rattle.linking.specs.Keeps.{EndsAs, Same, Runs, Keeps}
+use Rattle.linking.specs.Keeps.{EndsAs, Same, Keeps}
 use Rattle.linking.specs.Keeps as keeps
 use Rattle.linking.specs.Carries.{Outer, outer_of, Comes, Spends, Does, Carries}
 use Rattle.linking.proofs.Coming.{comes_on, comes_map}

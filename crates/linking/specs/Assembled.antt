@@ -20,7 +20,7 @@ use Rattle.image_form.specs.Tables.{Tables, Func}
 use Rattle.meaning_laws.specs.Fitting.{FitsResult}
 use Rattle.rv_machine.specs.Loading.{IsRoom}
 use Rattle.rv_machine.specs.Run.{Schedule, Seen, seen, begun}
-use Rattle.rv_machine.specs.Services.{Now, Going, Over}
+use Rattle.rv_machine.specs.Services.{Now}
 use Rattle.rv_machine.specs.Services as machine
 use Rattle.linking.specs.Program.{Program, place_in, IsRegular}
 use Rattle.linking.specs.Pace.{Words, GoesForward}

@@ -26,11 +26,11 @@ use Rattle.rv_machine.specs.Loading.{IsRoom}
 use Rattle.rv_machine.specs.Memory.{code_start}
 use Rattle.rv_machine.specs.Places.{stack_bottom}
 use Rattle.rv_machine.specs.Run.{seen}
-use Rattle.rv_machine.specs.Services.{End, StackOut, HeapOut, Machine, Now, Going, Over}
+use Rattle.rv_machine.specs.Services.{Machine, Now, Going, Over}
 use Rattle.rv_machine.specs.Services as machine
 use Rattle.rv_machine.specs.Sound.{AllWords, IsStackBase}
 use Rattle.linear_machine.specs.Arrival.{Needs, nothing, ArrivalIn, Gone, ArrivesIn}
-use Rattle.linear_machine.specs.Follows.{IsAt, IsDone, IsEntered, used, needs_of, FollowsCall, FollowsAsked, FollowsTail, FollowsStep}
+use Rattle.linear_machine.specs.Follows.{IsAt, used, needs_of, FollowsCall, FollowsTail}
 use Rattle.linear_machine.specs.Follows as follows
 use Rattle.linear_machine.specs.Outside.{shown}
 use Rattle.linear_machine.specs.Relation.{Below, Laid}

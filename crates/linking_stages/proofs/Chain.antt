@@ -9,7 +9,7 @@ use Rattle.cmm_meaning.specs.State.{Doing, Asked}
 use Rattle.bs_words.specs.declared.values.Value.{Value}
 use Rattle.mach_ir.specs.Acts.{Around}
 use Rattle.mach_ir.specs.Keeps.{Trails, Alike, both_running, both_asking, both_ended}
-use Rattle.mach_ir.specs.Runs.{Place, Tally, Run, first_tally}
+use Rattle.mach_ir.specs.Runs.{Tally, Run}
 use Rattle.mach_ir.specs.Runs as run
 use Rattle.mach_ir.specs.Meaning as mach
 use Rattle.mach_ir.specs.declared.mach.Mach.{Mach}

@@ -10,7 +10,7 @@ use Rattle.cmm_meaning.specs.Evaluation.{OutOfFuel, NotProper, NoAnswer, Asking,
 use Rattle.cmm_meaning.specs.Layout.{Layout}
 use Rattle.cmm_meaning.specs.State.{Doing, Asked, World}
 use Rattle.correctness.specs.Setting.{AreWords}
-use Rattle.mach_ir.specs.Runs.{Place, Tally, Run, first_tally}
+use Rattle.mach_ir.specs.Runs.{Place, Tally, Run}
 use Rattle.mach_ir.specs.Runs as run
 use Rattle.mach_ir.specs.Meaning as mach
 use Rattle.mach_ir.specs.declared.mach.Mach.{Mach}

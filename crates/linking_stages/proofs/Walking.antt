@@ -17,7 +17,7 @@ use Rattle.cmm_meaning.specs.Setting.{Setting}
 use Rattle.cmm_meaning.specs.State as state
 use Rattle.cmm_meaning.specs.State.{Doing, Gave, Threw, Inside, Outside}
 use Rattle.mach_ir.specs.Acts as acts
-use Rattle.mach_ir.specs.Acts.{without, Around, Act, Goes, Pushes, Jumps, Unwinds, Asks, Replaces, Ends, EndsRaising, Stuck, On, At, Target, AtLabel, AtHandler, only_if, one_result, if_known, pure_act, loaded_act, after_store, header_written, first_written, stored_act, is_among, with_block, new_blocks, access_act, callee_raises, raised_by, raises, answered, as_list, after_call, after_external, asks, asks_value, asks_callee, calling_act, checked, leaving_act, act, branches, goes_to_case, switched, drop_tries, row_of, is_complete}
+use Rattle.mach_ir.specs.Acts.{without, Around, Act, Goes, Pushes, Jumps, Unwinds, Asks, Replaces, Ends, EndsRaising, Stuck, On, At, Target, AtLabel, AtHandler, only_if, one_result, if_known, pure_act, loaded_act, after_store, header_written, first_written, stored_act, is_among, with_block, new_blocks, access_act, callee_raises, raised_by, raises, answered, as_list, after_call, after_external, asks, asks_value, asks_callee, checked, leaving_act, act, branches, goes_to_case, row_of, is_complete}
 use Rattle.mach_ir.specs.Runs.{entered, Place, Step}
 use Rattle.mach_ir.specs.Walks.{OneOf}
 use Rattle.mach_ir.specs.Walks as mach_walks
@@ -36,7 +36,7 @@ use Rattle.mach_ir.specs.declared.op.Pure.TheVariants as pure
 use Rattle.mach_ir.specs.declared.mach.Test.{Test}
 use Rattle.mach_ir.specs.declared.op.Right.TheVariants as right
 use Rattle.lin_ir.specs.Meaning.{Locations, NamedAt, State, flow_act, lin_act, wrote, on_act, unless_misnamed, on_values, at_code, put_all, begun, code_at, landing_code, clear, destroyed_by, past_frame, passes_frame, are_vals, values}
-use Rattle.lin_ir.specs.Walks.{targets, may_raise, tries_after, Leads, Raises, Reached}
+use Rattle.lin_ir.specs.Walks.{targets, may_raise, tries_after, Reached}
 use Rattle.lin_ir.specs.Walks as walks
 use Rattle.lin_ir.specs.declared.lin.Flow.{Flow}
 use Rattle.lin_ir.specs.declared.lin.Flow.TheVariants as flow

@@ -13,7 +13,7 @@ use Rattle.bs_words.specs.declared.values.Value.{Value}
 use Rattle.bs_words.specs.declared.values.Value.TheVariants as value
 use Rattle.mach_ir.specs.Known.{bound_error, Doing, Gave, Threw, Callee, Inside, Setting}
 use Rattle.mach_ir.specs.Acts as acts
-use Rattle.mach_ir.specs.Acts.{drop_tries, Around, Target, On, At, Landing, AtLabel, AtHandler, Act, Goes, Pushes, Jumps, Unwinds, Asks, Replaces, Ends, EndsRaising, Stuck, only_if}
+use Rattle.mach_ir.specs.Acts.{drop_tries, Around, Target, On, At, AtLabel, AtHandler, Act, Goes, Pushes, Jumps, Unwinds, Asks, Replaces, Ends, EndsRaising, Stuck, only_if}
 use Rattle.mach_ir.specs.Meaning.{mark_act, mach_act}
 use Rattle.mach_ir.specs.Walks.{OneOf, this, other, next_if, targets, may_raise}
 use Rattle.mach_ir.specs.declared.op.Right.TheVariants as right

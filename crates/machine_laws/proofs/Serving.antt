@@ -11,7 +11,7 @@ use Rattle.rv_isa.specs.Registers.{a0, s1, s10, sp}
 use Rattle.rv_machine.specs.Allocation.{after_request, allocated, blocks_at_request, bytes_asked, is_request, young_from}
 use Rattle.rv_machine.specs.FrameCalls.{collected, has_trap_frame, raised, with_answer}
 use Rattle.rv_machine.specs.Frames.{Frame, frames, registers_of, slots_of}
-use Rattle.rv_machine.specs.Hart.{Hart, Next, Retired, Service, Placed, hart, past_ecall, register, with_register}
+use Rattle.rv_machine.specs.Hart.{Hart, Next, Retired, Service, Placed, hart, register, with_register}
 use Rattle.rv_machine.specs.Hart as next
 use Rattle.rv_machine.specs.Memory.{word, write}
 use Rattle.rv_machine.specs.Moving.{redirected_registers, rewritten}

@@ -15,7 +15,7 @@ use Rattle.cmm_meaning.specs.Evaluation.{Evaluation, fit_parameters}
 use Rattle.meaning_laws.specs.Fitting.{FitsCallee, GivesFit, gives_fit, RaisedFits, raised_fits, Answered, answered, answered_raise, CallsFitAndGrow}
 use Rattle.meaning_laws.specs.Handed.{FoundCallee, IsHanded, function_gave, function_threw, outside_gave, outside_threw, AreHanded, none, more}
 use Rattle.cmm_meaning.specs.Setting.{setting_of}
-use Rattle.meaning_laws.specs.Links.{Call, OfFunction, OfOutside, asked_in, done_by, FitsCall, fits_function, fits_outside, CameBack, Came, asked_by, doing_of, CallsBetween, no_more, next, Linked}
+use Rattle.meaning_laws.specs.Links.{Call, OfFunction, OfOutside, asked_in, done_by, FitsCall, fits_function, CameBack, Came, asked_by, doing_of, CallsBetween, no_more, next, Linked}
 use Rattle.meaning_laws.specs.Links as links
 use Rattle.meaning_laws.specs.Units.{world_of, Later}
 use Rattle.meaning_fuel.specs.Whole.{whole}

@@ -21,9 +21,9 @@ use Rattle.cmm_meaning.specs.State.{Doing, Gave, Threw, Here, scope, back_in}
 use Rattle.cmm_meaning.specs.Choices.{Ready, Chosen, case_for}
 use Rattle.cmm_meaning.specs.Evaluation.{scoped_parameter, with_bound, fit_parameters, stack_below, call_from}
 use Rattle.meaning_laws.specs.Does.{Leaves, Giving, Exiting, Raising, Does, Ends}
-use Rattle.meaning_laws.specs.Interaction.{Part, Operand, from, onward, and_then, only_value, with_value, proper, tested, of_type, both, unless_light, now_or_before, as_written, back_from_call, called_with, applied, entered, back, handled, out_of_turns, catching, trying, chosen, looked_up, node}
+use Rattle.meaning_laws.specs.Interaction.{Part, Operand, from, onward, and_then, only_value, with_value, proper, tested, of_type, both, unless_light, now_or_before, back_from_call, called_with, applied, entered, back, handled, out_of_turns, catching, chosen, looked_up, node}
 use Rattle.meaning_laws.specs.Interaction as parts
-use Rattle.meaning_laws.specs.Fitting.{Activation, FitsResult, nothing, value as a_value, left_of, Returned, gave, threw, memory_after, FitsCallee, CallStands, OnlyTests, Lawful, gives, exits, raises, pays, deepens, jumps, calls, calls_out, fails, spent}
+use Rattle.meaning_laws.specs.Fitting.{Activation, FitsResult, nothing, value as a_value, Returned, gave, threw, memory_after, FitsCallee, CallStands, OnlyTests, Lawful, gives, exits, raises, pays, deepens, jumps, calls, calls_out, fails, spent}
 use Rattle.meaning_laws.specs.Fitting as fitting
 use Rattle.meaning_laws.proofs.Choices.{EachCase, OneCase, no_chosen, a_chosen, case_holds, EachHandler, OneHandler, no_ready, a_ready, ready_holds}
 use Rattle.meaning_laws.proofs.Extends.{extends_same, extends_trans, Extended, extended, no_memory}

@@ -20,7 +20,7 @@ use Rattle.cmm_meaning.specs.Choices.{Ready, Chosen, case_for}
 use Rattle.cmm_meaning.specs.Evaluation.{scoped_parameter, with_bound, fit_parameters, call_from}
 use Rattle.meaning_laws.specs.Does.{Leaves, Giving, Exiting, Raising, Does}
 use Rattle.cmm_meaning.specs.Setting.{Setting}
-use Rattle.meaning_laws.specs.Interaction.{Part, Operand, from, onward, and_then, only_value, with_value, proper, tested, of_type, typed, both, unless_light, now_or_before, as_written, back_from_call, called_with, applied, entered, back, handled, out_of_turns, catching, trying, chosen, looked_up, node}
+use Rattle.meaning_laws.specs.Interaction.{Part, Operand, from, onward, and_then, only_value, with_value, proper, tested, of_type, typed, both, unless_light, now_or_before, as_written, back_from_call, called_with, applied, entered, back, handled, out_of_turns, catching, chosen, looked_up, node}
 use Rattle.meaning_laws.specs.Interaction as parts
 use Rattle.meaning_laws.specs.Pace.{Paced, ends, pays, deepens, jumps, calls, calls_out, fails, spent}
 use Rattle.meaning_laws.proofs.Choices.{EachCase, OneCase, no_chosen, a_chosen, case_holds, EachHandler, OneHandler, no_ready, a_ready, ready_holds}

@@ -1,10 +1,10 @@
 -- What the moves read that are made: a source, or what an earlier one wrote.
-use Rattle.std.proofs.Common.{◌≡◌, ℕ, zero, suc, ◌+◌, ◌<◌, ◌⊎◌, Bool, true, false, cond, List, [], ◌∷◌, ◌++◌, map, length, Contains, Option, Some, None, refl, sym, ap, subst, arith, inl, inr}
+use Rattle.std.proofs.Common.{◌≡◌, ℕ, zero, suc, ◌+◌, ◌<◌, ◌⊎◌, Bool, true, false, cond, List, [], ◌∷◌, ◌++◌, map, length, Contains, Option, Some, None, refl, sym, subst, arith, inl, inr}
 use Rattle.std.proofs.lemmas.List.Elements.{Contains-append_right}
 use Rattle.bs_words.specs.declared.types.Loc.{Loc}
 use Rattle.par_moves.specs.declared.moves.Move.{Move}
 use Rattle.par_moves.specs.Moves.{Moves, same_place, spare, saved, from_spare, ReadsKnown, ReadsSources}
-use Rattle.par_moves.specs.Resolved.{Made, then_made, added, gathered, first_reader, others, top_target, unwound, turned, walked, walk_from, drained_by, drained_within, drained_at, drained, resolved_moves}
+use Rattle.par_moves.specs.Resolved.{Made, added, gathered, first_reader, others, top_target, turned, walked, walk_from, drained_by, drained_within, drained_at, drained, resolved_moves}
 use Rattle.par_moves.proofs.Members.{In, split_first}
 
 -- ---- places that are known

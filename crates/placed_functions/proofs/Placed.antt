@@ -2,11 +2,10 @@
 use Rattle.std.proofs.Common.{◌≡◌, ℕ, ◌+◌, ◌-◌, ◌*◌, ◌≤◌, List, length, Option, ap, arith}
 use Rattle.std.proofs.lemmas.List.{length-map}
 use Rattle.bs_words.specs.declared.types.Comp.{Comp}
-use Rattle.bs_words.specs.declared.types.Comp.TheVariants as comp
 use Rattle.cmm_tree.specs.Measures.{all_tries}
 use Rattle.cmm_tree.specs.Symbols.{DefinedSymbol}
 use Rattle.cmm_tree.specs.Tree.{Parameter, FunctionTree}
-use Rattle.combine_rules.specs.Kept.{IsCombinable, holds_block}
+use Rattle.combine_rules.specs.Kept.{holds_block}
 use Rattle.correctness.specs.Measures.{tries}
 use Rattle.mach_ir.specs.Sizes.{operand_count, HasRoom}
 use Rattle.mach_ir.specs.declared.mach.Mach.{Mach}

@@ -1,5 +1,5 @@
 -- A function that keeps one without slots has slots only for origins that are open there.
-use Rattle.std.proofs.Common.{◌≡◌, ◌≢◌, ℕ, inl, inr, ⊎_elim, List, sym, ◌∙◌, subst}
+use Rattle.std.proofs.Common.{◌≡◌, ◌≢◌, ℕ, inr, ⊎_elim, List, sym, ◌∙◌, subst}
 use Rattle.std.specs.Prelude.{Contains}
 use Rattle.bs_words.specs.declared.types.Loc.TheVariants as loc
 use Rattle.mach_ir.specs.Keeps.{Keeps, IsLoose, is_open, is_slot}
@@ -7,7 +7,7 @@ use Rattle.mach_ir.specs.Sizes.{OpenAtMost}
 use Rattle.mach_ir.specs.Walks.{IsRegister}
 use Rattle.mach_ir.specs.declared.mach.Mach.{Mach}
 use Rattle.mach_ir.specs.declared.reg.Reg.{Reg}
-use Rattle.places_rules.specs.Places.{IsSlot, SlotsGrow}
+use Rattle.places_rules.specs.Places.{SlotsGrow}
 
 module _ {p q : Mach} (keeps : Keeps p q) (no_slot : (r : Reg) → IsRegister p r → (slot : ℕ) → r.loc ≢ loc.Slot slot)
     (origins : (r : Reg) → IsRegister p r → r.origin ≡ r.number) where

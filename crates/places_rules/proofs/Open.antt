@@ -14,9 +14,6 @@ slot_open e u = cc
 pub machine_slot : {l : Loc} {n k : ℕ} → l ≡ loc.Machine n → l ≡ loc.Slot k → ⊥
 machine_slot e s = cc
 
-pub same_slot : {l : Loc} {j k : ℕ} → l ≡ loc.Slot j → l ≡ loc.Slot k → j ≡ k
-same_slot e s = cc
-
 -- A register that has a place is not open.
 pub not_open : (r : Reg) → IsPlaced r → r.loc ≡ loc.Unset → ⊥
 not_open r (in_colour n c e) u = machine_open e u

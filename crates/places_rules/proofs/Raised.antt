@@ -10,7 +10,7 @@ use Rattle.bs_words.specs.declared.values.Value.TheVariants as value
 use Rattle.bs_words.specs.Memory.{Memory}
 use Rattle.mach_ir.specs.Known.{Setting, Doing, Gave, Threw, Callee, Inside}
 use Rattle.mach_ir.specs.Acts as acts
-use Rattle.mach_ir.specs.Acts.{Around, Target, On, At, Landing, Act, Goes, Pushes, Jumps, Unwinds, Asks, Replaces, Ends, EndsRaising, Stuck, only_if}
+use Rattle.mach_ir.specs.Acts.{Around, Target, At, Landing, Act, Goes, Pushes, Jumps, Unwinds, Asks, Replaces, Ends, EndsRaising, Stuck, only_if}
 use Rattle.mach_ir.specs.Forms.{HasForm, checks, raises, returns}
 use Rattle.mach_ir.specs.Formed.{comps, MarkHasForm, exit_form, if_form, else_form, switch_form, case_form, catch_form, with_form, try_form, leave_form, end_form, IsFormed, formed_op, formed_mark}
 use Rattle.mach_ir.specs.Meaning.{Nothing, destroyed_by, killed_by, mach_act}

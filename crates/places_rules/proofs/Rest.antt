@@ -12,9 +12,10 @@ use Rattle.mach_ir.specs.declared.reg.Reg.{Reg}
 use Rattle.mach_ir.specs.declared.mach.Mach.{Mach}
 use Rattle.places_rules.specs.Places.{IsPlacing, placed, or_slot, last_resort, rest_in_slots, SlotsGrow}
 use Rattle.places_rules.proofs.Text.{placed_formed}
-use Rattle.places_rules.proofs.Open.{machine_open, slot_open, machine_slot, same_slot}
+use Rattle.places_rules.proofs.Open.{machine_open, slot_open, machine_slot}
 use Rattle.places_rules.proofs.Walked.{colour_place, no_addr_before}
 use Rattle.places_rules.proofs.Whole.{placed_keeps, placed_fully, placed_seated, placed_size, placed_slots}
+use Rattle.bs_words.proofs.Places.{same_slot}
 
 -- ---- one register
 

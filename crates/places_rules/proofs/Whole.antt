@@ -27,8 +27,9 @@ use Rattle.places_rules.specs.Places.{Placing, IsPlacing, placed, all_placed, pl
 use Rattle.places_rules.proofs.Kept.{does_placed}
 use Rattle.places_rules.proofs.Lists.{was}
 use Rattle.places_rules.proofs.Text.{was_register}
-use Rattle.places_rules.proofs.Open.{slot_open, machine_slot, same_slot}
+use Rattle.places_rules.proofs.Open.{slot_open, machine_slot}
 use Rattle.places_rules.proofs.Walked.{machine_stays, colour_stays, joined_before, no_addr_before}
+use Rattle.bs_words.proofs.Places.{same_slot}
 
 -- ---- seats
 

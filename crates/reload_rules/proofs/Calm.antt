@@ -15,7 +15,7 @@ use Rattle.cmm_meaning.specs.Evaluation.{bound_error}
 use Rattle.cmm_meaning.specs.State.{Doing, Gave, Threw, Callee, Inside}
 use Rattle.mach_ir.specs.Acts as acts
 use Rattle.cmm_meaning.specs.Setting.{Setting}
-use Rattle.mach_ir.specs.Acts.{Around, Target, On, At, Landing, AtLabel, AtHandler, Act, Goes, Pushes, Jumps, Unwinds, Asks, Replaces, Ends, EndsRaising, Stuck, only_if}
+use Rattle.mach_ir.specs.Acts.{Around, Target, On, At, AtLabel, AtHandler, Act, Goes, Pushes, Jumps, Unwinds, Asks, Replaces, Ends, EndsRaising, Stuck, only_if}
 use Rattle.mach_ir.specs.Meaning.{mark_act, mach_act}
 use Rattle.mach_ir.specs.declared.op.Right.TheVariants as right
 use Rattle.mach_ir.specs.declared.op.Pure.{Pure}
@@ -35,7 +35,7 @@ use Rattle.mach_ir.specs.declared.mach.Mark.{Mark}
 use Rattle.mach_ir.specs.declared.mach.Mark.TheVariants as mark
 use Rattle.mach_ir.specs.declared.mach.MachOp.{MachOp}
 use Rattle.mach_ir.specs.declared.mach.MachOp.TheVariants as mach
-use Rattle.mach_ir.specs.Acts.{Landing, AtLabel, AtHandler}
+use Rattle.mach_ir.specs.Acts.{AtLabel, AtHandler}
 
 abbrev IsCalm : Around → Type 0
 IsCalm a = a.raised ≡ None

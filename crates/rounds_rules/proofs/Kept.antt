@@ -42,6 +42,7 @@ use Rattle.reload_rules.proofs.Together.{reloaded_kept}
 use Rattle.rounds_rules.specs.Rounds.{IsRound, Asked, none_yet, one_more, most_rounds, allocated_size, Ends, asks_no_more, gives_up, IsAllocated, IsKept}
 use Rattle.rounds_rules.proofs.Feeding.{MayStand, stays, in_colour, at_home, left_open, IsSound, IsHomed, stays_homed, AreHomed, none_homed, one_homed}
 use Rattle.rounds_rules.proofs.Grown.{HomedCode, no_code, homed_then, Grown, grown_first, grown_placed, grown_reloaded, grown_words, grown_points, grown_exits, grown_operands, Shallow, grown_shallow, Fit, grown_fit, ReturnsNothing, grown_ends}
+use Rattle.bs_words.proofs.Places.{same_slot}
 
 -- ---- placings of all registers that do as a colouring does
 
@@ -134,13 +135,10 @@ module _ (IsOne : Reg → Type 0) (AreJoined : ℕ → ℕ → Type 0) (place : 
   is_homed : IsHomed r
   is_homed k e = by (c.fixed r one) (c.places r one)
     where
-      slots_same : (l : Loc) (a b : ℕ) → l ≡ loc.Slot a → l ≡ loc.Slot b → a ≡ b
-      slots_same l a b e g = cc
-
       by : (r.loc ≡ loc.Unset) ⊎ (place r.number ≡ r.loc) → IsPlaced (record r { loc = place r.number }) → k ≡ r.origin
       by (inl u) p = absurd (slot_open e u)
       by (inr f) (placings.in_colour n d g) = absurd (machine_slot g (f ∙ e))
-      by (inr f) (placings.in_slot g) = slots_same (place r.number) k r.origin (f ∙ e) g
+      by (inr f) (placings.in_slot g) = same_slot (f ∙ e) g
 
 lists_agree : (one other : Placing) (rs : List Reg) → ((r : Reg) → Contains rs r → one r ≡ other r) → all_placed one rs ≡ all_placed other rs
 lists_agree one other [] h = refl

@@ -307,7 +307,8 @@ fn emit_with(
 /// The pieces of a function. `descriptors`: one for each frame point that is no tail call, in the
 /// order of the lines.
 ///
-/// What is asked of the function is what its descriptors ask too.
+/// What is asked of the function is what its descriptors ask too. More positions of walks than a number
+/// can count are want of memory.
 pub fn emit(alloc: Global, lin: &Lin, descriptors: &[Descr]) -> Result<Pieces, AllocError>
     requires located { AreLocated lin.now }
     requires depth { OneDepth lin.now }

@@ -9,11 +9,7 @@ use Rattle.rv_layout.specs.Descs.{desc_in}
 use Rattle.rv_layout.specs.Tables.{LabelBelow, LabelsBelow}
 use Rattle.rv_pieces.specs.declared.piece.Piece.{Piece}
 use Rattle.rv_pieces.specs.declared.piece.Piece.TheVariants.{Known, Label, Branch, Jump, Row, LabelAddress, Call, TailCall, SymbolAddress, ExternalNumber, Descriptor}
-
-pub drop_step : {A : Type 0} → (xs : List A) (i : ℕ) (x : A) → i < length xs → x ≡ get_or xs i x → drop i xs ≡ x ∷ drop (i + 1) xs
-drop_step xs i x h e =
-    let next : suc i ≡ i + 1 = omega arith in
-    drop-cons xs i x h ∙ (ap (λ y. y ∷ drop (suc i) xs) (sym e) ∙ ap (λ n. x ∷ drop n xs) next)
+use Rattle.bs_words.proofs.Lists.{drop_step}
 
 pub drop_from : {A : Type 0} → (xs : List A) (i : ℕ) (d : A) → i < length xs → drop i xs ≡ get_or xs i d ∷ drop (i + 1) xs
 drop_from xs i d h =

@@ -2,7 +2,7 @@
 use Rattle.std.proofs.Common.{◌≡◌, ◌≢◌, ℕ, zero, suc, ◌+◌, ◌-◌, ◌<◌, ◌≤◌, List, [], ◌∷◌, ◌++◌, length, take, drop, get_or, Option, Some, None, option_map, refl, ap, arith, ◌∙◌, sym, append_assoc, append-nil}
 use Rattle.std.proofs.Math.ListN.{replicate, set}
 use Rattle.std.proofs.Math.Seq.{drop-cons, take-suc-set}
-use Rattle.std.proofs.lemmas.List.{drop-set-lt}
+use Rattle.std.proofs.lemmas.List.{drop-set-lt, drop_all}
 use Rattle.bs_words.specs.declared.types.Comp.{Comp}
 use Rattle.image_form.specs.Tables.{Tables}
 use Rattle.rv_machine.specs.Start.{padded}
@@ -77,18 +77,12 @@ padded_all (suc count) (suc n) (w ∷ words) l h e =
     let m : suc count - suc n ≡ count - n = omega arith in
     ap (λ (ws : List ℕ). w ∷ ws) (padded_all count n words (omega arith) (omega arith) (e ∙ ap (λ (c : ℕ). replicate c 0) m))
 
-nothing_left : {X : Type 0} (k : ℕ) (xs : List X) → length xs ≤ k → drop k xs ≡ []
-nothing_left zero [] h = refl
-nothing_left (suc k) [] h = refl
-nothing_left zero (x ∷ xs) h = absurd (omega arith)
-nothing_left (suc k) (x ∷ xs) h = nothing_left k xs (omega arith)
-
 pub all_words : (image : Tables) (comps : List Comp) (args : List Arg) (words : List ℕ) (k : ℕ)
     → length args ≤ k → length comps ≤ k → k ≤ 16 → length words ≡ 16 → drop k words ≡ replicate (16 - k) 0
     → words_of_args image comps args ≡ option_map (λ (ws : List ℕ). take k words ++ ws) (words_of_args image (drop k comps) (drop k args))
     → Some words ≡ option_map (padded 16) (words_of_args image comps args)
 all_words image comps args words k ha hc h l free rest =
     sym (ap (option_map (padded 16))
-    (rest ∙ ap (λ (cs : List Comp). option_map (λ (ws : List ℕ). take k words ++ ws) (words_of_args image cs (drop k args))) (nothing_left k comps hc)
-    ∙ ap (λ (as' : List Arg). option_map (λ (ws : List ℕ). take k words ++ ws) (words_of_args image [] as')) (nothing_left k args ha))
+    (rest ∙ ap (λ (cs : List Comp). option_map (λ (ws : List ℕ). take k words ++ ws) (words_of_args image cs (drop k args))) (drop_all k comps hc)
+    ∙ ap (λ (as' : List Arg). option_map (λ (ws : List ℕ). take k words ++ ws) (words_of_args image [] as')) (drop_all k args ha))
     ∙ ap Some (ap (padded 16) (append-nil (take k words)) ∙ padded_all 16 k words l h free))

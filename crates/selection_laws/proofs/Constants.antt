@@ -1,13 +1,12 @@
 -- The constants of an instruction that has a form are words.
-use Rattle.std.proofs.Common.{◌≡◌, ℕ, suc, ◌<◌, ◌^◌, ◌/◌, Bool, true, false, ◌||◌, List, [], ◌∷◌, All, refl, arith, sym}
-use Rattle.std.specs.Prelude.{◌==◌, nat_le, nat_lt}
-use Rattle.std.proofs.lemmas.Bool.{ltb-true, leb-true, eqb-true, true≢false, and_parts}
+use Rattle.std.proofs.Common.{◌≡◌, ℕ, suc, ◌<◌, ◌^◌, ◌/◌, true, ◌||◌, List, [], ◌∷◌, All, arith}
+use Rattle.std.specs.Prelude.{◌==◌, nat_le}
+use Rattle.std.proofs.lemmas.Bool.{leb-true, eqb-true, and_parts}
 use Rattle.bs_words.specs.declared.operators.IntOp.{IntOp}
-use Rattle.bs_words.specs.declared.operators.IntOp.TheVariants as operator
 use Rattle.bs_words.specs.declared.types.Comp.{Comp}
 use Rattle.cmm_types.specs.Faults.{is_header}
 use Rattle.mach_ir.specs.Formed.{IsFormed, formed_op, formed_mark}
-use Rattle.mach_ir.specs.Forms.{is_immediate, is_immediate_12, is_opposite_immediate_12, IsRight, a_register, a_constant, IsBlock, HasForm, copies, constant, symbol, operates, loads, stores, allocates, calls, tail_calls, calls_out, checks, raises, returns}
+use Rattle.mach_ir.specs.Forms.{IsRight, a_register, a_constant, IsBlock, HasForm, copies, constant, symbol, operates, loads, stores, allocates, calls, tail_calls, calls_out, checks, raises, returns}
 use Rattle.mach_ir.specs.declared.blocks.NewBlock.{NewBlock}
 use Rattle.mach_ir.specs.declared.mach.Instr.{Instr}
 use Rattle.mach_ir.specs.declared.mach.MachOp.TheVariants as mach

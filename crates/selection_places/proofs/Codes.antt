@@ -24,7 +24,7 @@ use Rattle.selection_rules.specs.Select.{Code, Shape, InRegisters, ConstantRight
 use Rattle.selection_places.proofs.Sets.{Role, Plain, New, Seated, left, right as in_right, it, Listed}
 use Rattle.selection_places.proofs.Owned.{dropped, kept, kept_of, Either, LabelsOwn, Own, BaseOwn, RowOwn, BoundOwn, SeqOwn, CasesOwn, HandlersOwn}
 use Rattle.selection_places.proofs.Coded as coded
-use Rattle.selection_places.proofs.Coded.{Member, later, Each, none, one, each_map, each_append, Apart, Reads, reads_plain, reads_new, ReadsSeats, reads, reads_seat, Gives, gives_none, gives_one, Coded, ends, plain, fills, empties, asks, handles, allocs, coded_more, seats_apart}
+use Rattle.selection_places.proofs.Coded.{Member, later, Each, none, one, each_map, each_append, Reads, reads_plain, reads_new, ReadsSeats, reads, reads_seat, Gives, gives_none, gives_one, Coded, ends, plain, fills, empties, asks, handles, allocs, coded_more, seats_apart}
 
 -- the registers of seats that are emptied last first
 abbrev pub onto : List Reg → List Reg → List Reg

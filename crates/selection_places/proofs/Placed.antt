@@ -12,7 +12,7 @@ use Rattle.places_rules.proofs.Open.{machine_open}
 use Rattle.selection_rules.specs.Select.{selected, first, seats, colour_regs}
 use Rattle.selection_places.proofs.Sets.{Role, Plain, New, Seated, IsColour, left, right as in_right, it, Listed}
 use Rattle.selection_places.proofs.Coded as coded
-use Rattle.selection_places.proofs.Coded.{Member, later, Each, none, one, each_of, Apart, seats_apart}
+use Rattle.selection_places.proofs.Coded.{Member, later, Each, none, one, each_of, seats_apart}
 use Rattle.selection_places.proofs.Codes.{onto}
 use Rattle.selection_places.proofs.Soon.{found, contains_of, live_soon, soon_in, written_fine}
 use Rattle.selection_places.proofs.Whole.{Whole, whole_block, others_block, params_of, HasRole, has, has_role, member_of, selected_coded, selected_numbers}

@@ -24,7 +24,7 @@ use Rattle.selection_rules.specs.Select.{selected, width}
 use Rattle.selection_rules.proofs.Plays.{Alike, Meets, returned, threw, running, asking, improper, left_by_exit}
 use Rattle.selection_walks.specs.Known.{FunctionFits}
 use Rattle.selection_walks.proofs.Keeps.{accepted_keeps, accepted_proper}
-use Rattle.selection_promise.specs.Runs.{Beside, EndsAs, IsSetting, HoldWords, PlaysAs, evaluated}
+use Rattle.selection_promise.specs.Runs.{Beside, EndsAs, PlaysAs, evaluated}
 use Rattle.selection_promise.specs.Runs as spec
 
 beside : (f : FunctionTree) (n u : ℕ) (e : Evaluation) (t : Tally) → Alike t (world_of e) → t.units ≡ u → u + (pending e + (world_of e).left) ≤ n →

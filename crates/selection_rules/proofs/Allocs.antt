@@ -5,7 +5,7 @@ use Rattle.std.proofs.lemmas.Bool.{true≢false, eq-eqb, eqb-true, le-leb}
 use Rattle.std.proofs.lemmas.List.{append-nil, length-append}
 use Rattle.std.proofs.Math.Seq.{get_or-append_seam, set-append_seam}
 use Rattle.bs_words.specs.Fits.{fits, misfit}
-use Rattle.bs_words.specs.Memory.{Memory, HeapBlock, Cell, InHeader, InBlock, InStatic, sizes, cell_at, cell_of_block, in_block, stored, stored_in, put_whole, put_in, with_value, type_in, type_of_cells, offset_in_cell, end_of_data, all_fit, allocated, next_block}
+use Rattle.bs_words.specs.Memory.{Memory, HeapBlock, Cell, InHeader, InBlock, sizes, cell_at, cell_of_block, in_block, stored, stored_in, put_whole, put_in, with_value, type_in, type_of_cells, offset_in_cell, end_of_data, all_fit, allocated, next_block}
 use Rattle.bs_words.specs.declared.types.Chunk.{Chunk}
 use Rattle.bs_words.specs.declared.types.Ty.{Ty}
 use Rattle.bs_words.specs.declared.values.Value.{Value}
@@ -14,7 +14,7 @@ use Rattle.cmm_tree.specs.Tree.{Alloc, Expressions}
 use Rattle.cmm_types.specs.Types.{type_of}
 use Rattle.cmm_meaning.specs.State.{Here}
 use Rattle.meaning_laws.specs.Does.{Leaves, Giving, Does}
-use Rattle.meaning_laws.specs.Interaction.{Part, onward, of_type, proper, does, waiting, filled}
+use Rattle.meaning_laws.specs.Interaction.{onward, of_type, proper, does, waiting, filled}
 use Rattle.mach_ir.specs.declared.reg.Reg.{Reg}
 use Rattle.mach_ir.specs.declared.mach.Instr.{Instr}
 use Rattle.mach_ir.specs.declared.mach.Mach.{Mach}

@@ -10,7 +10,7 @@ use Rattle.cmm_tree.specs.Tree.{Expression, If}
 use Rattle.cmm_types.specs.Types.{type_of}
 use Rattle.cmm_meaning.specs.State.{Here}
 use Rattle.meaning_laws.specs.Does.{Leaves, Does}
-use Rattle.meaning_laws.specs.Interaction.{Part, onward, of_type, tested, proper, does, in_order, entering, back}
+use Rattle.meaning_laws.specs.Interaction.{Part, onward, of_type, proper, does}
 use Rattle.mach_ir.specs.declared.reg.Reg.{Reg}
 use Rattle.mach_ir.specs.declared.mach.Instr.{Instr}
 use Rattle.mach_ir.specs.declared.mach.Mach.{Mach}

@@ -20,7 +20,7 @@ use Rattle.mach_ir.specs.declared.mach.Mach.{Mach}
 use Rattle.mach_ir.specs.Acts.{drop_tries}
 use Rattle.mach_ir.specs.Runs.{Place, Continues}
 use Rattle.mach_ir.specs.Meaning.{put, put_if, File, put_all, wrote, after_label}
-use Rattle.selection_rules.specs.Select.{Label, scopes, fresh, comp_of, inner_valued, inner_dest, width, label_of, params_from, with_params, labels_from, unless_bare, in_handlers, width_labels, select, select_handlers, width_handlers}
+use Rattle.selection_rules.specs.Select.{Label, scopes, fresh, inner_valued, inner_dest, width, label_of, params_from, with_params, labels_from, unless_bare, in_handlers, width_labels, select, select_handlers, width_handlers}
 use Rattle.selection_rules.specs.Follow.{Follows, walks, fails, spent}
 use Rattle.selection_rules.proofs.Files.{Under, under_more, IsNamed, here, there, Stands, stands_length}
 use Rattle.selection_rules.proofs.Parts.{Placed, placed_in, placed_next, WellLabelled, AllUnder, Lower, no_label, a_label, lower_more, Stable, stable_same, May, new, dest, name, calm, calm_in, at, arrive, Level, Based, Reaching, reaching_now, reaching_out, any, After, after_typed, node_follows, Ready}

@@ -7,7 +7,7 @@ use Rattle.bs_words.specs.declared.values.Kind.{Kind}
 use Rattle.bs_words.specs.declared.values.Value.{Value}
 use Rattle.cmm_tree.specs.Tree.{LabelTree}
 use Rattle.cmm_meaning.specs.State.{Doing, Gave, Threw, Inside, Outside, Asked, asked_inside, asked_outside, World, Here, deepened}
-use Rattle.cmm_meaning.specs.Evaluation.{OutOfFuel, NotProper, NoAnswer, Evaluation, Gives, Exits, Raises, Stops, Surroundings, spend}
+use Rattle.cmm_meaning.specs.Evaluation.{OutOfFuel, NotProper, Evaluation, Gives, Exits, Raises, Stops, Surroundings, spend}
 use Rattle.cmm_meaning.specs.Alone.{done_inside, done_outside}
 use Rattle.meaning_laws.specs.Does.{Does, Jumps, played, after_call}
 use Rattle.meaning_laws.specs.Links.{lonely}

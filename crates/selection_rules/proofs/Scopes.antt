@@ -10,7 +10,7 @@ use Rattle.cmm_types.specs.Types.{Scoped, type_of, type_bound, is_mutable}
 use Rattle.cmm_meaning.specs.State.{Here, scope, back_in, outermost}
 use Rattle.cmm_meaning.specs.Evaluation.{with_bound}
 use Rattle.meaning_laws.specs.Does.{Leaves, Does}
-use Rattle.meaning_laws.specs.Interaction.{onward, of_type, tested, does, in_order, entering, only_value, back}
+use Rattle.meaning_laws.specs.Interaction.{onward, tested, does, in_order, entering, only_value, back}
 use Rattle.mach_ir.specs.declared.reg.Reg.{Reg}
 use Rattle.mach_ir.specs.declared.mach.Instr.{Instr}
 use Rattle.mach_ir.specs.declared.mach.Mach.{Mach}

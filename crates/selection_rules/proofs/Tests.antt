@@ -13,7 +13,7 @@ use Rattle.cmm_meaning.specs.State.{Here, scope}
 use Rattle.meaning_laws.specs.Does.{Leaves, Does}
 use Rattle.meaning_laws.specs.Interaction.{Part, onward, of_type, only_value, with_value, both, proper, does}
 use Rattle.meaning_laws.specs.Interaction as part
-use Rattle.mach_ir.specs.Acts.{On, At, branches, truth_of, as_condition}
+use Rattle.mach_ir.specs.Acts.{On, At, branches, as_condition}
 use Rattle.mach_ir.specs.Acts as acts
 use Rattle.mach_ir.specs.Runs.{Place, Continues}
 use Rattle.mach_ir.specs.Meaning.{File, with_held, on_act, code_at}
@@ -22,7 +22,6 @@ use Rattle.mach_ir.specs.declared.mach.Mach.{Mach}
 use Rattle.mach_ir.specs.declared.mach.Test.{Test}
 use Rattle.mach_ir.specs.declared.mach.Test.TheVariants as test
 use Rattle.mach_ir.specs.declared.reg.Reg.{Reg}
-use Rattle.selection_rules.specs.Instructions.{right_regs}
 use Rattle.selection_rules.specs.Instructions as emit
 use Rattle.selection_rules.specs.Kept.{on_values}
 use Rattle.selection_rules.specs.Select.{Shape, shape_of, shape_op, shape_right, shape_args, unless_left, unless_right, Named, Label, scopes, fresh, ordered, width, comparison, tested, select, select_test}

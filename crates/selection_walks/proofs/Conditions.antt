@@ -1,6 +1,5 @@
 -- Conditions and switches.
 use Rattle.std.proofs.Common.{◌≡◌, ℕ, suc, ◌+◌, ◌<◌, ◌≤◌, Bool, true, false, cond, List, [], ◌∷◌, ◌++◌, Option, Some, None, refl, sym, ap, ◌∙◌, subst, arith}
-use Rattle.std.specs.Prelude.{Contains}
 use Rattle.std.proofs.lemmas.Bool.{eq-eqb}
 use Rattle.bs_words.specs.declared.operators.IntOp.{IntOp}
 use Rattle.bs_words.specs.declared.types.Ty.{Ty}
@@ -16,11 +15,11 @@ use Rattle.cmm_types.specs.Standing.{Visible}
 use Rattle.cmm_types.specs.Gathered.{faults_in}
 use Rattle.cmm_types.specs.declared.role.Role.TheVariants as role
 use Rattle.cmm_meaning.specs.Evaluation.{is_left_first}
-use Rattle.cmm_walks.specs.Walks.{Event, Binds, Uses, Task, Does, Evaluates, OneOf, Slotted, names, is_address, takes, operand, tasks_of, all_operands, two, bodies, behind_raise, behind_exit}
+use Rattle.cmm_walks.specs.Walks.{Binds, Uses, Task, Does, Evaluates, OneOf, Slotted, names, is_address, takes, operand, all_operands, two, bodies}
 use Rattle.cmm_walks.specs.Walks as walk
 use Rattle.mach_ir.specs.Acts.{Target, On, At}
 use Rattle.mach_ir.specs.Meaning.{code_at}
-use Rattle.mach_ir.specs.Walks.{Among, first, later, this, other}
+use Rattle.mach_ir.specs.Walks.{Among, this, other}
 use Rattle.mach_ir.specs.Walks as mach
 use Rattle.mach_ir.specs.declared.mach.Instr.{Instr}
 use Rattle.mach_ir.specs.declared.mach.Mach.{Mach}
@@ -39,7 +38,7 @@ use Rattle.selection_laws.specs.Fits.{Fits, HasCase}
 use Rattle.selection_walks.proofs.Phases.{Phase, Passed, Ahead, Told, skipped, quietly, Kept, grown, apart_binds, apart_uses}
 use Rattle.selection_walks.proofs.Situations.{hold, Low, hold_same, hold_other, hold_kept, low_none, low_more, paired_names, OutsOf, outs_kept, Sit, go, quiet_sit, one_number, out, ApartFrom, inner, inner_apart, binding, through_takes}
 use Rattle.selection_walks.proofs.Floats.{has_one}
-use Rattle.selection_walks.proofs.Operands.{has_value, row_none, row_hold, hold_next, Stood, Step, joined, nothing, whole, outs_over, Scene, at_more, Claim, of_claim}
+use Rattle.selection_walks.proofs.Operands.{has_value, row_none, row_hold, Stood, Step, whole, Scene, at_more, Claim, of_claim}
 use Rattle.selection_walks.proofs.Finals.{used_by, outs_takes}
 use Rattle.selection_walks.proofs.Pairs.{bare_right, bare_left, coded, bare_arg, two_args, left_stands, right_stands, single_stands, two_of, bare_power, untested}
 use Rattle.selection_walks.proofs.Names.{inner_below, wanted_typed}

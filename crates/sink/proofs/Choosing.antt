@@ -44,7 +44,6 @@ use Rattle.sink.specs.declared.solved.Solved.{Solved}
 use Rattle.sink.proofs.Entered.{is_entered, length_table, is_live_entered}
 use Rattle.sink.proofs.Graph.{Where, inner, final, beyond, where_is, at, none_past, of}
 use Rattle.sink.proofs.Held.{held_destroys, held_on, held_of}
-use Rattle.sink.proofs.Living.{not_both}
 use Rattle.sink.proofs.Mixing.{IsMixedIn, is_mixed_in, mixed_is_in}
 use Rattle.sink.proofs.Running.{get_there, run_to, begin_of, begins_there, run_starts}
 use Rattle.sink.proofs.Moving.{Moved, moved, moves_at, in_moves, moves_in, moves_rise, pairs_none}
@@ -52,6 +51,7 @@ use Rattle.sink.proofs.Nodes.{at_last}
 use Rattle.sink.proofs.Seeing.{Sees, unseen, once, often, same_sees, InPlaces, all_seen, length_places}
 use Rattle.liveness.proofs.Steps.{among_numbers, in_numbers, destroys_on, place_back, place_within, ending_place, live_small}
 use Rattle.mach_ir.specs.Places.{is_open}
+use Rattle.bs_words.proofs.Truths.{not_both}
 
 -- ---- sights
 

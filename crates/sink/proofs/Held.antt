@@ -1,15 +1,13 @@
 -- What is held: it destroys every colour and goes on.
-use Rattle.std.proofs.Common.{◌≡◌, true, false, List, ◌∷◌, refl}
+use Rattle.std.proofs.Common.{◌≡◌, true, false, ◌∷◌, refl}
 use Rattle.mach_ir.specs.Acts.{Target, On}
 use Rattle.mach_ir.specs.Meaning.{Nothing, Temporaries, Everything, destroyed_by}
-use Rattle.mach_ir.specs.Walks.{OneOf, this, targets, Stands, here, below}
-use Rattle.mach_ir.specs.declared.mach.Instr.{Instr}
+use Rattle.mach_ir.specs.Walks.{OneOf, this, targets}
 use Rattle.mach_ir.specs.declared.mach.Mark.TheVariants as mark
 use Rattle.mach_ir.specs.declared.mach.MachOp.{MachOp}
 use Rattle.mach_ir.specs.declared.mach.MachOp.TheVariants as mach
 use Rattle.mach_ir.specs.declared.op.Calling.TheVariants as calling
 use Rattle.mach_ir.specs.declared.op.Op.TheVariants as op
-use Rattle.mach_laws.specs.Expand.{Ending, all, more}
 use Rattle.sink.specs.Graphs.{held}
 
 no : false ≡ true → ⊥

@@ -10,9 +10,7 @@ use Rattle.liveness.proofs.Bounds.{split_in}
 use Rattle.bs_words.proofs.Lists.{none_in, first_in, later_in, in_cons}
 use Rattle.sink.specs.Graphs.{held, LivesAt, AreLiving, AreOver}
 use Rattle.mach_ir.specs.declared.mach.MachOp.{MachOp}
-
-pub not_both : (b : Bool) → b ≡ true → b ≡ false → ⊥
-not_both b e h = cc
+use Rattle.bs_words.proofs.Truths.{not_both}
 
 -- a number is among these, or it is not
 pub decide_in : (n : ℕ) (ks : List ℕ) → Contains ks n ⊎ (Contains ks n → ⊥)

@@ -8,8 +8,8 @@ use Rattle.mach_ir.specs.Walks.{Among, first, later}
 use Rattle.mach_ir.specs.declared.reg.Reg.{Reg}
 use Rattle.mach_ir.specs.declared.mach.Instr.{Instr}
 use Rattle.sink.specs.Mixed.{is_mixed, noted_reads, noted_code}
-use Rattle.sink.proofs.Living.{not_both}
 use Rattle.sink.proofs.Seeing.{length_set, at_set, off_set, same_or}
+use Rattle.bs_words.proofs.Truths.{not_both}
 
 and_parts : (a b : Bool) → a && b ≡ true → (a ≡ true) × (b ≡ true)
 and_parts true b e = (refl, e)

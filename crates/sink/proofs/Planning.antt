@@ -18,10 +18,10 @@ use Rattle.sink.specs.Chosen.{AreMoves}
 use Rattle.sink.specs.Runs.{begins_at}
 use Rattle.sink.specs.Moves.{moves_before, instr_at, code_at}
 use Rattle.sink.specs.declared.chosen.Move.{Move}
-use Rattle.sink.proofs.Living.{not_both}
 use Rattle.sink.proofs.Moving.{pairs_none, pairs_more, pairs_first, pairs_rest}
 use Rattle.sink.proofs.Running.{begins_of, one_start}
 use Rattle.mach_laws.proofs.Places.{ending_of}
+use Rattle.bs_words.proofs.Truths.{not_both}
 
 -- ---- tests
 

@@ -20,9 +20,9 @@ use Rattle.mach_laws.proofs.Walking.{place_is}
 use Rattle.sink_rules.specs.Chosen.{IsRunTo}
 use Rattle.bs_words.proofs.Lists.{in_cons}
 use Rattle.sink.specs.Runs.{some_straight, begins_at, is_among, some_result, run_start}
-use Rattle.sink.proofs.Living.{not_both}
 use Rattle.liveness.proofs.Steps.{each, place_back, ending_place}
 use Rattle.mach_laws.proofs.Places.{stands_of, ending_of}
+use Rattle.bs_words.proofs.Truths.{not_both}
 
 -- ---- what stands at a place
 

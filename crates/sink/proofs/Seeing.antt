@@ -11,7 +11,7 @@ use Rattle.dataflow.specs.declared.flow.Place as place
 use Rattle.sink.specs.Sights.{noted, noted_number, noted_numbers, noted_places}
 use Rattle.sink.specs.declared.sights.Sight.{Sight}
 use Rattle.sink.specs.declared.sights.Sight.TheVariants.{Unseen, Once, Often}
-use Rattle.sink.proofs.Living.{not_both}
+use Rattle.bs_words.proofs.Truths.{not_both}
 
 -- ---- writes into lists
 

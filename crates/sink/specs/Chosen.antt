@@ -1,8 +1,6 @@
 -- Which registers are moved to themselves, and where.
-use Rattle.std.specs.Prelude.{◌≡◌, ◌<◌, ℕ, Bool, true, false, cond, not, ◌&&◌, ◌||◌, List, [], ◌∷◌, ◌++◌, Option, Some, None, option_to_list, slice_get, AllPairs, Contains}
+use Rattle.std.specs.Prelude.{◌≡◌, ◌<◌, ℕ, Bool, false, cond, not, ◌&&◌, ◌||◌, List, [], ◌∷◌, ◌++◌, Option, Some, None, option_to_list, slice_get, AllPairs, Contains}
 use Rattle.bs_bits.specs.Set.{has}
-use Rattle.bs_words.specs.declared.types.Loc.{Loc}
-use Rattle.bs_words.specs.declared.types.Loc.TheVariants as loc
 use Rattle.dataflow.specs.Rows.{row}
 use Rattle.mach_ir.specs.declared.reg.Reg.{Reg}
 use Rattle.mach_ir.specs.declared.mach.Instr.{Instr}

@@ -29,9 +29,9 @@ use Rattle.spill.specs.Copies.{is_reloaded, reloads_at, spills_at, instr_at}
 use Rattle.spill.specs.Graphs.{reloaded_among}
 use Rattle.spill.specs.Tables.{Wanted, here, on, aside, AreTables}
 use Rattle.spill.specs.declared.tables.Tables.{Tables}
-use Rattle.spill.proofs.Making.{not_both}
 use Rattle.liveness.proofs.Steps.{among_numbers, in_numbers, place_within, Steps, steps_of, steps_to, leads_ending}
 use Rattle.spill.proofs.WantedFlow.{in_reloaded, reloaded_in, reloaded_here, here_reloaded}
+use Rattle.bs_words.proofs.Truths.{not_both}
 
 -- ---- tests on lists
 

@@ -1,5 +1,5 @@
 -- The numbers that live over an instruction, one after the other.
-use Rattle.std.proofs.Common.{◌≡◌, ℕ, ◌+◌, ◌<◌, Bool, true, false, ◌⊎◌, inl, inr, ⊎_elim, List, [], ◌∷◌, ◌++◌, sym, subst, arith}
+use Rattle.std.proofs.Common.{◌≡◌, ℕ, ◌+◌, ◌<◌, Bool, ◌⊎◌, inl, inr, ⊎_elim, List, [], ◌∷◌, ◌++◌, sym, subst, arith}
 use Rattle.std.proofs.lemmas.List.Elements.{Contains-append_left, Contains-append_right}
 use Rattle.std.proofs.lemmas.Bool.{cases_lt}
 use Rattle.std.specs.List.{Contains}
@@ -8,9 +8,6 @@ use Rattle.mach_ir.specs.Meaning.{Everything, destroyed_by}
 use Rattle.mach_ir.specs.declared.mach.MachOp.{MachOp}
 use Rattle.bs_words.proofs.Lists.{none_in, first_in, in_cons}
 use Rattle.spill.specs.Graphs.{LivesAt, AreLivingOver, AreMade}
-
-pub not_both : (b : Bool) → b ≡ true → b ≡ false → ⊥
-not_both b e h = cc
 
 module _ (rows : List (List Bool)) (after : ℕ) (written : List ℕ) where
   pub over_none : (found : List ℕ) → found ≡ [] → AreLivingOver rows after 0 written found

@@ -1,8 +1,6 @@
 -- What the tables of a function tell.
-use Rattle.std.specs.Prelude.{◌≡◌, ◌↔◌, ℕ, ◌<◌, ◌≤◌, Bool, true, false, List, ◌∷◌, length, drop}
+use Rattle.std.specs.Prelude.{◌≡◌, ◌↔◌, ℕ, ◌<◌, ◌≤◌, Bool, true, List, ◌∷◌, length, drop}
 use Rattle.bs_bits.specs.Set.{has}
-use Rattle.bs_words.specs.declared.types.Loc.{Loc}
-use Rattle.bs_words.specs.declared.types.Loc.TheVariants as loc
 use Rattle.dataflow.specs.Rows.{row}
 use Rattle.mach_ir.specs.Walks.{Leads, Raises, Writes, IsRegister}
 use Rattle.mach_ir.specs.declared.reg.Reg.{Reg}

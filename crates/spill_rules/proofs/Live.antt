@@ -22,6 +22,7 @@ use Rattle.split_rules.specs.Writes.{Comes, from_write, past, past_raise}
 use Rattle.bs_words.proofs.Lists.{none_in, first_in, later_in, in_cons}
 use Rattle.spill_rules.specs.Spilled.{Plan, in_slot, reload, spill, reloads_of, spills_of, operands_of, results_of, spilled_instr, spilled, IsPlan}
 use Rattle.spill_rules.proofs.Text.{keeps_marks, all_results, operand_in}
+use Rattle.bs_words.proofs.Truths.{not_both}
 
 module _ (m : Mach) (plan : Plan) (formed : WellFormed m) (placed : WellPlaced m) (is : IsPlan m plan) where
   abbrev q : Mach
@@ -125,9 +126,6 @@ module _ (m : Mach) (plan : Plan) (formed : WellFormed m) (placed : WellPlaced m
   more_there x k r rs h hs =
       λ j c s e. ⊎_elim (λ t. h (subst (λ (r : Reg). plan.spills k r.number ≡ true) (sym t) s) (ap (λ (r : Reg). plan.slot r.number) t ∙ e))
       (λ d. hs j d s e) (in_cons r j rs c)
-
-  not_both : (b : Bool) → b ≡ true → b ≡ false → ⊥
-  not_both b e h = cc
 
   -- ---- what an instruction writes
 

@@ -16,13 +16,14 @@ use Rattle.mach_ir.specs.declared.mach.Mach.{Mach}
 use Rattle.mach_laws.specs.Expand.{expand, Ending, all}
 use Rattle.mach_laws.proofs.Places.{label_expand, ending_next, ending_label, ending_of, results_in}
 use Rattle.places_rules.proofs.Lists.{was}
-use Rattle.places_rules.proofs.Open.{machine_slot, same_slot}
+use Rattle.places_rules.proofs.Open.{machine_slot}
 use Rattle.split_rules.proofs.Formed.{contains_of, stands_in}
 use Rattle.spill_rules.specs.Spilled.{Plan, in_slot, results_of, has_results, spilled_instr, spilled, IsPlan}
 use Rattle.spill_rules.proofs.Formed.{IsCopy, is_reload, is_spill, IsMain, was_main}
 use Rattle.spill_rules.proofs.Kept.{Which, own, slotted, WasRegister, was_register}
 use Rattle.spill_rules.proofs.Live.{Storing, Laid, laid_of, laid_results, WasLive, itself, stored, IsResult, is_result, live_back, live_before}
 use Rattle.spill_rules.proofs.Text.{keeps_marks}
+use Rattle.bs_words.proofs.Places.{same_slot}
 
 module _ (m : Mach) (plan : Plan) (formed : WellFormed m) (placed : WellPlaced m) (is : IsPlan m plan) where
   abbrev q : Mach

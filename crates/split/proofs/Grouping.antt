@@ -15,7 +15,7 @@ use Rattle.liveness.proofs.Bounds.{split_in}
 use Rattle.liveness.proofs.Counting.{countable_of}
 use Rattle.split_rules.specs.Order.{write_of, open_writes, code_writes, writes_of}
 use Rattle.split_rules.specs.Split.{split_size}
-use Rattle.bs_words.proofs.Lists.{none_in, first_in, later_in, in_cons}
+use Rattle.bs_words.proofs.Lists.{none_in, first_in, later_in, in_cons, pushed_kept, pushed_here, pushed_cases}
 use Rattle.split.specs.Writes.{members_in, HasMember, AreRising, ends, rises, IsGrouped}
 use Rattle.split.specs.declared.writes.Group as group
 use Rattle.split_rules.specs.declared.writes.Write.{Write}
@@ -49,23 +49,6 @@ has_member old new k member g g' within read more is =
     }
 
 -- ---- one write more
-
-pushed_kept : {A : Type 0} (xs : List A) (y x : A) (q : ℕ) → slice_get xs q ≡ Some x → slice_get (xs ++ y ∷ []) q ≡ Some x
-pushed_kept [] y x q e = absurd (cc)
-pushed_kept (z ∷ zs) y x zero e = e
-pushed_kept (z ∷ zs) y x (suc q) e = pushed_kept zs y x q e
-
-pushed_here : {A : Type 0} (xs : List A) (y : A) → slice_get (xs ++ y ∷ []) (length xs) ≡ Some y
-pushed_here [] y = refl
-pushed_here (z ∷ zs) y = pushed_here zs y
-
-pushed_cases : {A : Type 0} (xs : List A) (y x : A) (q : ℕ) → slice_get (xs ++ y ∷ []) q ≡ Some x →
-    (slice_get xs q ≡ Some x) ⊎ ((q ≡ length xs) × (y ≡ x))
-pushed_cases [] y x zero e = inr (refl, (let f : y ≡ x = cc in f))
-pushed_cases [] y x (suc q) e = absurd (cc)
-pushed_cases (z ∷ zs) y x zero e = inl e
-pushed_cases (z ∷ zs) y x (suc q) e =
-    ⊎_elim (λ f. inl f) (λ f. inr (ap suc f.0, f.1)) (pushed_cases zs y x q e)
 
 rising_more : (ws : List ℕ) (w : ℕ) → AreRising ws → ((v : ℕ) → Contains ws v → v < w) → AreRising (ws ++ w ∷ [])
 rising_more [] w r above = rises (λ v c. absurd (none_in v c)) ends

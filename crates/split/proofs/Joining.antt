@@ -21,6 +21,7 @@ use Rattle.split.specs.Reach.{AreReaching}
 use Rattle.split.specs.Writes.{all_of, members, AreWrites, after}
 use Rattle.split_rules.specs.declared.writes.Write.{Write}
 use Rattle.split.specs.declared.writes.Writes.{Writes}
+use Rattle.bs_words.proofs.Truths.{not_both}
 
 -- ---- one label in the place of another
 
@@ -114,9 +115,6 @@ module _ (members : List ℕ) (rows : List (List Bool)) (p : ℕ) where
     -- the last of those that have been gone over
     last_or : (v : ℕ) → Contains (take (k + 1) members) v → Contains (take k members) v ⊎ (w ≡ v)
     last_or v c = ⊎_elim (λ h. inl h) (λ e. inr (sym at ∙ e)) (member_more members k d v lt c)
-
-    not_both : (b : Bool) → b ≡ true → b ≡ false → ⊥
-    not_both b e h = cc
 
     pub joining_passed : (found : Option ℕ) → has (row rows p) w ≡ false → Joining old now members k rows p found →
         Joining old now members (k + 1) rows p found
@@ -631,11 +629,8 @@ module _ (m : Mach) (free : ℕ) (t : Writes) (rows : List (List Bool)) (writes 
         where
           by : (nat_eq p k ≡ true) ⊎ (nat_eq p k ≡ false) → (p < k) ⊎ (p ≡ k)
           by (inl e) = inr (eqb-true p k e)
-          by (inr e) = inl (smaller (λ s. differ (nat_eq p k) (eq-eqb p k s) e))
+          by (inr e) = inl (smaller (λ s. not_both (nat_eq p k) (eq-eqb p k s) e))
             where
-              differ : (b : Bool) → b ≡ true → b ≡ false → ⊥
-              differ b x y = cc
-
               smaller : (p ≡ k → ⊥) → p < k
               smaller h = omega (arith, le, h)
 

@@ -6,7 +6,6 @@ use Rattle.std.proofs.lemmas.Bool.{eq-eqb, eqb-true}
 use Rattle.std.specs.List.{Contains}
 use Rattle.std.specs.Prelude.{slice_get}
 use Rattle.bs_bits.specs.Set.{has}
-use Rattle.bs_words.specs.declared.types.Loc.{Loc}
 use Rattle.bs_words.specs.declared.types.Loc.TheVariants as loc
 use Rattle.bs_words.proofs.Lists.{none_in, first_in, later_in, in_cons}
 use Rattle.mach_ir.specs.Formed.{WellFormed}
@@ -23,6 +22,7 @@ use Rattle.split.specs.Names.{find_coming}
 use Rattle.split_rules.specs.declared.writes.Write.{Write}
 use Rattle.mach_ir.specs.Places.{is_open}
 use Rattle.mach_laws.proofs.Places.{is_unset}
+use Rattle.bs_words.proofs.Truths.{not_both}
 
 -- ---- lists
 
@@ -40,9 +40,6 @@ in_got (y ∷ ys) x c =
     ⊎_elim (λ e. (0, ap Some e)) (λ d. let w = in_got ys x d in (suc w.0, w.1)) (in_cons y x ys c)
 
 -- ---- which writes there are
-
-not_both : (b : Bool) → b ≡ true → b ≡ false → ⊥
-not_both b e h = cc
 
 pub in_open : (k : ℕ) (rs : List Reg) (r : Reg) → Contains rs r → r.loc ≡ loc.Unset → Contains (open_writes k rs) (write_of k r)
 in_open k [] r c e = absurd (none_in r c)

@@ -36,9 +36,7 @@ use Rattle.split.proofs.Grouping.{few_writes}
 use Rattle.split.proofs.Joining.{chain_turned, chain_on}
 use Rattle.split.proofs.Members.{some_is, got_in, in_got, in_open, in_writes, IsOpenWrite, open_write, fixed_no_write, found_at, finds_at, finds_first, first_low, first_least, one_first, at_entry, entry_at, left_within, found_coming, finds_coming}
 use Rattle.mach_ir.specs.Places.{is_open}
-
-differ : (b : Bool) → b ≡ true → b ≡ false → ⊥
-differ b e h = cc
+use Rattle.bs_words.proofs.Truths.{not_both}
 
 abbrev number_of : Option Write → ℕ
 number_of None = 0
@@ -106,7 +104,7 @@ module _ (m : Mach) (free : ℕ) (t : Tables) (formed : WellFormed m) (placed : 
 
       by : (b : Bool) → nat_lt n free ≡ b → cond b n (number_of (slice_get (all_of t.writes) (n - free))) ≡ n
       by true e = refl
-      by false e = absurd (differ (nat_lt n free) (below_is lt) e)
+      by false e = absurd (not_both (nat_lt n free) (below_is lt) e)
 
   back_new : (k : ℕ) (x : Write) → slice_get (all_of t.writes) k ≡ Some x → back_of (free + k) ≡ x.number
   back_new k x e =
@@ -262,7 +260,7 @@ module _ (m : Mach) (free : ℕ) (t : Tables) (formed : WellFormed m) (placed : 
       open_agree r.0 known (is_unset (r.0.loc) o) i next from s (subst (λ n. Among n i.args) (sym r.2) a)
       (subst (λ n. Comes m n from (i ∷ next)) (sym r.2) c))
       (λ o.
-      let fixed : r.0.loc ≢ loc.Unset = λ e. differ (is_open (r.0.loc)) (ap is_open e) o in
+      let fixed : r.0.loc ≢ loc.Unset = λ e. not_both (is_open (r.0.loc)) (ap is_open e) o in
       fixed_name r.0 known fixed _ (coming_known (length m.code - 1 - length next) (r.0.number))
       ∙ sym (fixed_name r.0 known fixed _ (at_known (length from) (r.0.number))))
       (cases_Bool (is_open (r.0.loc))))
@@ -390,7 +388,7 @@ module _ (m : Mach) (free : ℕ) (t : Tables) (formed : WellFormed m) (placed : 
           let low : u ≤ l = first_low u us l rising (subst (λ xs. Contains xs l) s c) in
           let i = has_index n u (subst (λ xs. Contains xs u) (sym s) (first_in u us)) in
           let high : l ≤ u = f.least i.0 u i.1 in
-          differ (is_first (ws n) l) (ap (λ xs. is_first xs l) s ∙ eq-eqb u l (omega (arith, low, high))) e
+          not_both (is_first (ws n) l) (ap (λ xs. is_first xs l) s ∙ eq-eqb u l (omega (arith, low, high))) e
 
   number_by_first : (n l : ℕ) → Contains (ws n) l → IsByFirst m free n l (the_number n l)
   number_by_first n l c =

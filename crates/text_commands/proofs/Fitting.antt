@@ -1,6 +1,6 @@
 -- What the test of an entry says of its function.
 use Rattle.std.proofs.lemmas.Bool.{false_from_ne_true}
-use Rattle.std.proofs.Common.{◌≡◌, ℕ, Bool, true, false, IsTrue, List, Option, Some, map, refl, sym, subst}
+use Rattle.std.proofs.Common.{◌≡◌, ℕ, Bool, true, false, IsTrue, List, Option, Some, map, sym, subst}
 use Rattle.bs_words.specs.declared.values.Value.TheVariants.{Word}
 use Rattle.cmm_data.specs.Placement.{data_end}
 use Rattle.cmm_eval.specs.Annotated.{FitsFunction, FitsEntry}

@@ -21,7 +21,7 @@ use Rattle.lin_ir.specs.Walks.{Stands, Traps, by_walk, unreached, Reached, LiveA
 use Rattle.lin_ir.specs.declared.lin.Line.{Line}
 use Rattle.lin_ir.specs.declared.lin.Lin.{Lin}
 use Rattle.linear_rules.specs.Kept as kept
-use Rattle.linear_rules.specs.Kept.{Comes, Follows, Begins, Does}
+use Rattle.linear_rules.specs.Kept.{Comes, Does}
 use Rattle.linear_rules.specs.Keeps.{NamesReached, NoAddrReached, OneTraps, KeepsReached}
 use Rattle.linear_rules.proofs.Lowering.{no_addr_live}
 use Rattle.linear_rules.proofs.Walked.{reached_stands}

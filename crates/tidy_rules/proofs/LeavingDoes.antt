@@ -22,7 +22,7 @@ use Rattle.lin_ir.specs.declared.lin.Line.{Line}
 use Rattle.lin_ir.specs.declared.lin.Lin.{Lin}
 use Rattle.lin_ir.specs.declared.lin.Spot.{Spot}
 use Rattle.linear_rules.specs.Kept as kept
-use Rattle.linear_rules.specs.Kept.{step, ValsHeld, Comes}
+use Rattle.linear_rules.specs.Kept.{step, ValsHeld}
 use Rattle.linear_rules.proofs.Homes.{in_of, contains_of}
 use Rattle.linear_rules.proofs.Walked.{Tail, tail_next, tail_stands, reached_tail, reached_stands}
 use Rattle.mach_ir.specs.declared.mach.MachOp.{MachOp}

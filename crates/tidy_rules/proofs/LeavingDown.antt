@@ -1,12 +1,12 @@
 -- Control still goes down where lines that have no use are left out: a place counts by the first line from it on that stays and is no label.
 use Rattle.std.proofs.Common.{◌≡◌, ℕ, suc, ◌<◌, ◌≤◌, Bool, true, false, cond, ◌||◌, nat_le, List, [], ◌∷◌, length, refl, sym, ap, ◌∙◌, subst, arith}
 use Rattle.std.proofs.lemmas.Bool.{true≢false, leb-true, le-leb}
-use Rattle.mach_ir.specs.Acts.{Target, On, At}
-use Rattle.mach_ir.specs.Walks.{OneOf, this, other}
+use Rattle.mach_ir.specs.Acts.{On, At}
+use Rattle.mach_ir.specs.Walks.{OneOf, this}
 use Rattle.lin_ir.specs.Formed.{IsSelfMove, is_self_move, is_exit, is_label, GoesDown}
 use Rattle.lin_ir.specs.Meaning.{after_label, code_at}
 use Rattle.lin_ir.specs.Walks as walks
-use Rattle.lin_ir.specs.Walks.{targets, may_raise, Stands, Reached, by_step, by_raise, Leads, Raises}
+use Rattle.lin_ir.specs.Walks.{targets, Stands, Reached, by_step, by_raise, Leads, Raises}
 use Rattle.lin_ir.specs.declared.lin.Flow.TheVariants as flow
 use Rattle.lin_ir.specs.declared.lin.LinOp.{LinOp}
 use Rattle.lin_ir.specs.declared.lin.LinOp.TheVariants as lin
@@ -14,7 +14,7 @@ use Rattle.lin_ir.specs.declared.lin.Line.{Line}
 use Rattle.lin_ir.specs.declared.lin.Lin.{Lin}
 use Rattle.linear_rules.proofs.Walked.{Tail, tail_all, tail_more, tail_next, tail_stands, tail_label, tail_target, reached_tail}
 use Rattle.tidy_rules.specs.Leaving.{is_landing, bare, LabelsBetween, none_between, label_between, IsUseless, unreached, unread, skipped}
-use Rattle.tidy_rules.proofs.Leaving.{self_goes, raise_landing, Comes, there, before, comes_tail, comes_line, K, rest, target_rest, handler_rest, source_line}
+use Rattle.tidy_rules.proofs.Leaving.{self_goes, raise_landing, Comes, there, before, comes_tail, K, rest, target_rest, handler_rest, source_line}
 
 -- a move is neither an exit nor a label
 self_no_exit : {i : Line} {from to : _} → IsSelfMove i from to → is_exit i.op ≡ false

@@ -1,5 +1,5 @@
 -- Control still goes down where jumps go at once where others lead, by the same order.
-use Rattle.std.proofs.Common.{◌≡◌, ℕ, suc, ◌<◌, ◌≤◌, Bool, true, false, Option, Some, None, List, [], ◌∷◌, length, refl, sym, ap, ◌∙◌, subst, arith}
+use Rattle.std.proofs.Common.{◌≡◌, ℕ, suc, ◌<◌, ◌≤◌, true, false, Option, Some, None, List, [], ◌∷◌, length, refl, sym, ap, ◌∙◌, subst, arith}
 use Rattle.std.proofs.lemmas.Bool.{true≢false}
 use Rattle.mach_ir.specs.Acts.{Target, On, At}
 use Rattle.mach_ir.specs.Walks.{OneOf, this, other}
@@ -13,7 +13,7 @@ use Rattle.lin_ir.specs.declared.lin.LinOp.TheVariants as lin
 use Rattle.lin_ir.specs.declared.lin.Line.{Line}
 use Rattle.lin_ir.specs.declared.lin.Lin.{Lin}
 use Rattle.tidy_rules.specs.Leaving.{bare}
-use Rattle.tidy_rules.specs.Redirecting.{goes_by, redirected, redirect, GoesOnTo, ExitsTo}
+use Rattle.tidy_rules.specs.Redirecting.{goes_by, redirected, GoesOnTo, ExitsTo}
 use Rattle.tidy_rules.proofs.Redirecting.{Quiet, is_there, by_label, by_jump, quiet_to, T, turned, target_turned, source_line, exit_was, same_raise, same_said}
 
 same_mark : (to : ℕ → ℕ) (exits : ℕ → Option ℕ) (f : LinOp) → is_label (redirected to exits f) ≡ is_label f

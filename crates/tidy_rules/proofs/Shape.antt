@@ -8,7 +8,7 @@ use Rattle.mach_ir.specs.Acts.{At}
 use Rattle.mach_ir.specs.Walks.{this}
 use Rattle.lin_ir.specs.Formed.{IsFormed, IsHome, is_colour, is_slot, is_home, IsLocation, Locates, spare, SpareIsPassing, label_of, labels_in, EntersAt, enters_here, enters_below, WellFormed}
 use Rattle.lin_ir.specs.Walks as walks
-use Rattle.lin_ir.specs.Walks.{Stands, here, below, Reached, by_step, Live, LiveAfter, after_step, Traps, by_walk, unreached, TrapsBalance, may_raise}
+use Rattle.lin_ir.specs.Walks.{Stands, Reached, by_step, LiveAfter, after_step, Traps, by_walk, unreached, TrapsBalance}
 use Rattle.lin_ir.specs.declared.lin.Flow.TheVariants as flow
 use Rattle.lin_ir.specs.declared.lin.LinOp.{LinOp}
 use Rattle.lin_ir.specs.declared.lin.LinOp.TheVariants as lin
@@ -24,7 +24,7 @@ use Rattle.tidy_rules.specs.Leaving as leaving
 use Rattle.tidy_rules.specs.Leaving.{is_landing, IsUseless, unread, LeavesOut}
 use Rattle.tidy_rules.specs.Regular.{AtHomes, IsRegular}
 use Rattle.tidy_rules.proofs.LeavingDown.{down_rest}
-use Rattle.tidy_rules.proofs.Leaving.{self_goes, useless_landing, raise_landing, Comes, there, comes_tail, comes_line, comes_same, K, rest, source, source_line, in_code}
+use Rattle.tidy_rules.proofs.Leaving.{self_goes, useless_landing, Comes, there, comes_tail, comes_line, comes_same, K, rest, source, source_line, in_code}
 
 -- ---- ends of a list
 

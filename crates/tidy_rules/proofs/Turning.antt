@@ -6,9 +6,9 @@ use Rattle.bs_words.specs.declared.types.Comp.{Comp}
 use Rattle.bs_words.specs.declared.types.Comp.TheVariants as comp
 use Rattle.bs_words.specs.declared.types.Loc.{Loc}
 use Rattle.bs_words.proofs.Lists.{none_in, head_same, tail_same, none_there}
-use Rattle.mach_ir.specs.Acts.{Target, On, At, drop_tries}
+use Rattle.mach_ir.specs.Acts.{Target, On, At}
 use Rattle.mach_ir.specs.Walks.{OneOf, this, other}
-use Rattle.lin_ir.specs.Formed.{label_of, labels_in, goes_to, pushes, is_exit, is_label, GoesDown, WellFormed}
+use Rattle.lin_ir.specs.Formed.{label_of, labels_in, goes_to, is_exit, is_label, GoesDown, WellFormed}
 use Rattle.lin_ir.specs.Meaning.{has_label, after_label, code_at, passes_frame}
 use Rattle.lin_ir.specs.Walks as walks
 use Rattle.lin_ir.specs.Walks.{targets, may_raise, tries_after, Writes, Reached, at_entry, by_step, by_raise, Live, read, on, aside, LiveAcross, across_step, across_raise}

@@ -4,7 +4,6 @@ use Rattle.mach_ir.specs.Placed.{Colouring}
 use Rattle.mach_ir.specs.declared.graph.Node.{Node}
 use Rattle.colouring.specs.Chosen.{fixed, IsOrder}
 use Rattle.colouring.specs.Tables.{AreRanked, places_by, ranked_nodes}
-use Rattle.colouring.specs.declared.order.Ranked.{Ranked}
 use Rattle.colouring.proofs.Urgent.{is_order}
 use Rattle.colouring.proofs.order.order.Goals as goal
 

@@ -1,7 +1,8 @@
 use Rattle.std.proofs.Common.{◌∙◌, ◌+◌, ℕ, Vec, Global, sym, ap, subst, arith}
-use Rattle.sink.proofs.Living.{Found, found_end, found_taken, found_passed, found_all, not_both}
+use Rattle.sink.proofs.Living.{Found, found_end, found_taken, found_passed, found_all}
 use Rattle.sink.proofs.graphs.living.Goals as goal
 use Rattle.sink.proofs.graphs.living.Goals.{then-not-is_among+in_ok-push-in-Some, else-not-is_among}
+use Rattle.bs_words.proofs.Truths.{not_both}
 
 pub loop-from-preserved-in-None : goal.loop-from-preserved-in-None
 loop-from-preserved-in-None c =

@@ -1,8 +1,9 @@
 use Rattle.std.proofs.Common.{◌≡◌, ◌∙◌, ◌+◌, ℕ, Vec, Global, sym, ap, subst, arith}
 use Rattle.spill.specs.Graphs.{AreLivingOver}
-use Rattle.spill.proofs.Making.{over_taken, over_passed, not_both}
+use Rattle.spill.proofs.Making.{over_taken, over_passed}
 use Rattle.spill.proofs.lost.living_over.Goals as goal
 use Rattle.spill.proofs.lost.living_over.Goals.{then-lives_over+in_ok-push, else-lives_over}
+use Rattle.bs_words.proofs.Truths.{not_both}
 
 pub loop-number-preserved : goal.loop-number-preserved
 loop-number-preserved c =

@@ -1,4 +1,4 @@
-use Rattle.std.proofs.Common.{◌≡◌, ◌<◌, ◌++◌, length, map, get_or, sym, ap, ap₂, ◌∙◌, subst, arith}
+use Rattle.std.proofs.Common.{◌≡◌, ◌<◌, ◌++◌, length, map, get_or, sym, ap, ap₂, ◌∙◌, arith}
 use Rattle.assemble.specs.Places.{forms_in}
 use Rattle.assemble.specs.Source.{tree_of, entries_of}
 use Rattle.assemble.proofs.Steps.{read_at, same_at, form_at}
