@@ -1,7 +1,8 @@
--- Forms that hold lists: what they stand for, and that their parts hold their types.
-use Rattle.std.proofs.Common.{◌≡◌, ℕ, Bool, List, option_map, sym, ap, ◌∙◌, subst, Vec, Box, Global}
+-- Forms: what they stand for, and that their parts hold their types.
+use Rattle.std.proofs.Common.{◌≡◌, ℕ, Bool, false, List, ◌∷◌, option_map, refl, sym, ap, ◌∙◌, subst, Vec, Box, Global}
 use mathlib.Core.Former.{Count}
 use Rattle.bs_words.specs.declared.types.Ret.{Ret}
+use Rattle.bs_words.specs.declared.types.Ty.TheVariants as ty
 use Rattle.cmm_tree.specs.Tree.{Expression, NoBinding}
 use Rattle.cmm_tree.specs.Tree as tree
 use Rattle.cmm_tree.specs.View.{expr_view, form_view, declared_view, label_view}
@@ -122,6 +123,18 @@ let-shape ns at v b bs body e q = record {
       );
 }
 
+pub if-shape : (ns : List Scoped) (at : ℕ) (b b' b'' : Box Expr Global) (condition on_true on_false : Expr)
+    → condition ≡ b.value
+    → on_true ≡ b'.value
+    → on_false ≡ b''.value
+    → Shape ns at (form.If b b' b'') (tree.If at (expr_view condition) (expr_view on_true) (expr_view on_false)) (IsAnnotated ns condition × IsAnnotated ns on_true × IsAnnotated ns on_false)
+if-shape ns at b b' b'' condition on_true on_false q q' q'' = record {
+  view =
+      let view : form_view at (form.If b b' b'') ≡ tree.If at (expr_view b.value) (expr_view b'.value) (expr_view b''.value) = refl in
+      cc;
+  parts = λ t. (is-typed ns b.value condition q t.0, is-typed ns b'.value on_true q' t.1, is-typed ns b''.value on_false q'' t.2);
+}
+
 pub switch-shape : (ns : List Scoped) (at size_at size : ℕ) (b : Box Expr Global) (v : Vec Case Global) (selector : Expr) (cs : List Case)
     → selector ≡ b.value
     → cs ≡ v.items
@@ -148,4 +161,15 @@ catch-shape ns at b v body hs q e = record {
   parts = λ t.
       let P : List Handler → Type 0 = λ l. AreHandlersAnnotated ns l in
       (is-typed ns b.value body q t.0, subst P (form.items_hidden-the_row-Handler-3 v ∙ sym e) (typed_handlers ns (handlers_in (form.Catch b v)).0 (handlers_in (form.Catch b v)).1 t.1));
+}
+
+pub try-shape : (ns : List Scoped) (at name_at : ℕ) (name : List ℕ) (b b' : Box Expr Global) (body handler : Expr)
+    → body ≡ b.value
+    → handler ≡ b'.value
+    → Shape ns at (form.Try b name_at name b') (tree.Try at (expr_view body) name_at name (expr_view handler)) (IsAnnotated ns body × IsAnnotated (record { name = name; type = ty.Val; mutable = false } ∷ ns) handler)
+try-shape ns at name_at name b b' body handler q q' = record {
+  view =
+      let view : form_view at (form.Try b name_at name b') ≡ tree.Try at (expr_view b.value) name_at name (expr_view b'.value) = refl in
+      cc;
+  parts = λ t. (is-typed ns b.value body q t.0, is-typed (record { name = name; type = ty.Val; mutable = false } ∷ ns) b'.value handler q' t.1);
 }

@@ -323,33 +323,30 @@ impl<'a> Cells<'a> {
         Ok(cell)
     }
 
-    /// A choice of two.
+    /// One of the two is evaluated.
     fn branches(
         &mut self,
         scope: usize,
         slot: usize,
-        at: u32,
-        condition: &'a Expr,
         on_true: &'a Expr,
         on_false: &'a Expr,
         rest: usize,
     ) -> Result<usize, AllocError>
         requires { slot ≤ length (cells self.old) }
-        ensures { IfOk result (λ cell. (s : List Slotted) → IsReady (cells self.old) rest →
-            IsScope (cells self.old) scope s → IsAnnotated (names s) condition.now →
-            IsAnnotated (names s) on_true.now → IsAnnotated (names s) on_false.now →
-            Adds (cells self.old) (cells self.new) cell (on_one s slot at
-            (expr_view condition.now) ++ (OneOf s slot
-            (expr_view on_true.now ∷ expr_view on_false.now ∷ []) ∷ [])) rest) }
+        ensures adds { IfOk result (λ cell. (s : List Slotted) → IsReady (cells self.old) rest →
+            IsScope (cells self.old) scope s → IsAnnotated (names s) on_true.now →
+            IsAnnotated (names s) on_false.now →
+            Adds (cells self.old) (cells self.new) cell (OneOf s slot
+            (expr_view on_true.now ∷ expr_view on_false.now ∷ []) ∷ []) rest) }
+        ensures more { IfOk result (λ _. length (cells self.new) ≡ suc (length (cells self.old))) }
     {
-        let either = self.push(Item::Either {
+        let cell = self.push(Item::Either {
             scope,
             slot,
             on_true,
             on_false,
             rest,
         })?;
-        let cell = self.on_one(scope, slot, at, condition, either)?;
         Ok(cell)
     }
 
@@ -495,12 +492,11 @@ impl<'a> Cells<'a> {
         Ok(cell)
     }
 
-    /// A body, and what handles a raise out of it.
-    fn try_body(
+    /// After the body of a try, what handles a raise out of it.
+    fn after_try_body(
         &mut self,
         scope: usize,
         slot: usize,
-        body: &'a Expr,
         name_at: u32,
         name: &'a Name,
         handler: &'a Expr,
@@ -508,18 +504,16 @@ impl<'a> Cells<'a> {
     ) -> Result<usize, AllocError>
         requires { slot ≤ length (cells self.old) }
         ensures { IfOk result (λ cell. (s : List Slotted) → IsReady (cells self.old) rest →
-            IsScope (cells self.old) scope s → IsAnnotated (names s) body.now →
-            IsAnnotated (record {
+            IsScope (cells self.old) scope s → IsAnnotated (record {
               name = name.now;
               type = ty.Val;
               mutable = false;
             } ∷ names s) handler.now →
-            Adds (cells self.old) (cells self.new) cell (Evaluates s slot
-            (expr_view body.now) ∷ Handles s slot name_at name.now
+            Adds (cells self.old) (cells self.new) cell (Handles s slot name_at name.now
             (expr_view handler.now) ∷ []) rest) }
     {
         let entry = self.handling(scope, slot, name_at, name, handler, rest)?;
-        let behind_body = self.push(Item::Handles {
+        let cell = self.push(Item::Handles {
             scope,
             slot,
             name_at,
@@ -528,7 +522,6 @@ impl<'a> Cells<'a> {
             entry,
             rest,
         })?;
-        let cell = self.eval(scope, slot, body, behind_body)?;
         Ok(cell)
     }
 
@@ -602,7 +595,8 @@ impl<'a> Cells<'a> {
             Form::Raise(value) => self.raise_value(scope, slot, at, value, rest),
             Form::Seq(elements) => self.in_order(scope, slot, elements.as_slice(), rest),
             Form::If(condition, on_true, on_false) => {
-                self.branches(scope, slot, at, condition, on_true, on_false, rest)
+                let either = self.branches(scope, slot, on_true, on_false, rest)?;
+                self.on_one(scope, slot, at, condition, either)
             }
             Form::Switch {
                 selector,
@@ -622,7 +616,10 @@ impl<'a> Cells<'a> {
                 name_at,
                 name,
                 handler,
-            } => self.try_body(scope, slot, body, *name_at, name, handler, rest),
+            } => {
+                let behind_body = self.after_try_body(scope, slot, *name_at, name, handler, rest)?;
+                self.eval(scope, slot, body, behind_body)
+            }
         }
     }
 }

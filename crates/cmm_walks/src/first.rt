@@ -1,5 +1,5 @@
 //! The first address that is live at a frame point.
-ghost use Rattle.std.specs.Prelude.{◌≡◌, ◌<◌, ◌≤◌, ◌↔◌, ℕ, suc, length, true, Contains, IfOk, MatchOption, IsTrue};
+ghost use Rattle.std.specs.Prelude.{◌≡◌, ◌<◌, ◌↔◌, ℕ, suc, length, true, Contains, IfOk, MatchOption, IsTrue};
 ghost use Rattle.std.specs.List.{All, list_any};
 ghost use Rattle.cmm_walks.specs.Groups.{AreBefore, AreMentions};
 ghost use Rattle.cmm_walks.specs.Labels.{unlabelled, IsUnlabelled};
@@ -52,28 +52,13 @@ fn slot_of(step: Step) -> usize
     }
 }
 
-fn larger(one: u32, other: u32) -> u32
-    ensures first { one ≤ result }
-    ensures second { other ≤ result }
-{
-    if one < other { other } else { one }
-}
-
-fn larger_slot(one: usize, other: usize) -> usize
-    ensures first { one ≤ result }
-    ensures second { other ≤ result }
-{
-    if one < other { other } else { one }
-}
-
 /// A slot that no node's passes.
 fn greatest_slot(nodes: &[Node]) -> usize
     ensures { All (λ n. slot_below (suc result) n.step) nodes.now }
 {
-    let mut greatest = 0;
+    let mut greatest: usize = 0;
     for node in nodes {
-        let here = slot_of(node.step);
-        greatest = larger_slot(greatest, here);
+        greatest = greatest.max(slot_of(node.step));
     }
     greatest
 }
@@ -98,10 +83,9 @@ fn place_of(step: Step) -> u32
 fn greatest_place(nodes: &[Node]) -> u32
     ensures { All (λ n. place_within result n.step) nodes.now }
 {
-    let mut greatest = 0;
+    let mut greatest: u32 = 0;
     for node in nodes {
-        let here = place_of(node.step);
-        greatest = larger(greatest, here);
+        greatest = greatest.max(place_of(node.step));
     }
     greatest
 }
