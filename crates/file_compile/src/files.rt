@@ -3,7 +3,6 @@ ghost use Rattle.std.specs.Prelude.{◌≡◌, ◌<◌, ◌≤◌, All, length, 
 ghost use Rattle.std.specs.List.{AllZip};
 ghost use Rattle.bs_fault.specs.declared.large.Large.{Large};
 ghost use Rattle.bs_words.specs.Contents.{contents};
-ghost use Rattle.cmm_front.specs.FileOf.{HasPlace};
 ghost use Rattle.cmm_tree.specs.Tree.{functions, functions_among};
 ghost use Rattle.cmm_tree.specs.View.{file_view, function_view, item_view};
 ghost use Rattle.cmm_types.specs.Typing.{AreItemsAnnotated, IsFunctionAnnotated};
@@ -125,7 +124,6 @@ pub fn compile<R: Threads + Sync, G: Gate + Sync>(
 ) -> Result<Image, BuildError>
     requires some_jobs { 1 ≤ jobs }
     requires few_jobs { jobs ≤ 64 }
-    requires placed { HasPlace (file_view checked.now) }
     requires accepted { IsAcceptedFile (file_view checked.now) }
     ensures made { IfOk result (λ image.
         IsMadeFor (file_view checked.now) (tables image)) }
@@ -185,7 +183,6 @@ pub fn stage<R: Threads + Sync>(
     checked: &Checked,
     stage: Stage,
 ) -> Result<List<u8>, BuildError>
-    requires placed { HasPlace (file_view checked.now) }
     requires accepted { IsAcceptedFile (file_view checked.now) }
     ensures text { IfOk result (λ text.
         IsStageText (file_view checked.now) stage (contents text)) }

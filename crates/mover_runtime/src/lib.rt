@@ -9,6 +9,7 @@ pub mod schedule;
 pub mod serving;
 pub mod text;
 
+pub use alloc_service::ServiceEnd;
 pub use outcome::RunEnd;
 pub use run::run_image;
 pub use schedule::Schedule;

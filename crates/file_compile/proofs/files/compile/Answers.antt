@@ -4,6 +4,8 @@ use Rattle.bs_words.specs.Contents.{contents}
 use Rattle.cmm_tree.specs.View.{file_view}
 use Rattle.cmm_tree.specs.declared.file.File.{File}
 use Rattle.cmm_tree.specs.Tree.{functions}
+use Rattle.cmm_front.specs.FileOf.{HasPlace}
+use Rattle.cmm_front.proofs.Readings.{is_placed}
 use Rattle.file_promise.proofs.Made.{can_be_laid, few_functions}
 use Rattle.layout_rules.specs.Conditions.{CanBeLaid}
 use Rattle.file_compile.proofs.Making.{all_accepted, all_listed, all_made, few_listed}
@@ -25,6 +27,13 @@ all_pieces-requires-clause-few g c = λ lifetimes outlive.
     c.as_slice.ensures ∙ ap (λ (f : File). contents f.items) (c.file-file.ensures.same ∙ c.typed.ensures) in
     few_listed (2 ^ 32) file c.as_slice.result.now c.in_ok-functions.functions.items c.as_slice-2.result.now whole c.as_slice-2.ensures.value c.in_ok-functions.ensures.trees
     (few_functions accepted.text (file_view file) accepted.is_file)
+
+pub place_data-requires-clause-data : goal.place_data-requires-clause-data
+place_data-requires-clause-data g c =
+    let accepted = c.requires.accepted in
+    let file = c.args.checked.now in
+    subst (λ (f : File). HasPlace (file_view f)) (sym (c.file-file.ensures.same ∙ c.typed.ensures))
+    (is_placed accepted.text (file_view file) (accepted.is_file).read)
 
 pub place_data-requires-clause-few : goal.place_data-requires-clause-few
 place_data-requires-clause-few g c =
