@@ -3,10 +3,10 @@
 //! A row has the words of a `check`, a bar, and a Cmm text: `f --args=1 | (function "f" (x:int) x)`. The frames and
 //! addresses of functions are made by hand here, so that no compiler has a part in what is shown. The lines are those of a
 //! second evaluator, written from the rules alone.
-use anyhow::Result;
+use anyhow::{Result, bail};
 use cmm_eval::Layout;
 use cmm_front::front;
-use command_line::{Command, read_words};
+use command_line::{CheckWords, Command, read_words};
 use std::alloc::{AllocError, Global};
 use text_commands::{CallRefusal, call_of, told_of_run};
 
@@ -24,6 +24,22 @@ fn layout(alloc: Global) -> Result<Layout, AllocError> {
     Ok(Layout { frames, addresses })
 }
 
+/// The check that these words ask for.
+fn check_of(alloc: Global, words: &str) -> Result<CheckWords> {
+    let mut all = Vec::new(alloc);
+    all.push(String::from_str(alloc, "check")?)?;
+    for word in words.split(' ') {
+        all.push(String::from_str(alloc, word)?)?;
+    }
+    match read_words(alloc, all.as_slice()) {
+        Ok(Command::Check(check)) => Ok(check),
+        Ok(Command::Compile { .. } | Command::Run(_) | Command::List(_) | Command::Soak { .. }) => {
+            bail!("no check: {words}")
+        }
+        Err(_) => bail!("no words of a check: {words}"),
+    }
+}
+
 /// What is reported of a row.
 pub(crate) fn said_to(alloc: Global, row: &str) -> Result<Vec<u8>> {
     let layout = layout(alloc)?;
@@ -33,20 +49,12 @@ pub(crate) fn said_to(alloc: Global, row: &str) -> Result<Vec<u8>> {
 /// What is reported of a row.
 fn told(alloc: Global, layout: &Layout, row: &str) -> Result<Vec<u8>> {
     let Some((words, text)) = row.split_once(" | ") else {
-        return Ok(b"no bar\n".to_vec(alloc)?);
+        bail!("no bar: {row}");
     };
-    let mut all = Vec::new(alloc);
-    all.push(String::from_str(alloc, "check")?)?;
-    for word in words.split(' ') {
-        all.push(String::from_str(alloc, word)?)?;
-    }
-    let check = match read_words(alloc, all.as_slice()) {
-        Ok(Command::Check(check)) => check,
-        _ => return Ok(b"no words\n".to_vec(alloc)?),
-    };
+    let check = check_of(alloc, words)?;
     let checked = match front(alloc, text.as_bytes()) {
         Ok(checked) => checked,
-        Err(_) => return Ok(b"a fault\n".to_vec(alloc)?),
+        Err(_) => bail!("the text has a fault: {text}"),
     };
     let file = checked.typed().file();
     match call_of(alloc, file, &check) {
@@ -56,6 +64,6 @@ fn told(alloc: Global, layout: &Layout, row: &str) -> Result<Vec<u8>> {
         }
         Err(CallRefusal::UnknownEntry) => Ok(b"U3 UnknownEntry\n".to_vec(alloc)?),
         Err(CallRefusal::ArgumentUnfit) => Ok(b"U4 ArgumentUnfit\n".to_vec(alloc)?),
-        Err(CallRefusal::OutOfMemory) => Ok(b"no memory\n".to_vec(alloc)?),
+        Err(CallRefusal::OutOfMemory) => bail!("out of memory"),
     }
 }

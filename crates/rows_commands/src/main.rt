@@ -24,7 +24,7 @@ fn main(rt: HostRuntime) -> Result<()> {
         let line = line?;
         match line.as_str().strip_prefix("= ") {
             Some(name) => {
-                subject = Subject::of(name);
+                subject = Subject::of(name)?;
                 table = Table::new(&rt, &top, alloc);
             }
             None => {

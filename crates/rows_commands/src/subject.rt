@@ -1,6 +1,6 @@
 //! What the tables are about.
 use crate::evaluated;
-use anyhow::Result;
+use anyhow::{Result, bail};
 use rows_answers::{devices, faults, limits, listings};
 use rows_compiled::{compiled, generated, jobs, plans};
 use rows_lines::{Table, Top};
@@ -48,29 +48,27 @@ pub(crate) enum Subject {
     Shared,
     /// Runs of texts of the whole language, under frames and addresses that a hand made (`evaluated`, here).
     Evaluated,
-    /// No table has this name.
-    Unknown,
 }
 
 impl Subject {
     /// The subject with this name.
-    pub(crate) fn of(name: &str) -> Subject {
+    pub(crate) fn of(name: &str) -> Result<Subject> {
         match name {
-            "commands" => Subject::Commands,
-            "checks" => Subject::Checks,
-            "faults" => Subject::Faults,
-            "devices" => Subject::Devices,
-            "limits" => Subject::Limits,
-            "listings" => Subject::Listings,
-            "plans" => Subject::Plans,
-            "compiled" => Subject::Compiled,
-            "operators" => Subject::Operators,
-            "images" => Subject::Images,
-            "generated" => Subject::Generated,
-            "held" => Subject::Held,
-            "shared" => Subject::Shared,
-            "evaluated" => Subject::Evaluated,
-            _ => Subject::Unknown,
+            "commands" => Ok(Subject::Commands),
+            "checks" => Ok(Subject::Checks),
+            "faults" => Ok(Subject::Faults),
+            "devices" => Ok(Subject::Devices),
+            "limits" => Ok(Subject::Limits),
+            "listings" => Ok(Subject::Listings),
+            "plans" => Ok(Subject::Plans),
+            "compiled" => Ok(Subject::Compiled),
+            "operators" => Ok(Subject::Operators),
+            "images" => Ok(Subject::Images),
+            "generated" => Ok(Subject::Generated),
+            "held" => Ok(Subject::Held),
+            "shared" => Ok(Subject::Shared),
+            "evaluated" => Ok(Subject::Evaluated),
+            _ => bail!("no table: {name}"),
         }
     }
 
@@ -94,7 +92,6 @@ impl Subject {
             Subject::Held => Ok(jobs::held(table, row)?),
             Subject::Shared => Ok(jobs::shared(table, row)?),
             Subject::Evaluated => evaluated::said_to(table.alloc(), row),
-            Subject::Unknown => Ok(b"no table\n".to_vec(table.alloc())?),
         }
     }
 }

@@ -4,7 +4,7 @@ ghost use Rattle.layout_rules.specs.Conditions.{LeadsTo};
 ghost use Rattle.rv_isa.specs.Encoding.{InstrFits};
 ghost use Rattle.rv_pieces.specs.Named.{PieceFits};
 
-use anyhow::Result;
+use anyhow::{Result, bail, ensure};
 use bs_words::Name;
 use layout_rules::Form;
 use mach_ir::Label;
@@ -33,28 +33,29 @@ fn bytes(words: u64) -> u32 {
 }
 
 /// The address of a label, after an entry.
-fn address(places: &[(u32, u64)], entry: u32, label: Label) -> u32 {
+fn address(places: &[(u32, u64)], entry: u32, label: Label) -> Result<u32> {
     for (other, at) in places {
         if *other == label.0 {
-            return entry.wrapping_add(bytes(*at));
+            return Ok(entry.wrapping_add(bytes(*at)));
         }
     }
-    0
+    bail!("no label: {}", label.0)
 }
 
 /// The number that a name is in decimal digits.
-fn number(name: &Name) -> u32 {
+fn number(name: &Name) -> Result<u32> {
     let mut number: u32 = 0;
     for digit in name.as_bytes() {
+        ensure!(digit.is_ascii_digit(), "some name is no number");
         number = number
             .wrapping_mul(10)
             .wrapping_add(u32::from(*digit).wrapping_sub(48));
     }
-    number
+    Ok(number)
 }
 
 /// What the name of a piece stands for.
-fn target(places: &[(u32, u64)], entry: u32, piece: &Piece) -> u32 {
+fn target(places: &[(u32, u64)], entry: u32, piece: &Piece) -> Result<u32> {
     match piece {
         Piece::Branch {
             condition: _,
@@ -69,9 +70,7 @@ fn target(places: &[(u32, u64)], entry: u32, piece: &Piece) -> u32 {
         Piece::TailCall(name) => number(name),
         Piece::SymbolAddress { to: _, name } => number(name),
         Piece::ExternalNumber { to: _, row } => number(&row.name),
-        Piece::Known(_) => 0,
-        Piece::Label(_) => 0,
-        Piece::Descriptor(_) => 0,
+        Piece::Known(_) | Piece::Label(_) | Piece::Descriptor(_) => Ok(0),
     }
 }
 
@@ -180,7 +179,7 @@ fn words(
     let mut words = Vec::new(alloc);
     let mut at: u64 = 0;
     for (piece, form) in code.iter().zip(forms) {
-        let to = target(places, entry, piece);
+        let to = target(places, entry, piece)?;
         let place = u64::from(entry) + u64::from(bytes(at));
         put_words_at(&mut words, piece, *form, place, to)?;
         at = at.wrapping_add(words_of(piece, *form));
@@ -196,7 +195,7 @@ pub(crate) fn put_code<W: Write>(
     entry: u32,
 ) -> Result<()> {
     if code.len() >= 1 << 32 {
-        return Ok(());
+        bail!("too many pieces");
     }
     let forms = forms_of(alloc, code)?;
     let places = places(alloc, code, forms.as_slice())?;
@@ -212,9 +211,11 @@ pub(crate) fn put_code<W: Write>(
 /// Whether a line tells of it.
 fn is_told(piece: &Piece) -> bool {
     match piece {
-        Piece::Known(_) => false,
-        Piece::Label(_) => false,
-        _ => true,
+        Piece::Known(_) | Piece::Label(_) => false,
+        Piece::Branch { .. } | Piece::Jump(_) | Piece::Row(_) => true,
+        Piece::LabelAddress { .. } | Piece::SymbolAddress { .. } => true,
+        Piece::Call(_) | Piece::TailCall(_) => true,
+        Piece::ExternalNumber { .. } | Piece::Descriptor(_) => true,
     }
 }
 
@@ -244,14 +245,14 @@ pub(crate) fn put_forms<W: Write>(
     entry: u32,
 ) -> Result<()> {
     if code.len() >= 1 << 32 {
-        return Ok(());
+        bail!("too many pieces");
     }
     let forms = forms_of(alloc, code)?;
     let places = places(alloc, code, forms.as_slice())?;
     let mut at: u64 = 0;
     for (piece, form) in code.iter().zip(forms.as_slice()) {
         if is_told(piece) {
-            let to = target(places.as_slice(), entry, piece);
+            let to = target(places.as_slice(), entry, piece)?;
             let place = u64::from(entry) + u64::from(bytes(at));
             let mut words = Vec::new(alloc);
             put_words_at(&mut words, piece, *form, place, to)?;

@@ -1,12 +1,13 @@
 //! In which forms the pieces of functions made by hand stand, at which words, and what their words are.
 //!
-//! A row is a piece: a label, a jump, the number of an external call or an address, as `label 1` or `address a0 1`; a
+//! A row is a piece: a label, a jump, a row of a table of jumps or a label's address, as `label 1` or `address a0 1`; a
 //! condition, two registers and a label, as `beq a0 a1 1`; `call 65536`, `tail 65536` and `symbol a0 65536`, which lead to
 //! this address; or `fill 1022`, so many instructions. `end 65536` lays them out as a function whose entry has this address.
+//! Any other row is an error.
 //!
 //! Shown is a line for each piece but labels and fillings: its place, in words, its form and its words. The lines were made
 //! by a script that knows the rules alone: what 13 and 21 bits reach, and the manual's formats.
-use anyhow::Result;
+use anyhow::{Result, bail};
 use bs_words::Name;
 use mach_ir::Label;
 use rv_isa::{AluImmOp, Condition, Instr, Register};
@@ -42,11 +43,12 @@ fn put_one(alloc: Global, pieces: &mut Vec<Piece>, name: &str, operand: &str) ->
         "row" => pieces.push(Piece::Row(Label(number)))?,
         "call" => pieces.push(Piece::Call(digits(alloc, operand)?))?,
         "tail" => pieces.push(Piece::TailCall(digits(alloc, operand)?))?,
-        _ => {
+        "fill" => {
             for _ in 0..number {
                 pieces.push(Piece::Known(FILLING))?;
             }
         }
+        _ => bail!("no piece with one operand: {name}"),
     }
     Ok(())
 }
@@ -59,28 +61,33 @@ fn put_two(
     first: &str,
     second: &str,
 ) -> Result<()> {
-    let to = register(first);
+    let to = register(first)?;
     match second.split_once(' ') {
-        Some((right, label)) => {
-            let branch = Piece::Branch {
-                condition: condition(name),
-                left: to,
-                right: register(right),
-                label: Label(label.parse::<u32>()?),
-            };
-            pieces.push(branch)?;
-        }
-        None => {
-            if name == "address" {
-                let label = Label(second.parse::<u32>()?);
-                pieces.push(Piece::LabelAddress { to, label })?;
-            } else {
-                let name = digits(alloc, second)?;
-                pieces.push(Piece::SymbolAddress { to, name })?;
-            }
-        }
+        Some((right, label)) => pieces.push(Piece::Branch {
+            condition: condition(name)?,
+            left: to,
+            right: register(right)?,
+            label: Label(label.parse::<u32>()?),
+        })?,
+        None => pieces.push(address(alloc, to, name, second)?)?,
     }
     Ok(())
+}
+
+/// The address of a label, or of a symbol.
+fn address(alloc: Global, to: Register, name: &str, target: &str) -> Result<Piece> {
+    let number = target.parse::<u32>()?;
+    match name {
+        "address" => {
+            let label = Label(number);
+            Ok(Piece::LabelAddress { to, label })
+        }
+        "symbol" => {
+            let name = digits(alloc, target)?;
+            Ok(Piece::SymbolAddress { to, name })
+        }
+        _ => bail!("no piece with a register and a number: {name}"),
+    }
 }
 
 /// The name that an address is in decimal digits.
@@ -88,25 +95,27 @@ fn digits(alloc: Global, address: &str) -> Result<Name> {
     Ok(Name::from_vec(address.as_bytes().to_vec(alloc)?))
 }
 
-fn condition(name: &str) -> Condition {
+fn condition(name: &str) -> Result<Condition> {
     match name {
-        "beq" => Condition::Beq,
-        "bne" => Condition::Bne,
-        "blt" => Condition::Blt,
-        "bge" => Condition::Bge,
-        "bltu" => Condition::Bltu,
-        _ => Condition::Bgeu,
+        "beq" => Ok(Condition::Beq),
+        "bne" => Ok(Condition::Bne),
+        "blt" => Ok(Condition::Blt),
+        "bge" => Ok(Condition::Bge),
+        "bltu" => Ok(Condition::Bltu),
+        "bgeu" => Ok(Condition::Bgeu),
+        _ => bail!("no condition: {name}"),
     }
 }
 
-fn register(name: &str) -> Register {
+fn register(name: &str) -> Result<Register> {
     match name {
-        "a0" => Register::A0,
-        "a1" => Register::A1,
-        "s9" => Register::S9,
-        "t1" => Register::T1,
-        "t2" => Register::T2,
-        "t6" => Register::T6,
-        _ => Register::Zero,
+        "zero" => Ok(Register::Zero),
+        "a0" => Ok(Register::A0),
+        "a1" => Ok(Register::A1),
+        "s9" => Ok(Register::S9),
+        "t1" => Ok(Register::T1),
+        "t2" => Ok(Register::T2),
+        "t6" => Ok(Register::T6),
+        _ => bail!("no register: {name}"),
     }
 }

@@ -2,7 +2,8 @@
 
 use bs_words::{Loc, Value};
 use lin_ir::{Flow, Lin, LinOp, Line, Spot};
-use rows_worlds::{End, Next, World, destroys, is_frame_point};
+use mach_ir::Label;
+use rows_worlds::{End, Holding, Next, World, destroys, is_frame_point};
 use std::alloc::{AllocError, Global};
 
 /// What locations hold: one that is not among them is poison, or has not been written.
@@ -43,7 +44,7 @@ impl Locations {
     fn poison(&mut self, named: &[Loc]) -> Result<(), AllocError> {
         let mut held = Vec::new(self.alloc);
         for (place, value) in self.held.as_slice() {
-            if named.contains(place) || !matches!(value, Value::Block { .. }) {
+            if named.contains(place) || !is_pointer(*value) {
                 held.push((*place, *value))?;
             }
         }
@@ -64,28 +65,63 @@ impl Locations {
     }
 }
 
+/// Whether a value points into a block.
+fn is_pointer(value: Value) -> bool {
+    match value {
+        Value::Block { .. } => true,
+        Value::Word(_) | Value::Function(_) => false,
+    }
+}
+
+/// Whether it is the entry of a handler.
+fn enters_handler(flow: &Flow) -> bool {
+    match flow {
+        Flow::EnterTrap => true,
+        Flow::Label(_) | Flow::Jump(_) | Flow::Exit(_) => false,
+        Flow::Branch { .. } | Flow::Switch(_) => false,
+        Flow::PushTrap(_) | Flow::PopTrap => false,
+    }
+}
+
 /// Whether an operation destroys this place, or the entry of a handler does.
 fn destroys_at(op: &LinOp, loc: Loc) -> bool {
-    let Loc::Machine(register) = loc else {
-        return false;
-    };
+    match loc {
+        Loc::Machine(register) => match op {
+            LinOp::Op(op) => destroys(op, register),
+            LinOp::Flow(flow) => enters_handler(flow),
+        },
+        Loc::Unset | Loc::Slot(_) => false,
+    }
+}
+
+/// The label whose place this is.
+fn label_of(op: &LinOp) -> Option<Label> {
     match op {
-        LinOp::Op(op) => destroys(op, register),
-        LinOp::Flow(Flow::EnterTrap) => true,
-        LinOp::Flow(_) => false,
+        LinOp::Flow(Flow::Label(label)) => Some(*label),
+        LinOp::Flow(Flow::Jump(_) | Flow::Exit(_)) => None,
+        LinOp::Flow(Flow::Branch { .. } | Flow::Switch(_)) => None,
+        LinOp::Flow(Flow::PushTrap(_) | Flow::PopTrap | Flow::EnterTrap) => None,
+        LinOp::Op(_) => None,
     }
 }
 
 /// The place after a label; the end of the code where there is none.
 fn behind_label(code: &[Line], wanted: u32) -> usize {
     for (place, line) in code.iter().enumerate() {
-        if let LinOp::Flow(Flow::Label(label)) = &line.op {
-            if label.0 == wanted {
-                return place.wrapping_add(1);
-            }
+        match label_of(&line.op) {
+            Some(label) if label.0 == wanted => return place.wrapping_add(1),
+            Some(_) | None => {}
         }
     }
     code.len()
+}
+
+/// Whether a line is a frame point that is no tail call.
+fn is_frame_line(line: &Line) -> bool {
+    match &line.op {
+        LinOp::Op(op) => is_frame_point(op),
+        LinOp::Flow(_) => false,
+    }
 }
 
 /// A function with its world, its locations, and what the descriptors name.
@@ -136,7 +172,7 @@ impl<'a, 'b> Machine<'a, 'b> {
         for spot in spots {
             match self.locations.get(spot.loc) {
                 Some(value) if self.world.fits(spot.comp, value) => values.push(value)?,
-                _ => return Ok(None),
+                Some(_) | None => return Ok(None),
             }
         }
         Ok(Some(values))
@@ -146,10 +182,8 @@ impl<'a, 'b> Machine<'a, 'b> {
     fn named_here(&self) -> &'b [Loc] {
         let mut before: usize = 0;
         for (place, line) in self.function.code.as_slice().iter().enumerate() {
-            if let LinOp::Op(op) = &line.op {
-                if is_frame_point(op) && place < self.place {
-                    before = before.wrapping_add(1);
-                }
+            if place < self.place && is_frame_line(line) {
+                before = before.wrapping_add(1);
             }
         }
         match self.named.get(before) {
@@ -163,7 +197,7 @@ impl<'a, 'b> Machine<'a, 'b> {
         for loc in named {
             match self.locations.get(*loc) {
                 Some(value) if self.world.is_val(value) => {}
-                _ => return false,
+                Some(_) | None => return false,
             }
         }
         true
@@ -183,9 +217,9 @@ impl<'a, 'b> Machine<'a, 'b> {
                 Ok(Next::To(label.0))
             }
             Flow::Branch { test, label } => match self.world.holds(*test, args) {
-                Some(true) => Ok(Next::To(label.0)),
-                Some(false) => Ok(Next::On),
-                None => Ok(Next::Over(End::Stuck)),
+                Holding::Holds => Ok(Next::To(label.0)),
+                Holding::Fails => Ok(Next::On),
+                Holding::Stuck => Ok(Next::Over(End::Stuck)),
             },
             Flow::Switch(labels) => Ok(self.world.case(labels.as_slice(), args)),
             Flow::PushTrap(label) => {

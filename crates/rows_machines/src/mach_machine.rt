@@ -2,8 +2,11 @@
 
 use bs_words::{Comp, Loc, Value};
 use mach_ir::{Calling, Instr, Label, Leaving, Mach, MachOp, Mark, Op, Reg};
-use rows_worlds::{Doing, End, Next, World, destroys, is_frame_point};
+use rows_worlds::{End, Holding, Next, World, destroys, is_frame_point};
 use std::alloc::{AllocError, Global};
+
+/// The number of registers; a number from here on is none.
+const REGISTERS: u32 = 64;
 
 /// What a register holds, and the component that it was written with.
 #[derive(Clone, Copy)]
@@ -21,7 +24,7 @@ struct Registers {
 impl Registers {
     fn new(alloc: Global) -> Result<Self, AllocError> {
         let mut held = Vec::new(alloc);
-        for _ in 0..64 {
+        for _ in 0..REGISTERS {
             held.push(None)?;
         }
         Ok(Registers { held })
@@ -52,7 +55,7 @@ impl Registers {
     }
 
     fn lose_addresses(&mut self) {
-        for number in 0..64 {
+        for number in 0..REGISTERS {
             if let Some(held) = self.get(number) {
                 if held.comp == Comp::Addr {
                     self.set(number, None);
@@ -64,21 +67,47 @@ impl Registers {
 
 // ---- places
 
-fn has_label(op: &MachOp, wanted: u32) -> bool {
+/// The label behind which control goes on, if a mark has one.
+fn label_of(mark: &Mark) -> Option<Label> {
+    match mark {
+        Mark::Else { label, end: _ } => Some(*label),
+        Mark::Case { label, .. } => Some(*label),
+        Mark::With { label, end: _ } => Some(*label),
+        Mark::End { label } => Some(*label),
+        Mark::Exit { .. } | Mark::If { .. } | Mark::Switch(_) | Mark::Catch => None,
+        Mark::Try { .. } | Mark::Leave { .. } | Mark::Handler { .. } => None,
+    }
+}
+
+/// The label of the handler whose entry a mark is.
+fn handler_of(mark: &Mark) -> Option<Label> {
+    match mark {
+        Mark::Handler { label } => Some(*label),
+        Mark::Exit { .. } | Mark::If { .. } | Mark::Else { .. } => None,
+        Mark::Switch(_) | Mark::Case { .. } => None,
+        Mark::Catch | Mark::With { .. } => None,
+        Mark::Try { .. } | Mark::Leave { .. } | Mark::End { .. } => None,
+    }
+}
+
+/// Whether there is a label, with this number.
+fn is_label(label: Option<Label>, wanted: u32) -> bool {
+    match label {
+        Some(label) => label.0 == wanted,
+        None => false,
+    }
+}
+
+fn is_labelled(op: &MachOp, wanted: u32) -> bool {
     match op {
-        MachOp::Mark(Mark::Else { label, end: _ }) => label.0 == wanted,
-        MachOp::Mark(Mark::Case { label, .. }) => label.0 == wanted,
-        MachOp::Mark(Mark::With { label, end: _ }) => label.0 == wanted,
-        MachOp::Mark(Mark::End { label }) => label.0 == wanted,
-        MachOp::Mark(_) => false,
+        MachOp::Mark(mark) => is_label(label_of(mark), wanted),
         MachOp::Op(_) => false,
     }
 }
 
 fn is_handler(op: &MachOp, wanted: u32) -> bool {
     match op {
-        MachOp::Mark(Mark::Handler { label }) => label.0 == wanted,
-        MachOp::Mark(_) => false,
+        MachOp::Mark(mark) => is_label(handler_of(mark), wanted),
         MachOp::Op(_) => false,
     }
 }
@@ -86,7 +115,7 @@ fn is_handler(op: &MachOp, wanted: u32) -> bool {
 /// The place after the mark that has a label; the end of the code where there is none.
 fn behind_label(code: &[Instr], label: u32) -> usize {
     for (place, instr) in code.iter().enumerate() {
-        if has_label(&instr.op, label) {
+        if is_labelled(&instr.op, label) {
             return place.wrapping_add(1);
         }
     }
@@ -105,6 +134,21 @@ fn handler_place(code: &[Instr], label: u32) -> usize {
 
 // ---- what is live
 
+/// Keeps the handlers of the tries that are open behind a mark.
+fn passes_mark(open: &mut Vec<u32>, mark: &Mark) -> Result<(), AllocError> {
+    match mark {
+        Mark::Try { handler } => open.push(handler.0)?,
+        Mark::Leave { .. } => {
+            open.pop();
+        }
+        Mark::Exit { .. } | Mark::If { .. } | Mark::Else { .. } => {}
+        Mark::Switch(_) | Mark::Case { .. } => {}
+        Mark::Catch | Mark::With { .. } => {}
+        Mark::Handler { .. } | Mark::End { .. } => {}
+    }
+    Ok(())
+}
+
 /// The handlers of the innermost tries, place by place, by the text.
 fn handlers_of(alloc: Global, code: &[Instr]) -> Result<Vec<Option<u32>>, AllocError> {
     let mut open: Vec<u32> = Vec::new(alloc);
@@ -112,11 +156,8 @@ fn handlers_of(alloc: Global, code: &[Instr]) -> Result<Vec<Option<u32>>, AllocE
     for instr in code {
         handlers.push(open.as_slice().last().copied())?;
         match &instr.op {
-            MachOp::Mark(Mark::Try { handler }) => open.push(handler.0)?,
-            MachOp::Mark(Mark::Leave { .. }) => {
-                open.pop();
-            }
-            _ => {}
+            MachOp::Mark(mark) => passes_mark(&mut open, mark)?,
+            MachOp::Op(_) => {}
         }
     }
     Ok(handlers)
@@ -125,21 +166,23 @@ fn handlers_of(alloc: Global, code: &[Instr]) -> Result<Vec<Option<u32>>, AllocE
 fn goes_on(op: &Op) -> bool {
     match op {
         Op::Calling(Calling::TailCall { .. }) => false,
-        Op::Calling(_) => true,
+        Op::Calling(Calling::Call { .. } | Calling::External { .. }) => true,
         Op::Leaving(Leaving::Checkbound(_)) => true,
-        Op::Leaving(_) => false,
-        Op::Pure(_) => true,
-        Op::Access(_) => true,
+        Op::Leaving(Leaving::Raise | Leaving::Return) => false,
+        Op::Pure(_) | Op::Access(_) => true,
     }
 }
 
+/// Whether it may raise to a handler of the function.
 fn may_raise(op: &MachOp) -> bool {
     match op {
         MachOp::Op(Op::Calling(Calling::Call { .. })) => true,
+        MachOp::Op(Op::Calling(Calling::TailCall { .. })) => false,
         MachOp::Op(Op::Calling(Calling::External { row: _, frame })) => *frame,
-        MachOp::Op(Op::Leaving(Leaving::Checkbound(_))) => true,
-        MachOp::Op(Op::Leaving(Leaving::Raise)) => true,
-        _ => false,
+        MachOp::Op(Op::Leaving(Leaving::Checkbound(_) | Leaving::Raise)) => true,
+        MachOp::Op(Op::Leaving(Leaving::Return)) => false,
+        MachOp::Op(Op::Pure(_) | Op::Access(_)) => false,
+        MachOp::Mark(_) => false,
     }
 }
 
@@ -163,13 +206,12 @@ fn stands_at(regs: &[Reg], loc: Loc) -> bool {
 
 /// Whether an operation destroys this place, or the entry of a handler does.
 fn destroys_at(op: &MachOp, loc: Loc) -> bool {
-    let Loc::Machine(register) = loc else {
-        return false;
-    };
-    match op {
-        MachOp::Op(op) => destroys(op, register),
-        MachOp::Mark(Mark::Handler { .. }) => true,
-        MachOp::Mark(_) => false,
+    match loc {
+        Loc::Machine(register) => match op {
+            MachOp::Op(op) => destroys(op, register),
+            MachOp::Mark(mark) => handler_of(mark).is_some(),
+        },
+        Loc::Unset | Loc::Slot(_) => false,
     }
 }
 
@@ -373,12 +415,11 @@ impl<'a, 'b> Machine<'a, 'b> {
     }
 
     fn differ(&self, one: Reg, other: Reg) -> bool {
-        match (
-            self.registers.get(one.number),
-            self.registers.get(other.number),
-        ) {
+        let one = self.registers.get(one.number);
+        let other = self.registers.get(other.number);
+        match (one, other) {
             (Some(one), Some(other)) => one.value != other.value,
-            _ => false,
+            (None, _) | (_, None) => false,
         }
     }
 
@@ -409,9 +450,9 @@ impl<'a, 'b> Machine<'a, 'b> {
                 Ok(Next::To(label.0))
             }
             Mark::If { test, otherwise } => match self.world.holds(*test, args) {
-                Some(true) => Ok(Next::On),
-                Some(false) => Ok(Next::To(otherwise.0)),
-                None => stuck,
+                Holding::Holds => Ok(Next::On),
+                Holding::Fails => Ok(Next::To(otherwise.0)),
+                Holding::Stuck => stuck,
             },
             Mark::Switch(labels) => Ok(self.world.case(labels.as_slice(), args)),
             Mark::Else { label: _, end } => Ok(Next::To(end.0)),

@@ -9,32 +9,26 @@
 
 mod runs;
 
-use anyhow::Result;
+use anyhow::{Result, bail};
 use runs::Rows;
-use std::io::{self, BufRead, BufReader, BufWriter, Write};
+use std::io::{self, BufRead, BufReader, Write};
 
 fn main(rt: HostRuntime) -> Result<()> {
     let alloc = rt.alloc();
     let mut lines = BufReader::new(alloc, rt.stdin())?.lines(alloc);
-    let mut out = BufWriter::new(alloc, rt.stdout())?;
     let Some(text) = lines.next() else {
-        return Ok(());
+        bail!("no text");
     };
     let text = text?;
     let checked = match cmm_front::front(alloc, text.as_str().as_bytes()) {
         Ok(checked) => checked,
-        Err(_) => {
-            out.write_all(b"a fault\n")?;
-            out.flush()?;
-            return Ok(());
-        }
+        Err(_) => bail!("the text has a fault"),
     };
     let mut rows = Rows::new(alloc, checked.typed().file());
     for line in lines {
         let line = line?;
         rows.take(line.as_str())?;
     }
-    out.write_all(rows.said())?;
-    out.flush()?;
+    rt.stdout().write_all(rows.said())?;
     Ok(())
 }

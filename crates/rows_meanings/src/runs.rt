@@ -1,6 +1,6 @@
 //! The rows: functions that are put together line by line, and their runs.
 
-use anyhow::Result;
+use anyhow::{Result, bail};
 use bs_words::{Comp, Loc, Name, Ret, Value};
 use cmm_tree::File;
 use lin_ir::{Lin, Line};
@@ -36,14 +36,22 @@ pub(crate) struct Rows<'a> {
     said: String,
 }
 
-fn doing(text: &str) -> Option<Doing> {
+/// The value that a word is.
+fn value_of(word: &str) -> Result<Value> {
+    match value(word) {
+        Some(value) => Ok(value),
+        None => bail!("no value: {word}"),
+    }
+}
+
+fn doing(text: &str) -> Result<Doing> {
     if text == "gives" {
-        return Some(Doing::Gives(None));
+        return Ok(Doing::Gives(None));
     }
     match text.split_once(" ") {
-        Some(("gives", word)) => value(word).map(|value| Doing::Gives(Some(value))),
-        Some(("raises", word)) => value(word).map(Doing::Raises),
-        _ => None,
+        Some(("gives", word)) => Ok(Doing::Gives(Some(value_of(word)?))),
+        Some(("raises", word)) => Ok(Doing::Raises(value_of(word)?)),
+        _ => bail!("no doing of a call: {text}"),
     }
 }
 
@@ -129,24 +137,29 @@ impl Function {
         Ok(())
     }
 
-    fn add_instr(&mut self, alloc: Global, text: &str) -> Result<bool> {
-        match apart(alloc, text)?.instr()? {
-            Some(instr) => {
-                self.instrs.push(instr)?;
-                Ok(true)
-            }
-            None => Ok(false),
+    /// Adds an instruction of the function, or a line of a Linear one.
+    fn add(&mut self, alloc: Global, text: &str) -> Result<()> {
+        if self.is_mach {
+            self.add_instr(alloc, text)
+        } else {
+            self.add_line(alloc, text)
         }
     }
 
-    fn add_line(&mut self, alloc: Global, text: &str) -> Result<bool> {
-        match apart(alloc, text)?.line()? {
-            Some(line) => {
-                self.lines.push(line)?;
-                Ok(true)
-            }
-            None => Ok(false),
+    fn add_instr(&mut self, alloc: Global, text: &str) -> Result<()> {
+        match apart(alloc, text)?.instr()? {
+            Some(instr) => self.instrs.push(instr)?,
+            None => bail!("no instruction: {text}"),
         }
+        Ok(())
+    }
+
+    fn add_line(&mut self, alloc: Global, text: &str) -> Result<()> {
+        match apart(alloc, text)?.line()? {
+            Some(line) => self.lines.push(line)?,
+            None => bail!("no instruction: {text}"),
+        }
+        Ok(())
     }
 
     fn called(&self, alloc: Global) -> Result<Name> {
@@ -207,28 +220,20 @@ fn put_outcome(world: &World, end: End, said: &mut String) -> Result<()> {
     Ok(())
 }
 
-/// The arguments of a run, before the first bar.
+/// The arguments of a run.
 fn arguments(alloc: Global, text: &str) -> Result<Vec<Value>> {
-    let words = match text.split_once("|") {
-        Some((words, _)) => words,
-        None => text,
-    };
     let mut args = Vec::new(alloc);
-    for word in words_of(alloc, words)? {
-        if let Some(value) = value(word) {
-            args.push(value)?;
-        }
+    for word in words_of(alloc, text)? {
+        args.push(value_of(word)?)?;
     }
     Ok(args)
 }
 
-/// What calls do, each after a bar.
+/// What calls do, with bars between.
 fn doings(alloc: Global, text: &str) -> Result<Vec<Doing>> {
     let mut doings = Vec::new(alloc);
     for part in text.split('|') {
-        if let Some(doing) = doing(part.trim()) {
-            doings.push(doing)?;
-        }
+        doings.push(doing(part.trim())?)?;
     }
     Ok(doings)
 }
@@ -252,31 +257,21 @@ impl<'a> Rows<'a> {
         Ok(())
     }
 
-    /// An instruction of the function that is read; what is none is said.
-    fn instruction(&mut self, text: &str) -> Result<()> {
-        let is_one = if self.function.is_mach {
-            self.function.add_instr(self.alloc, text)?
-        } else {
-            self.function.add_line(self.alloc, text)?
-        };
-        if !is_one {
-            write!(self.said, "no instruction: {text}\n")?;
-        }
-        Ok(())
-    }
-
-    /// A run: arguments, and what calls do.
+    /// A run: arguments, and after a bar what calls do.
     fn run(&mut self, text: &str) -> Result<()> {
-        let args = arguments(self.alloc, text)?;
+        let (args, doings) = match text.split_once("|") {
+            Some((args, calls)) => (args, doings(self.alloc, calls)?),
+            None => (text, Vec::new(self.alloc)),
+        };
+        let args = arguments(self.alloc, args)?;
         write!(self.said, "{}", self.function.name)?;
         for arg in args.as_slice() {
             put_value(&mut self.said, *arg)?;
         }
         self.said.push_str(":")?;
-        let doings = doings(self.alloc, text)?;
         match World::of(self.alloc, self.file, doings)? {
             Some(world) => self.function.run(world, args.as_slice(), &mut self.said),
-            None => Ok(()),
+            None => bail!("the text has a fault in its data, or too many items"),
         }
     }
 
@@ -291,7 +286,7 @@ impl<'a> Rows<'a> {
             _ if line.is_empty() => Ok(()),
             _ if line == "run" => self.run(""),
             _ if line == "names" => self.function.add_names(self.alloc, ""),
-            _ => self.instruction(line),
+            _ => self.function.add(self.alloc, line),
         }
     }
 }

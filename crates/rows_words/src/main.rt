@@ -9,7 +9,7 @@
 
 mod sets;
 
-use anyhow::Result;
+use anyhow::{Result, bail};
 use bs_words::{add, div, mul, mulh, rem, sar, sext, shl, shr, signed, sub};
 use sets::told_of_sets;
 use std::alloc::Global;
@@ -30,10 +30,10 @@ fn main(rt: HostRuntime) -> Result<()> {
     Ok(())
 }
 
-/// What an operation gives, or `no row` where it is none or has no value on these operands.
+/// What an operation gives, or `no row` where it has no value on these operands.
 fn told_of_words(alloc: Global, line: &str) -> Result<String> {
     let Some((operation, operands)) = line.split_once(' ') else {
-        return Ok(String::from_str(alloc, "no row\n")?);
+        bail!("no operands: {line}");
     };
     let (left, right) = match operands.split_once(' ') {
         Some((left, right)) => (left.parse::<u64>()?, right.parse::<u64>()?),
@@ -43,24 +43,26 @@ fn told_of_words(alloc: Global, line: &str) -> Result<String> {
         let value = signed(left);
         return Ok(format!(in alloc; "{value}\n")?);
     }
-    match given(operation, left, right) {
+    match given(operation, left, right)? {
         Some(word) => Ok(format!(in alloc; "{word}\n")?),
         None => Ok(String::from_str(alloc, "no row\n")?),
     }
 }
 
-fn given(operation: &str, a: u64, b: u64) -> Option<u64> {
+/// What an operation gives, if it has a value on these operands. The error is a word that is no operation.
+fn given(operation: &str, a: u64, b: u64) -> Result<Option<u64>> {
     match operation {
-        "add" => Some(add(a, b)),
-        "sub" => Some(sub(a, b)),
-        "mul" => Some(mul(a, b)),
-        "mulh" => Some(mulh(a, b)),
-        "div" if b != 0 => Some(div(a, b)),
-        "rem" if b != 0 => Some(rem(a, b)),
-        "shl" if b < 64 => Some(shl(a, b as u32)),
-        "shr" if b < 64 => Some(shr(a, b as u32)),
-        "sar" if b < 64 => Some(sar(a, b as u32)),
-        "sext" if 0 < b && b <= 64 => Some(sext(a, b as u32)),
-        _ => None,
+        "add" => Ok(Some(add(a, b))),
+        "sub" => Ok(Some(sub(a, b))),
+        "mul" => Ok(Some(mul(a, b))),
+        "mulh" => Ok(Some(mulh(a, b))),
+        "div" if b != 0 => Ok(Some(div(a, b))),
+        "rem" if b != 0 => Ok(Some(rem(a, b))),
+        "shl" if b < 64 => Ok(Some(shl(a, b as u32))),
+        "shr" if b < 64 => Ok(Some(shr(a, b as u32))),
+        "sar" if b < 64 => Ok(Some(sar(a, b as u32))),
+        "sext" if 0 < b && b <= 64 => Ok(Some(sext(a, b as u32))),
+        "div" | "rem" | "shl" | "shr" | "sar" | "sext" => Ok(None),
+        _ => bail!("no operation: {operation}"),
     }
 }

@@ -1,5 +1,5 @@
 //! Lines about sets of bits.
-use anyhow::Result;
+use anyhow::{Result, bail};
 use bs_bits::Bits;
 use std::alloc::Global;
 
@@ -8,7 +8,7 @@ pub fn told_of_sets(alloc: Global, line: &str) -> Result<String> {
     let mut words = line.split(' ');
     let size = match words.next() {
         Some(word) => word.parse::<u32>()?,
-        None => 0,
+        None => bail!("no size: {line}"),
     };
     let mut a = Bits::new(alloc, size)?;
     let mut b = Bits::new(alloc, size)?;
@@ -53,6 +53,8 @@ fn done(alloc: Global, a: &mut Bits, b: &mut Bits, word: &str) -> Result<String>
             Some(k) => Ok(format!(in alloc; " {k}")?),
             None => Ok(String::from_str(alloc, " none")?),
         };
+    } else {
+        bail!("no word about sets: {word}");
     }
     Ok(String::new(alloc))
 }

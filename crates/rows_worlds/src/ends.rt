@@ -19,6 +19,35 @@ pub enum End {
     Runs,
 }
 
+/// Whether a test holds of its operands.
+#[derive(Clone, Copy)]
+pub enum Holding {
+    Holds,
+    Fails,
+    /// The test is improper on these operands.
+    Stuck,
+}
+
+impl Holding {
+    /// What a proper test comes to.
+    pub(crate) fn of(holds: bool) -> Holding {
+        if holds {
+            Holding::Holds
+        } else {
+            Holding::Fails
+        }
+    }
+
+    /// What the opposite test comes to.
+    pub(crate) fn opposite(self) -> Holding {
+        match self {
+            Holding::Holds => Holding::Fails,
+            Holding::Fails => Holding::Holds,
+            Holding::Stuck => Holding::Stuck,
+        }
+    }
+}
+
 /// Where control goes after an operation.
 #[derive(Clone, Copy)]
 pub enum Next {

@@ -7,5 +7,5 @@
 mod ends;
 mod world;
 
-pub use ends::{Asked, Call, Doing, End, Next};
+pub use ends::{Asked, Call, Doing, End, Holding, Next};
 pub use world::{World, destroys, is_frame_point};

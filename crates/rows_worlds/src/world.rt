@@ -4,7 +4,7 @@ ghost use Rattle.cmm_data.specs.Faults.{data_fault_of};
 ghost use Rattle.cmm_tree.specs.Tree.{functions};
 ghost use Rattle.cmm_tree.specs.View.{file_view};
 
-use crate::ends::{Asked, Call, Doing, End, Next};
+use crate::ends::{Asked, Call, Doing, End, Holding, Next};
 use bs_words::{Chunk, Comp, DATA_START, IntOp, Name, Ret, Ty, Value};
 use cmm_data::{SymbolTable, data_fault};
 use cmm_tree::{File, Item, Param};
@@ -123,26 +123,46 @@ impl<'a> World<'a> {
         Ok(())
     }
 
+    /// The part of a block at an address, if that part has not been written.
+    fn unwritten_at(&self, address: Value) -> Option<Part> {
+        let part = part_at(address)?;
+        if self.is_unwritten(part) {
+            Some(part)
+        } else {
+            None
+        }
+    }
+
     fn load(&self, chunk: Chunk, address: Value) -> Option<Value> {
-        match part_at(address) {
-            Some(part) if self.is_unwritten(part) => None,
-            _ => self.memory.load(chunk, address).ok(),
+        match self.unwritten_at(address) {
+            Some(_) => None,
+            None => self.memory.load(chunk, address).ok(),
         }
     }
 
     /// Whether it is stored.
     fn store(&mut self, chunk: Chunk, address: Value, value: Value) -> Result<bool, AllocError> {
-        let Some(part) = part_at(address) else {
-            return Ok(self.memory.store(chunk, address, value).is_ok());
-        };
-        if !self.is_unwritten(part) {
-            return Ok(self.memory.store(chunk, address, value).is_ok());
+        match self.unwritten_at(address) {
+            Some(part) => self.store_first(part, chunk, address, value),
+            None => Ok(self.memory.store(chunk, address, value).is_ok()),
         }
+    }
+
+    /// Whether the first store to a part is done: a part is written whole.
+    fn store_first(
+        &mut self,
+        part: Part,
+        chunk: Chunk,
+        address: Value,
+        value: Value,
+    ) -> Result<bool, AllocError> {
+        let is_header = part.word == 0;
         let is_stored = match chunk {
-            Chunk::Int if part.word == 0 => self.is_header(part, address, value),
+            Chunk::Int if is_header => self.fits_header(part.serial, address, value),
             Chunk::Int => self.memory.store(chunk, address, value).is_ok(),
-            Chunk::Val if part.word != 0 => self.memory.store(chunk, address, value).is_ok(),
-            _ => false,
+            Chunk::Val if is_header => false,
+            Chunk::Val => self.memory.store(chunk, address, value).is_ok(),
+            Chunk::U8 | Chunk::I8 | Chunk::U16 | Chunk::I16 | Chunk::U32 | Chunk::I32 => false,
         };
         if is_stored {
             self.write(part)?;
@@ -151,15 +171,11 @@ impl<'a> World<'a> {
     }
 
     /// Whether a header is written with the word that its allocation says.
-    fn is_header(&self, part: Part, address: Value, value: Value) -> bool {
-        let Value::Block { serial: _, offset } = address else {
-            return false;
-        };
-        let header = match self.headers.get(part.serial as usize) {
-            Some(header) => Value::Word(*header),
-            None => return false,
-        };
-        offset % 8 == 0 && value == header
+    fn fits_header(&self, serial: u64, address: Value, value: Value) -> bool {
+        match self.headers.get(serial as usize) {
+            Some(header) => is_aligned(address) && value == Value::Word(*header),
+            None => false,
+        }
     }
 
     /// The pointer to a new block, none of which is written.
@@ -202,26 +218,34 @@ impl<'a> World<'a> {
         args: &[Value],
         results: &mut Vec<Value>,
     ) -> Result<Next, AllocError> {
-        match (access, args) {
-            (Access::Load { chunk, offset }, [address]) => {
-                let loaded = self.load(*chunk, moved(*address, *offset));
-                one(loaded, results)
-            }
-            (Access::Store { chunk, offset }, [address, value]) => {
-                if self.store(*chunk, moved(*address, *offset), *value)? {
-                    Ok(Next::On)
-                } else {
-                    Ok(STUCK)
-                }
-            }
-            (Access::Alloc(blocks), []) => self.new_blocks(blocks, results),
-            _ => Ok(STUCK),
+        match access {
+            Access::Load { chunk, offset } => match args {
+                [address] => one(self.load(*chunk, moved(*address, *offset)), results),
+                [] | [_, _, ..] => Ok(STUCK),
+            },
+            Access::Store { chunk, offset } => match args {
+                [address, value] => self.stores(*chunk, moved(*address, *offset), *value),
+                [] | [_] | [_, _, _, ..] => Ok(STUCK),
+            },
+            Access::Alloc(blocks) => match args {
+                [] => self.new_blocks(blocks, results),
+                [_, ..] => Ok(STUCK),
+            },
+        }
+    }
+
+    fn stores(&mut self, chunk: Chunk, address: Value, value: Value) -> Result<Next, AllocError> {
+        if self.store(chunk, address, value)? {
+            Ok(Next::On)
+        } else {
+            Ok(STUCK)
         }
     }
 
     // ---- registers alone
 
-    fn apply(&self, op: IntOp, left: Value, right: Value) -> Option<Value> {
+    fn apply(&self, op: IntOp, right: Right, args: &[Value]) -> Option<Value> {
+        let (left, right) = operands(right, args)?;
         apply(op, &self.memory, left, right).ok()
     }
 
@@ -231,57 +255,55 @@ impl<'a> World<'a> {
         args: &[Value],
         results: &mut Vec<Value>,
     ) -> Result<Next, AllocError> {
-        let result = match (pure, args) {
-            (Pure::Copy(_), [value]) => Some(*value),
-            (Pure::Constant(word), []) => Some(Value::Word(*word)),
-            (Pure::Symbol(name), []) => self.symbols.value_of(name.as_bytes()),
-            (Pure::Operator(op, Right::Register), [left, right]) => self.apply(*op, *left, *right),
-            (Pure::Operator(op, Right::Constant(word)), [left]) => {
-                self.apply(*op, *left, Value::Word(*word))
-            }
-            _ => None,
+        let result = match pure {
+            Pure::Copy(_) => only(args),
+            Pure::Constant(word) => match args {
+                [] => Some(Value::Word(*word)),
+                [_, ..] => None,
+            },
+            Pure::Symbol(name) => match args {
+                [] => self.symbols.value_of(name.as_bytes()),
+                [_, ..] => None,
+            },
+            Pure::Operator(op, right) => self.apply(*op, *right, args),
         };
         one(result, results)
     }
 
-    /// Whether a test holds, or nothing where that is improper.
-    pub fn holds(&self, test: Test, args: &[Value]) -> Option<bool> {
-        match (test, args) {
-            (Test::Holds, [value]) => condition_of(&self.memory, *value).ok(),
-            (Test::Fails, [value]) => match condition_of(&self.memory, *value) {
-                Ok(holds) => Some(!holds),
-                Err(_) => None,
-            },
-            (Test::Signed(compare, Right::Register), [left, right]) => {
-                self.is_one(self.apply(IntOp::Cmp(compare), *left, *right))
-            }
-            (Test::Signed(compare, Right::Constant(word)), [left]) => {
-                self.is_one(self.apply(IntOp::Cmp(compare), *left, Value::Word(word)))
-            }
-            (Test::Unsigned(compare, Right::Register), [left, right]) => {
-                self.is_one(self.apply(IntOp::CmpU(compare), *left, *right))
-            }
-            (Test::Unsigned(compare, Right::Constant(word)), [left]) => {
-                self.is_one(self.apply(IntOp::CmpU(compare), *left, Value::Word(word)))
-            }
-            _ => None,
+    /// Whether a test holds of its operands.
+    pub fn holds(&self, test: Test, args: &[Value]) -> Holding {
+        match test {
+            Test::Holds => self.condition(args),
+            Test::Fails => self.condition(args).opposite(),
+            Test::Signed(compare, right) => self.comparison(IntOp::Cmp(compare), right, args),
+            Test::Unsigned(compare, right) => self.comparison(IntOp::CmpU(compare), right, args),
         }
     }
 
-    fn is_one(&self, value: Option<Value>) -> Option<bool> {
-        value.map(|value| value == Value::Word(1))
+    /// Whether the one operand holds as a condition.
+    fn condition(&self, args: &[Value]) -> Holding {
+        let Some(value) = only(args) else {
+            return Holding::Stuck;
+        };
+        match condition_of(&self.memory, value) {
+            Ok(holds) => Holding::of(holds),
+            Err(_) => Holding::Stuck,
+        }
+    }
+
+    /// Whether a comparison, whose value is 1 or 0, holds of its operands.
+    fn comparison(&self, compare: IntOp, right: Right, args: &[Value]) -> Holding {
+        match self.apply(compare, right, args) {
+            Some(value) => Holding::of(value == Value::Word(1)),
+            None => Holding::Stuck,
+        }
     }
 
     /// The label of the case of an index.
     pub fn case(&self, labels: &[Label], args: &[Value]) -> Next {
-        match args {
-            [Value::Word(index)] if *index < labels.len() as u64 => {
-                match labels.get(*index as usize) {
-                    Some(label) => Next::To(label.0),
-                    None => STUCK,
-                }
-            }
-            _ => STUCK,
+        match label_at(labels, args) {
+            Some(label) => Next::To(label.0),
+            None => STUCK,
         }
     }
 
@@ -308,27 +330,39 @@ impl<'a> World<'a> {
     }
 
     fn checks(&mut self, bound: Value, index: Value) -> Next {
-        match (bound, index) {
-            (Value::Word(bound), Value::Word(index)) if index < bound => Next::On,
-            (Value::Word(_), Value::Word(_)) => self.raises(Value::Word(DATA_START)),
-            _ => STUCK,
+        let (Some(bound), Some(index)) = (word_in(bound), word_in(index)) else {
+            return STUCK;
+        };
+        if index < bound {
+            Next::On
+        } else {
+            self.raises(Value::Word(DATA_START))
+        }
+    }
+
+    /// The function ends with a value, or none.
+    fn returns(&self, args: &[Value]) -> Next {
+        if !self.is_whole() {
+            return STUCK;
+        }
+        match args {
+            [] => Next::Over(End::Does(Doing::Gives(None))),
+            [value] => Next::Over(End::Does(Doing::Gives(Some(*value)))),
+            [_, _, ..] => STUCK,
         }
     }
 
     fn leaving(&mut self, leaving: Leaving, args: &[Value]) -> Next {
-        match (leaving, args) {
-            (Leaving::Checkbound(Right::Register), [bound, index]) => self.checks(*bound, *index),
-            (Leaving::Checkbound(Right::Constant(index)), [bound]) => {
-                self.checks(*bound, Value::Word(index))
-            }
-            (Leaving::Raise, [value]) => self.raises(*value),
-            (Leaving::Return, []) if self.is_whole() => {
-                Next::Over(End::Does(Doing::Gives(None)))
-            }
-            (Leaving::Return, [value]) if self.is_whole() => {
-                Next::Over(End::Does(Doing::Gives(Some(*value))))
-            }
-            _ => STUCK,
+        match leaving {
+            Leaving::Checkbound(right) => match operands(right, args) {
+                Some((bound, index)) => self.checks(bound, index),
+                None => STUCK,
+            },
+            Leaving::Raise => match only(args) {
+                Some(value) => self.raises(value),
+                None => STUCK,
+            },
+            Leaving::Return => self.returns(args),
         }
     }
 
@@ -337,11 +371,14 @@ impl<'a> World<'a> {
     fn parameters_fit(&self, number: u32, args: &[Value]) -> bool {
         let mut functions = 0;
         for item in self.file.items.as_slice() {
-            if let Item::Function(function) = item {
-                if functions == number {
-                    return self.all_fit(function.params.as_slice(), args);
+            match item {
+                Item::Function(function) => {
+                    if functions == number {
+                        return self.all_fit(function.params.as_slice(), args);
+                    }
+                    functions = functions.wrapping_add(1);
                 }
-                functions = functions.wrapping_add(1);
+                Item::Data(_) => {}
             }
         }
         false
@@ -388,11 +425,11 @@ impl<'a> World<'a> {
                 (*value, args)
             }
         };
-        match value {
-            Value::Function(number) if self.parameters_fit(number, args) && self.is_whole() => {
-                Some((number, args))
-            }
-            _ => None,
+        let number = function_in(value)?;
+        if self.parameters_fit(number, args) && self.is_whole() {
+            Some((number, args))
+        } else {
+            None
         }
     }
 
@@ -428,14 +465,13 @@ impl<'a> World<'a> {
         let Some((number, args)) = self.callee_of(callee, args) else {
             return Ok(STUCK);
         };
-        let end = match (self.asks(Asked::Function(number), args)?, wanted) {
-            (None, _) => End::Asks,
-            (Some(Doing::Gives(_)), Ret::Unit) => End::Does(Doing::Gives(None)),
-            (Some(doing), _) => End::Does(doing),
+        let end = match self.asks(Asked::Function(number), args)? {
+            None => End::Asks,
+            Some(doing) => {
+                self.pays();
+                End::Does(handed_on(wanted, doing))
+            }
         };
-        if let End::Does(_) = end {
-            self.pays();
-        }
         Ok(Next::Over(end))
     }
 
@@ -464,13 +500,12 @@ impl<'a> World<'a> {
         value: Option<Value>,
         results: &mut Vec<Value>,
     ) -> Result<Next, AllocError> {
-        match (wanted, value) {
-            (Ret::Unit, _) => Ok(Next::On),
-            (Ret::Comp(comp), Some(value)) if self.fits(comp, value) => {
-                results.push(value)?;
-                Ok(Next::On)
-            }
-            _ => Ok(STUCK),
+        match wanted {
+            Ret::Unit => Ok(Next::On),
+            Ret::Comp(comp) => match value {
+                Some(value) if self.fits(comp, value) => one(Some(value), results),
+                Some(_) | None => Ok(STUCK),
+            },
         }
     }
 
@@ -521,6 +556,66 @@ fn one(value: Option<Value>, results: &mut Vec<Value>) -> Result<Next, AllocErro
     }
 }
 
+/// The one operand.
+fn only(args: &[Value]) -> Option<Value> {
+    match args {
+        [value] => Some(*value),
+        [] | [_, _, ..] => None,
+    }
+}
+
+/// The two operands of an operator, a comparison or a bound test, of which the right one may be a constant.
+fn operands(right: Right, args: &[Value]) -> Option<(Value, Value)> {
+    match right {
+        Right::Register => match args {
+            [left, right] => Some((*left, *right)),
+            [] | [_] | [_, _, _, ..] => None,
+        },
+        Right::Constant(word) => Some((only(args)?, Value::Word(word))),
+    }
+}
+
+/// The label at the index that the one operand is.
+fn label_at(labels: &[Label], args: &[Value]) -> Option<Label> {
+    let index = word_in(only(args)?)?;
+    labels.get(index as usize).copied()
+}
+
+/// The word that a value is.
+fn word_in(value: Value) -> Option<u64> {
+    match value {
+        Value::Word(word) => Some(word),
+        Value::Block { .. } | Value::Function(_) => None,
+    }
+}
+
+/// The number of the function that a value is.
+fn function_in(value: Value) -> Option<u32> {
+    match value {
+        Value::Function(number) => Some(number),
+        Value::Word(_) | Value::Block { .. } => None,
+    }
+}
+
+/// What a function does whose tail call did this.
+fn handed_on(wanted: Ret, doing: Doing) -> Doing {
+    match doing {
+        Doing::Gives(value) => match wanted {
+            Ret::Unit => Doing::Gives(None),
+            Ret::Comp(_) => Doing::Gives(value),
+        },
+        Doing::Raises(value) => Doing::Raises(value),
+    }
+}
+
+/// Whether an address in a block is one of a word.
+fn is_aligned(address: Value) -> bool {
+    match address {
+        Value::Block { serial: _, offset } => offset % 8 == 0,
+        Value::Word(_) | Value::Function(_) => false,
+    }
+}
+
 /// The part of a block at an address.
 fn part_at(address: Value) -> Option<Part> {
     match address {
@@ -528,8 +623,7 @@ fn part_at(address: Value) -> Option<Part> {
             serial,
             word: offset.wrapping_add(8) / 8,
         }),
-        Value::Word(_) => None,
-        Value::Function(_) => None,
+        Value::Word(_) | Value::Function(_) => None,
     }
 }
 
@@ -551,10 +645,8 @@ pub fn destroys(op: &Op, register: u8) -> bool {
         Op::Calling(Calling::External { .. }) => {
             (10 <= register && register <= 17) || 28 <= register
         }
-        Op::Calling(_) => true,
-        Op::Pure(_) => false,
-        Op::Access(_) => false,
-        Op::Leaving(_) => false,
+        Op::Calling(Calling::Call { .. } | Calling::TailCall { .. }) => true,
+        Op::Pure(_) | Op::Access(_) | Op::Leaving(_) => false,
     }
 }
 
@@ -562,11 +654,10 @@ pub fn destroys(op: &Op, register: u8) -> bool {
 pub fn is_frame_point(op: &Op) -> bool {
     match op {
         Op::Access(Access::Alloc(_)) => true,
-        Op::Access(_) => false,
+        Op::Access(Access::Load { .. } | Access::Store { .. }) => false,
         Op::Calling(Calling::Call { .. }) => true,
         Op::Calling(Calling::TailCall { .. }) => false,
         Op::Calling(Calling::External { row: _, frame }) => *frame,
-        Op::Pure(_) => false,
-        Op::Leaving(_) => false,
+        Op::Pure(_) | Op::Leaving(_) => false,
     }
 }
