@@ -103,7 +103,7 @@ fn each_code<R: Threads + Sync>(
     map_in_halves(rt, alloc, work, jobs, &code_at)
 }
 
-/// The stub with the code of all functions behind it, of so many words in all.
+/// The stub with the code of all functions after it, of so many words in all.
 fn joined(alloc: Global, parts: Vec<Code>, count: u64) -> Result<Code, AllocError>
     ensures words { IfOk result (λ code.
         code.words.items ≡ stub ++ flat_map (λ part. part.words.items) parts.items) }

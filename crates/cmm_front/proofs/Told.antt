@@ -1,4 +1,4 @@
--- A fault of types and symbols is known by its place and its number; so one is told.
+-- A fault of types and symbols is known by its place and its number; so one is reported.
 use Rattle.std.proofs.Common.{◌≡◌, inl, inr, ◌∙◌, ℕ, ◌<◌, cond, ◌==◌, List, refl, sym, ap, arith}
 use Rattle.bs_fault.specs.FaultLines.{fault_place}
 use Rattle.bs_fault.specs.declared.fault.Fault.{Fault}
@@ -69,7 +69,7 @@ type_placed file _ (types.unknown_address d i root name_at name h g j k) = recor
 type_placed file _ (types.unknown_global d i name_at name h g j k) = record { same = refl }
 type_placed file _ (types.float_item d i h g j) = record { same = refl }
 
--- ---- which one is told
+-- ---- which one is reported
 
 not_less : (p q : ℕ) → (p < q → ⊥) → (q < p → ⊥) → p ≡ q
 not_less p q h g = omega (arith, h, g)
@@ -81,7 +81,7 @@ same_told a b p q h g =
     let number : fault_number a ≡ fault_number b = not_less _ _ (λ less. h (inr (place, less))) (λ less. g (inr (sym place, less))) in
     sym p.same ∙ ap (λ (n : ℕ). decoded n (fault_place a)) number ∙ ap (λ (at : ℕ). decoded (fault_number b) at) place ∙ q.same
 
--- one fault of types and symbols is told
+-- one fault of types and symbols is reported
 pub one_leftmost : (file : FileTree) (a b : Fault) → IsLeftmost (TypeFault file) a → IsLeftmost (TypeFault file) b → a ≡ b
 one_leftmost file a b h g =
     same_told a b (type_placed file a h.is_fault) (type_placed file b g.is_fault) (g.none_before a h.is_fault) (h.none_before b g.is_fault)

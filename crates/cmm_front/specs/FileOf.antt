@@ -18,7 +18,7 @@ pub record IsFileOf (text : List ℕ) (file : FileTree) : Type 0 where
   pub typed : (told : Fault) → ¬ TypeFault file told
   pub settled : (bound point used : ℕ) → ¬ IsLive file bound point used
 
--- The fault that is told of a text: what the reader tells of it; of a text that is read, the leftmost fault
+-- The fault that is reported of a text: what the reader reports of it; of a text that is read, the leftmost fault
 -- of types or symbols; and of one without these, the first address that is used so.
 pub data HasFault (text : List ℕ) : Fault → Type 0 where
   unread : (told : Fault) → ReadsAs text (Err told) → HasFault text told
@@ -32,7 +32,7 @@ pub data HasFault (text : List ℕ) : Fault → Type 0 where
       → IsToldLive file bound point used
       → HasFault text (AddrLive bound point used)
 
--- an error tells the fault of the text, unless memory ran out
+-- an error reports the fault of the text, unless memory ran out
 abbrev pub IsErrorOf : List ℕ → FrontError → Type 0
 IsErrorOf text (error.Fault told) = HasFault text told
 IsErrorOf text error.OutOfMemory = Unit {0}

@@ -121,7 +121,7 @@ check-unique others form c d a b =
 pub parts : (x y : List ℕ) (xs ys : List (List ℕ)) → x ∷ xs ≡ y ∷ ys → (x ≡ y) × (xs ≡ ys)
 parts x y xs ys e = (cc, cc)
 
--- the third byte of a command's word tells the command
+-- the third byte of a command's word identifies the command
 abbrev command_by : ℕ → CommandWord
 command_by n = if n == 109 then word.Compile else (if n == 110 then word.Run else (if n == 101 then word.Check
     else (if n == 115 then word.List else word.Soak)))

@@ -25,7 +25,7 @@ use Rattle.command_line.specs.Words.{word_of, slots_of, prefix_of, fills, IsForm
 use Rattle.command_line.proofs.Gives.{starts_cut, wanted_given}
 use Rattle.command_line.specs.Program.{id_of, default_texts, option_rule, slot_rule, program, word_gives, word_lacks, HasText, AreTaken}
 
--- ---- a slot's name tells the slot
+-- ---- a slot's name identifies the slot
 
 abbrev slot_by : ℕ → Slot
 slot_by n = if n == 28530 then Plain else (if n == 29287 then Args else (if n == 28275 then Answers else (if n == 29797 then Steps

@@ -1,4 +1,4 @@
--- What the command line's parser is told, and what it makes of words of the form.
+-- What the command line's parser is given, and what it makes of words of the form.
 use Rattle.std.specs.Prelude.{◌≡◌, Contains, ℕ, true, false, List, [], ◌∷◌, codes, map, Option, Some}
 use Rattle.clap.specs.Walk.{Row, Rule, Text, first_of}
 use Rattle.clap.specs.Simple.{App, Shape, new_rule, new_shape, subcommand_of}
@@ -9,7 +9,7 @@ use Rattle.command_line.specs.declared.form.Slot.{Slot}
 use Rattle.command_line.specs.declared.form.Slot.TheVariants.{Plain, Args, Answers, Steps, Stack, Heap, Moves, Fuel, Jobs, Seed, Functions}
 use Rattle.command_line.specs.Words.{word_of, slots_of, Gives}
 
--- ---- what the parser is told
+-- ---- what the parser is given
 
 -- the slot's name: an option's is what stands between `--` and `=`
 abbrev pub id_of : Slot → List ℕ

@@ -22,7 +22,7 @@ pub record IsName (bytes : List ℕ) : Type 0 where
 
 -- ---- numbers
 
--- the most instructions that a run may be told to retire, which is also the most fuel of a run of a text; and
+-- the most instructions that a run may be asked to retire, which is also the most fuel of a run of a text; and
 -- the most bytes of a stack or half of a heap
 abbrev pub most_steps : ℕ
 most_steps = 1000000000000

@@ -1,4 +1,4 @@
-//! The parser that reads words of the form, and what it is told.
+//! The parser that reads words of the form, and what it is given.
 ghost use Rattle.std.specs.Prelude.{◌≡◌, [], ◌∷◌, IfOk, IsErrOf, false};
 ghost use Rattle.clap.specs.declared.builder.command.Command.TheViews.{out-Command};
 ghost use Rattle.clap.specs.Words.{app_of, new_rule, rule_of, subcommand_of, subcommand_rows_of, with_subcommand};
@@ -37,7 +37,7 @@ fn option_or<'a>(alloc: Global, name: &'a str, default: &'a str) -> Arg<'a>
     Arg::new(alloc, name).long(name).default_value(default)
 }
 
-/// What the parser is told of a slot.
+/// What the parser is given of a slot.
 fn argument<'a>(alloc: Global, slot: Slot) -> Arg<'a>
     ensures rule { rule_of result ≡ slot_rule slot }
     ensures local { result.global ≡ false }
@@ -57,7 +57,7 @@ fn argument<'a>(alloc: Global, slot: Slot) -> Arg<'a>
     }
 }
 
-/// What the parser is told of a command.
+/// What the parser is given of a command.
 fn subcommand<'a>(alloc: Global, command: CommandWord) -> Result<Command<'a>, AllocError>
     ensures app { IfOk result (λ parser. app_of parser ≡ command_app command) }
     ensures local { IfOk result (λ parser. (out-Command parser).has_globals ≡ false) }

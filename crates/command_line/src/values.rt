@@ -10,7 +10,7 @@ use rv_machine::Arg;
 use stages::Stage;
 use std::alloc::Global;
 
-/// The most instructions that a run may be told to retire.
+/// The most instructions that a run may be asked to retire.
 const MOST_STEPS: u64 = 1_000_000_000_000;
 
 /// The most bytes of a stack or of half of a heap.

@@ -138,7 +138,7 @@ module _ (s : Fixed) (end : ℕ) (end_is : end ≡ data_start + length s.image.b
       (omega (arith, even)) (omega (arith, low)) (subst (λ x. Rises x young) same own_w.rises) (heads_of s w young w.memory (entered memory) refl heap_w))
       ∙ same_blocks
 
-  -- a value in a0 is told as the text tells it
+  -- a value in a0 is read as the text reads it
   told : (c : Comp) (x : Value) → fits end (type_of_comp c) x ≡ true → (c ≡ comp.Addr → ⊥) →
       StandsFor s (all_of v young) (slice_index v.registers 10) x → observation.observed b.hart c (register b.hart 10) ≡ observed (layout_of s.image) x
   told c x fit no_addr stands =

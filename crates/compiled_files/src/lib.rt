@@ -79,7 +79,7 @@ pub fn runs_are_ready()
 {}
 
 /// Law: the stub of an image ends its runs: after the return of the entry, or a raise that none has caught, two
-/// instructions tell what the text tells.
+/// instructions say what the text says.
 pub fn stubs_end_runs()
     ensures { (file : FileTree) (image : Tables) (ps : List Pieces) (has : HasFunctions image)
         (bases : (stack : ℕ) → IsRoom stack → IsStackBase (stack_bottom - stack)) (laid : ℕ → Laid)

@@ -19,7 +19,7 @@ pub after_more : (make : Making) (made done rest : List Instr) → made_by make 
 after_more make made [] rest = refl
 after_more make made (i ∷ done) rest = after_more make (made ++ remade make made i ∷ []) done rest
 
--- what is put in place of an instruction of the code is told by what is made of the code before it
+-- what is put in place of an instruction of the code is known by what is made of the code before it
 module _ {P : Type 0} (make : Making) (choice : List Instr → Instr → P) (other : P) (code : List Instr) where
   abbrev after : List Instr → List Instr
   after done = made_by make [] done

@@ -28,7 +28,7 @@ enters_at f c rows p x r within read =
 
 -- ---- a visit
 
--- what the calls of `visit` told
+-- what the calls of `visit` reported
 pub record Visit (f : flow.Flow) (c : ℕ → Bool) (rows : List (List Bool)) (p : ℕ) (set here here' : List Bool) (grew : Bool) : Type 0 where
   pub len : length rows ≡ length (contents f.places)
   pub within : p < length rows
@@ -103,7 +103,7 @@ visited f c rows p set here here' grew v = record {
   fewer = visit_fewer f c rows p set here here' grew v;
 }
 
--- what a call of `flow_back` told of the set
+-- what a call of `flow_back` reported of the set
 pub back_members : (f : flow.Flow) (c : ℕ → Bool) (rows lent : List (List Bool)) (p : ℕ) (x : place.Place) (set : List Bool) (b : Bool) →
     p < length (contents f.places) → x ≡ get_or (contents f.places) p x → lent ≡ rows → b ≡ c p →
     ((r : ℕ) → has set r ≡ enters_place b x lent r) →

@@ -3,7 +3,7 @@
 //! Common subexpression elimination (OCaml's `asmcomp/CSEgen.ml`): an integer operator that repeats an
 //! earlier one of its straight run, whose operands and result still stand, becomes a move. It is kept,
 //! for each operator on its operands, for each register written, for its origin and for its place, in
-//! which instruction that was done last; what stands is told by comparing these times.
+//! which instruction that was done last; what stands is seen by comparing these times.
 //!
 //! Copy propagation: an operand that a move of its straight run made a copy of another register is
 //! read from that one, by the same times. OCaml's `CSEgen` gives a move's target the number of the
@@ -12,7 +12,7 @@
 //! Dead code elimination (OCaml's `asmcomp/deadcode.ml`): the function without the instructions that
 //! only compute, and whose results nothing uses.
 //! A register is used where some walk reads it before it writes it; what may go counts as a read only
-//! where its own result is used. So one table tells all that goes, and nothing is left to go after it.
+//! where its own result is used. So one table says all that goes, and nothing is left to go after it.
 #![tactic(auto)]
 
 mod copies;

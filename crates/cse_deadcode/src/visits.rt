@@ -119,7 +119,7 @@ fn put_in(set: &mut Bits, numbers: &[u32])
     }
 }
 
-/// Puts the numbers in, if it is told to.
+/// Puts the numbers in, if it is asked to.
 fn put_in_if(set: &mut Bits, numbers: &[u32], told: bool)
     requires { All (λ k. k < length set.old) numbers.now }
     ensures size { length set.new ≡ length set.old }

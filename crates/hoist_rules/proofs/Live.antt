@@ -286,7 +286,7 @@ module _ (m : Mach) (moves : ℕ → Bool) (may : MayAllMove m moves) where
       none_among : Among n [] → ⊥
       none_among a = elim a [ ]
 
-  -- what is live at the entry, and not made there, is live behind it
+  -- what is live at the entry, and not made there, is live after it
   front_live : {n : ℕ} {xs zs : List Instr} → at_entry_of.Front m moves may xs → zs ≡ xs ++ rest_of.code → Live q n zs →
       Live q n rest_of.code
   front_live {n} at_entry_of.front_end e v = subst (Live q n) e v

@@ -67,7 +67,7 @@ AllStand s young count at [] (x ∷ xs) = ⊥
 AllStand s young count at (b ∷ bs) [] = ⊥
 AllStand s young count at (b ∷ bs) (x ∷ xs) = StandsAnywhere s young count (at + (bytes_of bs + 8)) x × AllStand s young count at bs xs
 
--- where young blocks begin is told by them
+-- where young blocks begin is known by them
 pub rises_same : (a b : ℕ) (bs : List Placed) → Rises a bs → Rises b bs → a ≡ b
 rises_same a b [] r q = omega (arith, r, q)
 rises_same a b (x ∷ bs) r q = let e = r.0 in let f = q.0 in omega (arith, e, f)

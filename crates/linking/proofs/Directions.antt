@@ -230,7 +230,7 @@ module _ (X : Type 0) (turn : X → X) (see : X → Seen) (stack heap most words
   raise_fits : {v : Value} {h : Here} {u : World} → RaisedFits end (Raises v h u) → fits end ty.Val v ≡ true
   raise_fits (raised_fits fit) = fit
 
-  -- what the machine does for the whole run is what is told of it
+  -- what the machine does for the whole run is what is said of it
   pub told_of : (w : World) (x : X) (e : Evaluation) → GivesFit end result e → RaisedFits end e → Does X turn see stack heap most words Back w x e →
       IsProper (finished layout e).outcome →
       Comes X turn see stack heap (finished layout e).stack_need (finished layout e).heap_need (finished layout e).calls (IsOver w.left (finished layout e)) x

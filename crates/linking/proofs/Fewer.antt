@@ -207,7 +207,7 @@ module _ (end : ℕ) (symbol : List ℕ → Option Value) (parameters : List (Li
         below memory doings n
     plays doings = alone_plays end symbol parameters n frame f arguments below memory doings n (omega arith)
 
-    -- One function alone, on some doings and on more behind them.
+    -- One function alone, on some doings and on more after them.
     pub alone_fewer : (doings more : List Doing) →
         Fewer more (alone end symbol parameters frame f arguments below memory doings n)
         (alone end symbol parameters frame f arguments below memory (doings ++ more) n)

@@ -416,7 +416,7 @@ module _ (S : Type 0) (p : Program S) (pace : Words S) (file : FileTree) (layout
     behind_room (Inside callee) left = omega arith
     behind_room (Outside row frame) left = omega arith
 
-    -- it goes on behind a call that came back
+    -- it goes on after a call that came back
     goes_on : (k : ℕ) → LinkOf k → (call : Asked) (go : Doing → Step S) (stack' heap' cost left ahead : ℕ) → cost + left ≤ ahead →
         IsRegularStep S p c stack' heap' (Waits call go) → StepForward S words (pace.ahead f) left (Waits call go) →
         ((u : S) → LeadsTo S u (Waits call go) → IsReached S p f c u) →

@@ -1,5 +1,5 @@
 -- A machine that carries out a program. Its states only stand for those of the program: how, is
--- told by predicates, which may hide where blocks lie, and when the mover asks.
+-- known by predicates, which may hide where blocks lie, and when the mover asks.
 use Rattle.std.specs.Prelude.{◌≡◌, ℕ, suc, ◌+◌, ◌-◌, ◌*◌, ◌≤◌, ◌<◌, ◌⊎◌, List, Some}
 use Rattle.bs_words.specs.Memory.{Memory, heap_need}
 use Rattle.bs_words.specs.Observed.{Made}

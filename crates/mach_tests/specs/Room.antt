@@ -7,7 +7,7 @@ use Rattle.mach_ir.specs.declared.mach.Mach.{Mach}
 
 -- The bounds on what spilling, splitting, and splitting after spilling make, by those on the function and
 -- the number of its parameters. Programs of rows call these passes on functions made by hand, of which no
--- law tells a size.
+-- law gives a size.
 abbrev pub wide : ℕ → Size → Size
 wide parameters s =
     record s {

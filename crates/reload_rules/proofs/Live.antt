@@ -319,7 +319,7 @@ module _ (m : Mach) (s : ℕ → ℕ) (free top : ℕ) (formed : WellFormed m) (
       passed_by x i next n r rs e (on_case (Storing i next n rs) t h w o ih)
   on_case {x} z t (ends {i = i} {next = next} h) w o ih = inr (on_case (Before next) t h w o ih, nothing_spilled i x)
 
-  -- tries are told by marks alone
+  -- tries are known by marks alone
   abbrev pub tries_of : Stage → List ℕ
   tries_of (Before rest) = tries_at rest
   tries_of (Reading i next n rs) = tries_at (i ∷ next)

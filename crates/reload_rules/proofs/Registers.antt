@@ -203,7 +203,7 @@ module _ (m : Mach) (s : ℕ → ℕ) (free top : ℕ) (formed : WellFormed m) (
   was_register r (is_colour c) = is_old (is_colour c)
   was_register r (is_in_code c) = was_code m.code r (λ i next t. t) c
 
-  -- a number tells a register
+  -- a number identifies a register
   pub number_is : (r k : Reg) → IsRegister q r → IsRegister q k → r.number ≡ k.number → r ≡ k
   number_is r k i j e = by (was_register r i) (was_register k j)
     where

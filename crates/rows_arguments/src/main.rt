@@ -22,7 +22,7 @@ fn main(rt: HostRuntime) -> Result<()> {
     Ok(())
 }
 
-/// What is told of a line's words.
+/// What is said of a line's words.
 fn told(alloc: Global, line: &str) -> Result<String> {
     let mut words = Vec::new(alloc);
     if !line.is_empty() {

@@ -25,7 +25,7 @@ impl Top for Called {
     }
 }
 
-/// A gate that tells a watch.
+/// A gate that reports to a watch.
 #[derive(Clone, Copy)]
 struct Watched<'a>(Watch<'a>);
 

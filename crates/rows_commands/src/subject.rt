@@ -44,7 +44,7 @@ pub(crate) enum Subject {
     Generated,
     /// That a compile by several jobs shares functions among threads (`jobs`).
     Held,
-    /// That an image does not show by how many jobs it was made, and that all functions are told of (`jobs`).
+    /// That an image does not show by how many jobs it was made, and that all functions are heard of (`jobs`).
     Shared,
     /// Runs of texts of the whole language, under frames and addresses that a hand made (`evaluated`, here).
     Evaluated,

@@ -1,7 +1,7 @@
 //! Texts of the whole language: calls and tail calls, raises through callers, data, blocks, external calls and frame
 //! calls.
 //!
-//! A row has the form of `rows_lines`. Shown is what `cmmc` says to it, but for the line of `check` that tells the need of
+//! A row has the form of `rows_lines`. Shown is what `cmmc` says to it, but for the line of `check` that says the need of
 //! stack: it depends on where registers lie.
 //!
 //! Each text is compiled, run under several ways to move blocks, and run by its meaning. What they print is known from the
@@ -26,7 +26,7 @@ pub fn said_to<R: Threads + Sync, T: Top>(
     Ok(shown)
 }
 
-/// Whether the line tells how much stack a run needs.
+/// Whether the line says how much stack a run needs.
 fn is_need(line: &str) -> bool {
     line.starts_with("stack ") && line != "stack out"
 }

@@ -4,7 +4,7 @@
 //! functions is compiled, and function 0 is held until function 1 has been let in: under two jobs it is seen, and one
 //! thread alone would only wait.
 //!
-//! A row of `shared` has a number of jobs, a seed and a number of functions. Shown is which functions were told of while
+//! A row of `shared` has a number of jobs, a seed and a number of functions. Shown is which functions were heard of while
 //! the generator's text was compiled under so many jobs, and whether the image is that of one job.
 use crate::generated::numbers_of;
 use cmm_gen::generate;

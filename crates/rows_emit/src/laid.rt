@@ -208,7 +208,7 @@ pub(crate) fn put_code<W: Write>(
     Ok(())
 }
 
-/// Whether a line tells of it.
+/// Whether a line shows it.
 fn is_told(piece: &Piece) -> bool {
     match piece {
         Piece::Known(_) | Piece::Label(_) => false,

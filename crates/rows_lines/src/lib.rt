@@ -37,7 +37,7 @@ pub(crate) const PIECE: usize = 1 << 16;
 
 /// The top call.
 pub trait Top {
-    /// The status with which the program ends that is given these words. The watch is told of what it compiles.
+    /// The status with which the program ends that is given these words. The watch hears of what it compiles.
     fn status<R: Threads + Sync>(
         &self,
         rt: &R,

@@ -8,7 +8,7 @@ const TURNS: u64 = 100_000_000;
 /// After how many turns other threads are let on.
 const PATIENCE: u64 = 1024;
 
-/// What a compile tells of each function.
+/// What a compile reports of each function.
 #[derive(Clone, Copy)]
 pub enum Watch<'a> {
     /// Nothing hears.

@@ -178,7 +178,7 @@ impl<'a, 'b> Machine<'a, 'b> {
         Ok(Some(values))
     }
 
-    /// What the frame point at this place names: how many frame points stand before it tells which.
+    /// What the frame point at this place names: how many frame points stand before it shows which.
     fn named_here(&self) -> &'b [Loc] {
         let mut before: usize = 0;
         for (place, line) in self.function.code.as_slice().iter().enumerate() {

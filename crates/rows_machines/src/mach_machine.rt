@@ -67,7 +67,7 @@ impl Registers {
 
 // ---- places
 
-/// The label behind which control goes on, if a mark has one.
+/// The label after which control goes on, if a mark has one.
 fn label_of(mark: &Mark) -> Option<Label> {
     match mark {
         Mark::Else { label, end: _ } => Some(*label),
@@ -134,7 +134,7 @@ fn handler_place(code: &[Instr], label: u32) -> usize {
 
 // ---- what is live
 
-/// Keeps the handlers of the tries that are open behind a mark.
+/// Keeps the handlers of the tries that are open after a mark.
 fn passes_mark(open: &mut Vec<u32>, mark: &Mark) -> Result<(), AllocError> {
     match mark {
         Mark::Try { handler } => open.push(handler.0)?,

@@ -21,7 +21,7 @@ pub fn told_of_sets(alloc: Global, line: &str) -> Result<String> {
     Ok(told)
 }
 
-/// Does one thing, and tells what was asked.
+/// Does one thing, and reports what was asked.
 fn done(alloc: Global, a: &mut Bits, b: &mut Bits, word: &str) -> Result<String> {
     if word == "|" {
         let grew = a.size() == b.size() && a.union_with(b);

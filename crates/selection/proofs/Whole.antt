@@ -1,4 +1,4 @@
--- The code of a whole function, where each part of it is told by an equation.
+-- The code of a whole function, where each part of it is given by an equation.
 use Rattle.std.proofs.Common.{◌≡◌, ℕ, suc, ◌+◌, true, not, List, [], length, ap, sym, ◌∙◌, subst, arith}
 use Rattle.std.proofs.lemmas.List.{length-map}
 use Rattle.bs_words.specs.Contents.{contents}
@@ -28,7 +28,7 @@ record_of moved value given base labels = record { moved = moved; value = value;
 pub count-params : (f : Function) (params : List Param) (n : ℕ) → n ≡ length params → params ≡ contents f.params → n ≡ length (params_view (contents f.params))
 count-params f params n p q = p ∙ ap length q ∙ sym (length-map (contents f.params) param_view)
 
--- the numbers, where each is told by an equation
+-- the numbers, where each is given by an equation
 pub numbers-are : (f : Function) (params : List Param) (count moved value given base labels : ℕ)
     → params ≡ contents f.params
     → count ≡ length params
@@ -74,7 +74,7 @@ typed-body f moved scope e typed =
     let P : List Scoped → Type 0 = λ ns. IsAnnotated ns f.body in
     subst P (sym (ap scopes e ∙ scopes-params [] moved ps)) typed
 
--- the body, where each part of it is told by an equation
+-- the body, where each part of it is given by an equation
 pub body-is : (f : Function) (numbers : Numbers) (value : Reg) (scope : Visible) (returned body : List Instr)
     → IsFunctionAnnotated f
     → numbers ≡ numbers_in (function_view f)

@@ -336,7 +336,7 @@ module _ (c : Place) (m : Mach) where
 
   -- ---- runs
 
-  -- the same is told of both
+  -- the same is said of both
   pub data Twin : Run State → Run State → Type 0 where
     both_running : {s u : State} {t : Tally} → s.around ≡ u.around → Twin (Running s t) (Running u t)
     both_asking : {call : Asked} {t : Tally} → Twin (Asking call t) (Asking call t)

@@ -1,4 +1,4 @@
--- Selected code is well formed, where a number tells a register.
+-- Selected code is well formed, where a number identifies a register.
 use Rattle.std.proofs.Common.{◌≡◌}
 use Rattle.cmm_tree.specs.Tree.{FunctionTree}
 use Rattle.mach_ir.specs.Formed.{WellFormed}
@@ -15,7 +15,7 @@ use Rattle.selection_laws.proofs.CasesAgree.{selected_cases}
 abbrev pub NumbersTell : Mach → Type 0
 NumbersTell m = (r q : Reg) → IsRegister m r → IsRegister m q → r.number ≡ q.number → r ≡ q
 
--- All that is asked of the form of a function but that a number tells a register, which is asked for here.
+-- All that is asked of the form of a function but that a number identifies a register, which is asked for here.
 pub formed_by_numbers : (f : FunctionTree) → FunctionFits f → NumbersTell (selected f) → WellFormed (selected f)
 formed_by_numbers f fits numbers =
     record {

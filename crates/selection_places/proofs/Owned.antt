@@ -252,7 +252,7 @@ abbrev mutual
       opens (with_params params (params_from (suc l) params) env) b body
       + handlers_opens env (suc l + length params) (b + width body) rest
 
--- ---- a number tells one of them
+-- ---- a number identifies one of them
 
 pub fresh_block : (n : ℕ) (type : Ty) → Block (One Plain (fresh n type)) n (suc n) 1
 fresh_block n type = block_one Plain (fresh n type) refl refl

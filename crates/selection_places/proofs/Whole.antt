@@ -1,4 +1,4 @@
--- The registers of a selected function: a number tells each, and it is its origin.
+-- The registers of a selected function: a number identifies each, and it is its origin.
 use Rattle.std.proofs.Common.{◌≡◌, ℕ, suc, ◌+◌, ◌<◌, ◌≤◌, ◌⊎◌, inl, inr, not, true, List, [], ◌∷◌, length, Option, Some, refl, sym, ap, ◌∙◌, subst, arith}
 use Rattle.std.specs.Prelude.{Contains}
 use Rattle.bs_words.specs.declared.types.Comp.TheVariants as comp

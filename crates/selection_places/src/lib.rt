@@ -1,4 +1,4 @@
-//! What holds of the registers of the Mach functions that selection makes: a number tells a register, fixed places
+//! What holds of the registers of the Mach functions that selection makes: a number identifies a register, fixed places
 //! stand apart, and an allocation writes a register of its own.
 //!
 //! The crate holds laws alone.

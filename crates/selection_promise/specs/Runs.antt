@@ -19,7 +19,7 @@ use Rattle.mach_ir.specs.Runs.{Place, Tally, Run, Running, Asking, Ended, first_
 use Rattle.mach_ir.specs.declared.mach.Mach.{Mach}
 use Rattle.selection_rules.specs.Bounded.{AllBounded, BoundedMemory, BoundedDoings, BoundedSymbols}
 
--- What is told of a run is what is told of an evaluation of n units.
+-- What is said of a run is what is said of an evaluation of n units.
 pub record Beside (f : FunctionTree) (n : ℕ) (e : Evaluation) (t : Tally) : Type 0 where
   -- the calls that came back, each with its arguments, the memory and the stack bytes that it found,
   -- and the tries pushed round it

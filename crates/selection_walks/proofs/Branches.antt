@@ -98,7 +98,7 @@ module _ (m : Mach) (n : ℕ) where
         (Rattle.selection_rules.proofs.Parts.inside_in (ending_cases env labels valued tail d ls end (suc l) (b + width body) rest _)
         (ending_select env labels valued tail d b body _)) x
 
-    -- what is told of one of these
+    -- what is said of one of these
     pub record OneTold (p : Phase) (w : Option ℕ) (scope : List Slotted) (slot : ℕ) (es : List Expression) (tasks : List Task) : Type 0 where
       pub e : Expression
       pub among : Contains es e

@@ -239,7 +239,7 @@ grown Passed (Some s) v {tasks} k t = subst (λ x. Told Passed x tasks) (sym (k 
 pub bound_none : (w : Option ℕ) {tasks : List Task} → w ≡ None → Told Bound w tasks → ⊥
 bound_none w {tasks} e t = none_bound (subst (λ x. Told Bound x tasks) e t)
 
--- ---- what is told is a walk
+-- ---- what is reported is a walk
 
 pub data LivePassed (s : ℕ) (tasks : List Task) : Type 0 where
   live_passed : (es : List Event) (u : ℕ) → Walk tasks (es ++ Uses s u ∷ []) → Unbound s es → LivePassed s tasks

@@ -66,7 +66,7 @@ get_within [] ys p lt = absurd (omega (arith, lt))
 get_within (x ∷ xs) ys zero lt = refl
 get_within (x ∷ xs) ys (suc p) lt = get_within xs ys p (omega (arith, lt))
 
--- what stands before a place tells whether a run begins there
+-- what stands before a place shows whether a run begins there
 pub begins_within : (xs ys : List Instr) (p : ℕ) → p ≤ length xs → begins_at (xs ++ ys) p ≡ begins_at xs p
 begins_within xs ys zero le = refl
 begins_within xs ys (suc p) le = ap (λ o. not (some_straight o)) (get_within xs ys p (omega (arith, le)))

@@ -1,4 +1,4 @@
--- What the table of sights tells.
+-- What the table of sights shows.
 use Rattle.std.proofs.Common.{◌≡◌, ℕ, zero, suc, ◌+◌, ◌<◌, Bool, true, false, cond, ◌⊎◌, inl, inr, ⊎_elim, List, [], ◌∷◌, map, length, replicate, refl, sym, ap, ◌∙◌, subst, arith}
 use Rattle.std.proofs.lemmas.Bool.{eq-eqb, eqb-true, cases_Bool}
 use Rattle.std.specs.List.{Contains}
@@ -38,7 +38,7 @@ same_or k n =
 
 -- ---- one number
 
--- what a sight tells of the places where the number is seen
+-- what a sight says of the places where the number is seen
 pub data Sees (S : ℕ → Type 0) : Sight → Type 0 where
   unseen : ((q : ℕ) → S q → ⊥) → Sees S Unseen
   once : (p : ℕ) → S p → ((q : ℕ) → S q → q ≡ p) → Sees S (Once p)
@@ -210,7 +210,7 @@ none_seen size n lt = subst (Sees (λ q. ⊥)) (sym (unseen_at size n)) (unseen 
     unseen_at (suc size) zero = refl
     unseen_at (suc size) (suc n) = unseen_at size n
 
--- The table tells where each number is killed and in the row.
+-- The table says where each number is killed and in the row.
 pub all_seen : (rows : List (List Bool)) (xs : List place.Place) (size : ℕ) →
     AreSeen (InPlaces rows 0 xs) (noted_places rows 0 xs (replicate size Unseen))
 all_seen rows xs size n lt =

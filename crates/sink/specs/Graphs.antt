@@ -64,7 +64,7 @@ pub record IsBare (x : place.Place) : Type 0 where
 
 -- ---- nodes
 
--- the nodes of a code: of its end, and of each instruction, told by the code after it
+-- the nodes of a code: of its end, and of each instruction, known by the code after it
 pub data AreNodes (E : place.Place → Type 0) (N : Instr → List Instr → place.Place → Type 0) :
     List Instr → List place.Place → Type 0 where
   at_end : {node : place.Place} → E node → AreNodes E N [] (node ∷ [])

@@ -44,7 +44,7 @@ module _ (m : Mach) (n : ℕ) where
   abbrev Unwritten : Instr → Type 0
   Unwritten i = Writes m i n → ⊥
 
-  -- what goes on with each step that does not write the register holds behind the run
+  -- what goes on with each step that does not write the register holds after the run
   along : (P : List Instr → Type 0) →
       ((i : Instr) (next : List Instr) → Unwritten i → Leads m i next next → P (i ∷ next) → P next) →
       (run rest : List Instr) → AreStraight run → All Unwritten run → P (run ++ rest) → P rest
@@ -90,7 +90,7 @@ stands_further : {i : Instr} {next rest code : List Instr} → Ending rest code 
 stands_further all s = s
 stands_further (more e) s = below (stands_further e s)
 
--- an ending of a run and of what comes after, ending_short than that, begins the run or stands behind an instruction of it
+-- an ending of a run and of what comes after, and shorter than that, begins the run or stands after an instruction of it
 within : (run : List Instr) (call : Instr) (after rest : List Instr) → Ending rest (run ++ call ∷ after) → length after < length rest →
     (rest ≡ run ++ call ∷ after) ⊎ ((i : Instr) × Stands i rest (run ++ call ∷ after) × Contains run i)
 within [] call after rest all lt = inl refl

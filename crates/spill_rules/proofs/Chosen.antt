@@ -40,7 +40,7 @@ use Rattle.spill_rules.proofs.Whole.{spilled_keeps, within_bounds, few_reloads, 
 
 -- ---- places of a code
 
--- what a code ends with is told by how long it is
+-- what a code ends with is known by how long it is
 pub same_rest : {a b code : List Instr} → Ending a code → Ending b code → length a ≡ length b → a ≡ b
 same_rest {code = code} e h len = sym (drop_ending e) ∙ ap (λ k. drop (length code - k) code) len ∙ drop_ending h
 

@@ -237,7 +237,7 @@ module _ (m : Mach) (plan : Plan) (formed : WellFormed m) (placed : WellPlaced m
     itself_across : LiveAcross m x i next → WasAcross x i next
     stored_across : (n : ℕ) → plan.slot n ≡ x → LiveAcross m n i next → IsStored n (i ∷ next) → WasAcross x i next
 
-  -- tries are told by marks alone
+  -- tries are known by marks alone
   abbrev pub tries_of : Stage → List ℕ
   tries_of (Before rest) = tries_at rest
   tries_of (Reading i next rs) = tries_at (i ∷ next)

@@ -35,7 +35,7 @@ pub record IsReloaded (m : Mach) (i : Instr) (next : List Instr) (n : ℕ) : Typ
   pub unset : register.loc ≡ loc.Unset
   pub lost : Lost m n (i ∷ next)
 
--- A write, told by the code after it, is stored where it comes to a place at which the register is
+-- A write, known by the code after it, is stored where it comes to a place at which the register is
 -- reloaded.
 pub record IsStored (m : Mach) (next : List Instr) (n : ℕ) : Type 0 where
   pub instr : Instr

@@ -315,7 +315,7 @@ module _ (m : Mach) (free : ℕ) (t : Tables) (formed : WellFormed m) (placed : 
 
   -- ---- joined exactly
 
-  -- the chain from a write to the one that its label tells
+  -- the chain from a write to the one that its label names
   label_chain : (r : Reg) → IsRegister m r → r.loc ≡ loc.Unset → (from : List Instr) → IsWrite m r.number from → (v : ℕ) →
       find_at (all_of t.writes) (length from) (ws r.number) ≡ Some v → (l : ℕ) → slice_index tables.labels v ≡ l → (x : Write) →
       slice_get (all_of t.writes) l ≡ Some x → Chained m r.number from (after m x.left)
@@ -357,7 +357,7 @@ module _ (m : Mach) (free : ℕ) (t : Tables) (formed : WellFormed m) (placed : 
         );
       }
 
-  -- ---- told by the first
+  -- ---- known by the first
 
   -- the write that has this index, as what is known of the register's writes
   indexed : (n k v : ℕ) → HasIndex m n k v → Contains (ws n) v

@@ -486,7 +486,7 @@ module _ (m : Mach) where
             ),
           )
 
-      -- the analysis tells which writes come to each place
+      -- the analysis says which writes come to each place
       pub is_reaching : (rows : List (List Bool)) → IsReaching f rows → AreReaching m t rows
       is_reaching rows h =
           record {

@@ -53,7 +53,7 @@ pub record AreLinked (m : Mach) (t : Writes) (w v : ℕ) : Type 0 where
   pub number : one.number ≡ other.number
   pub chained : Chained m one.number (after m one.left) (after m other.left)
 
--- each write is joined with the one that its label tells
+-- each write is joined with the one that its label names
 pub record AreSound (m : Mach) (t : Writes) (labels : List ℕ) : Type 0 where
   pub len : length labels ≡ length (all_of t)
   pub linked : (w : ℕ) → w < length labels → AreLinked m t w (slice_index labels w)

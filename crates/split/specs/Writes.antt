@@ -57,6 +57,6 @@ abbrev pub is_first : List ℕ → ℕ → Bool
 is_first [] w = false
 is_first (v ∷ ws) w = nat_eq v w
 
--- the code after so many instructions are left: what a write with this number is told by
+-- the code after so many instructions are left: what a write with this number is known by
 abbrev pub after : Mach → ℕ → List Instr
 after m k = drop (length m.code - k) m.code

@@ -41,7 +41,7 @@ fn tables_of(alloc: Global, mach: &Mach, free: u32) -> Result<Tables, AllocError
 /// The function with a number of its own for each web of a register whose place is open.
 ///
 /// Two writes of a register are joined where there is a place at which it is live and to which both
-/// come; a web is what a chain of joined writes connects. Webs are told by their first writes in the
+/// come; a web is what a chain of joined writes connects. Webs are known by their first writes in the
 /// order of the text, in which the entry, which writes the parameters, comes first. The web of a
 /// register's first write keeps the register's number, any other has the index of its first write, from
 /// the first free number on. Nothing else changes.
