@@ -14,7 +14,7 @@ ghost use Rattle.eval_frames.specs.Around.{functions_in};
 ghost use Rattle.eval_frames.specs.Views.{eval_view, layout_view, outcome_view};
 
 use crate::machine::Machine;
-use bs_words::{Kind, Value};
+use bs_words::{Kind, List, Value};
 use cmm_data::SymbolTable;
 use cmm_tree::{File, Function, Item};
 use cmm_values::Memory;
@@ -101,11 +101,12 @@ pub fn eval(
         made,
         answers: _,
     } = world;
+    let calls = List::from_vec(made);
     Ok(Eval {
         outcome,
-        calls: made,
+        calls,
         stack_need,
-        heap_need: memory.heap_need(),
+        heap_bytes: memory.heap_need(),
         left,
     })
 }

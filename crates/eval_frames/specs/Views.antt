@@ -22,7 +22,7 @@ abbrev pub call_view : Call → Made
 call_view c = record { name = c.name; shown = contents c.args }
 
 abbrev pub layout_view : Layout → meaning.Layout
-layout_view l = record { frames = l.frames.items; addresses = l.addresses.items }
+layout_view l = record { frames = contents l.frames; addresses = contents l.addresses }
 
 abbrev pub bound_view : Bound → Binding
 bound_view b =
@@ -65,8 +65,8 @@ abbrev pub eval_view : Eval → run.Run
 eval_view e =
     record {
       outcome = outcome_view e.outcome;
-      calls = map call_view e.calls.items;
+      calls = map call_view (contents e.calls);
       stack_need = e.stack_need;
-      heap_need = e.heap_need;
+      heap_need = e.heap_bytes;
       left = e.left;
     }

@@ -1,21 +1,24 @@
 //! What a run takes from the image.
 ghost use Rattle.std.specs.Prelude.{◌≡◌, slice_index};
+ghost use Rattle.bs_words.specs.Contents.{contents};
+
+use bs_words::List;
 
 /// For each function of the file, in order: the bytes of its frame, and its address.
 #[derive(Debug, Drop)]
 pub struct Layout {
     /// Bytes of the stack that one activation takes.
-    pub frames: Vec<u32>,
+    pub frames: List<u32>,
     /// The address that a function as a value is observed as.
-    pub addresses: Vec<u64>,
+    pub addresses: List<u64>,
 }
 
 impl Layout {
     /// The bytes of the frame of a function, or 0 where the layout has none.
     pub fn frame_of(&self, function: u32) -> u64
-        ensures { result ≡ slice_index self.now.frames.items function }
+        ensures { result ≡ slice_index (contents self.now.frames) function }
     {
-        match self.frames.get(function as usize) {
+        match self.frames.as_slice().get(function as usize) {
             Some(bytes) => u64::from(*bytes),
             None => 0,
         }
@@ -23,8 +26,12 @@ impl Layout {
 
     /// The address of a function, or 0 where the layout has none.
     pub fn address_of(&self, function: u32) -> u64
-        ensures { result ≡ slice_index self.now.addresses.items function }
+        ensures { result ≡ slice_index (contents self.now.addresses) function }
     {
-        self.addresses.get(function as usize).copied().unwrap_or(0)
+        self.addresses
+            .as_slice()
+            .get(function as usize)
+            .copied()
+            .unwrap_or(0)
     }
 }

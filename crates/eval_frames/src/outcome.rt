@@ -1,5 +1,5 @@
 //! How a run ends, and what is reported of it.
-use bs_words::{Call, Kind, Obs};
+use bs_words::{Call, Kind, List, Obs};
 
 /// How a run ends.
 #[derive(Debug, Drop)]
@@ -22,11 +22,11 @@ pub struct Eval {
     /// How it ended.
     pub outcome: Outcome,
     /// The external calls that were made, first to last.
-    pub calls: Vec<Call>,
+    pub calls: List<Call>,
     /// The most bytes of frames and tries that were active at once.
     pub stack_need: u64,
     /// The bytes of all blocks, their headers counted.
-    pub heap_need: u64,
+    pub heap_bytes: u64,
     /// The units of fuel that were not spent.
     pub left: u64,
 }

@@ -4,6 +4,7 @@ ghost use Rattle.cmm_eval.specs.Views.{layout_view};
 ghost use Rattle.correctness.specs.Setting as setting;
 ghost use Rattle.image_form.specs.Tables.{tables};
 
+use bs_words::List;
 use cmm_eval::Layout;
 use image_form::Image;
 use rv_machine::CODE_START;
@@ -21,5 +22,7 @@ pub fn layout(alloc: Global, image: &Image) -> Result<Layout, AllocError>
         frames.push(row.frame)?;
         addresses.push(CODE_START + u64::from(row.offset))?;
     }
+    let frames = List::from_vec(frames);
+    let addresses = List::from_vec(addresses);
     Ok(Layout { frames, addresses })
 }

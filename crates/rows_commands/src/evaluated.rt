@@ -4,6 +4,7 @@
 //! addresses of functions are made by hand here, so that no compiler has a part in what is shown. The lines are those of a
 //! second evaluator, written from the rules alone.
 use anyhow::{Result, bail};
+use bs_words::List;
 use cmm_eval::Layout;
 use cmm_front::front;
 use command_line::{CheckWords, Command, read_words};
@@ -21,7 +22,10 @@ fn layout(alloc: Global) -> Result<Layout, AllocError> {
         frames.push(32 + 16 * number)?;
         addresses.push(0x1_0010 + 64 * u64::from(number))?;
     }
-    Ok(Layout { frames, addresses })
+    Ok(Layout {
+        frames: List::from_vec(frames),
+        addresses: List::from_vec(addresses),
+    })
 }
 
 /// The check that these words ask for.

@@ -22,7 +22,7 @@ pub(crate) fn told_of(alloc: Global, eval: &Eval, fuel: u64) -> Result<List<u8>,
     };
     page.put_outcome(eval)?;
     page.put_need(b"stack", eval.stack_need)?;
-    page.put_need(b"heap", eval.heap_need)?;
+    page.put_need(b"heap", eval.heap_bytes)?;
     page.put_need(b"fuel", fuel.saturating_sub(eval.left))?;
     Ok(List::from_vec(page.bytes))
 }

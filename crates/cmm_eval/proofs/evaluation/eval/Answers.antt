@@ -4,6 +4,7 @@ use Rattle.std.proofs.lemmas.Option.{slice_get_past, slice_get-get_or}
 use Rattle.bs_words.specs.Contents.{contents}
 use Rattle.bs_words.specs.Memory.{Memory, end_of_data}
 use Rattle.bs_words.specs.Observed.{Made}
+use Rattle.bs_words.specs.declared.values.Call.{Call}
 use Rattle.bs_words.specs.declared.values.Value.{Value}
 use Rattle.bs_words.specs.declared.values.Value.TheVariants.{Word}
 use Rattle.cmm_tree.specs.View.{file_view, params_view}
@@ -79,7 +80,8 @@ returns c =
     c.new-2.ensures.items p.frames c.nobody.ensures c.none.ensures
     (ap (λ (h : here.Here). here_view h) p.here ∙ is-here ∙ ap here-at c.frame_of-frame.ensures)
     (ap (λ (w : world.World). world_view w) p.world ∙ is-world ∙ ap (λ (b : ℕ). deepened b begun) c.frame_of-frame.ensures) in
-    ap (λ (n : ℕ). record { outcome = outcome_view c.finished-outcome.result; calls = w.made; stack_need = w.stack_need; heap_need = n; left = w.left }) c.heap_need.ensures
+    ap (λ (l : List Call). record { outcome = outcome_view c.finished-outcome.result; calls = map call_view l; stack_need = w.stack_need; heap_need = c.heap_need.result; left = w.left }) c.from_vec-calls.ensures
+    ∙ ap (λ (n : ℕ). record { outcome = outcome_view c.finished-outcome.result; calls = w.made; stack_need = w.stack_need; heap_need = n; left = w.left }) c.heap_need.ensures
     ∙ sym (c.finished-outcome.ensures s h w)
     ∙ ap (finished layout) (c.in_ok-end.ensures.end ∙ stood)
     ∙ finished_back layout nobody (activated_held s frame (Some f.now) arguments 0 begun)
