@@ -19,7 +19,7 @@ pub record ChangedBelow (words now : List ℕ) (i : ℕ) : Type 0 where
   pub old_fits : get_or words at 0 < 2 ^ 64
   pub new_fits : get_or now at 0 < 2 ^ 64
 
--- the words below i have the bits of both, the others are as they were, and `changed` tells whether
+-- the words below i have the bits of both, the others are as they were, and `changed` says whether
 -- one is another
 pub record Adding (words others now : List ℕ) (i : ℕ) (changed : Bool) : Type 0 where
   pub len : length now ≡ length words
@@ -37,7 +37,7 @@ adding_none words others = record {
   differs = λ e. cc;
 }
 
--- what the flag is told of one word
+-- what the flag says of one word
 pub record Tells (changed changed' : Bool) (old new : ℕ) : Type 0 where
   pub same : changed' ≡ false → (changed ≡ false) × (new ≡ old)
   pub differs : changed' ≡ true → (changed ≡ true) ⊎ (new ≢ old)

@@ -33,7 +33,7 @@ has-members_all size words bits k =
           get_or_past (members size words) k false (omega (arith, length-members size words)) ∙ sym (ap (λ (n : ℕ). n == 1) (bits.rest k past))
     ]
 
--- a list that tells each number's bit is the set
+-- a list that says each number's bit is the set
 pub members_is : (marks : List Bool) (size : ℕ) (words : List ℕ) → length marks ≡ size → ((k : ℕ) → k < size → has marks k ≡ (bit words k == 1)) → marks ≡ members size words
 unfolding members
 members_is marks size words len each = fill_by_all (λ k. bit words k == 1) marks size false len each

@@ -1,4 +1,4 @@
-//! The words of a set: bit `k % 64` of word `k / 64` tells whether `k` is a member.
+//! The words of a set: bit `k % 64` of word `k / 64` says whether `k` is a member.
 ghost use Rattle.std.specs.Prelude.{◌≡◌, ℕ, ◌+◌, ◌*◌, ◌^◌, ◌<◌, ◌≤◌, length, slice_index, bit_or, MatchOption, IsTrue, IsFalse};
 ghost use Rattle.bs_bits.specs.Words.{Ors, Changed, IsNextBit, HasNoBitFrom};
 

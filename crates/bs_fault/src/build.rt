@@ -9,7 +9,7 @@ use thiserror::Error;
 /// Why no image was built of a file.
 #[derive(Debug, Drop, Error)]
 pub enum BuildError {
-    /// A section would pass its limit. It tells the first one.
+    /// A section would pass its limit. It reports the first one.
     #[error("a section of the image is too large")]
     TooLarge(Large),
     #[error("out of memory")]

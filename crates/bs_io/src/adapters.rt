@@ -8,7 +8,7 @@ use crate::sink::Sink;
 use crate::source::{Failed, Source};
 use std::io::{Read, Write};
 
-/// A source over a reader. Its count rises at each error of the reader. It tells no bytes.
+/// A source over a reader. Its count rises at each error of the reader. It shows no bytes.
 #[derive(Drop)]
 pub struct ReadSource<R> {
     reader: R,
@@ -38,11 +38,11 @@ impl<R: Read> Source for ReadSource<R> {
     ghost faults = { λ s. s.faults };
 
     fn read(&mut self, into: &mut [u8]) -> Result<usize, Failed>
-        // What the reader tells of its bytes holds of this read.
+        // What the reader shows of its bytes holds of this read.
         ensures bytes { ReadConsumes (R.remaining (reader_of self.old)) (R.remaining
             (reader_of self.new)) result into.new }
 
-        // The trait's clauses, where no byte is told.
+        // The trait's clauses, where no byte is shown.
         ensures within { IfOk result (λ count. count ≤ length into.new) }
         ensures failed { OnErr result (Risen self.old.faults self.new.faults) }
         ensures never_falls { self.old.faults ≤ self.new.faults }
@@ -58,7 +58,7 @@ impl<R: Read> Source for ReadSource<R> {
 }
 
 /// A sink over a writer. Its count rises at each error of the writer, and where it takes no byte of a
-/// nonempty piece. It tells no bytes.
+/// nonempty piece. It shows no bytes.
 #[derive(Drop)]
 pub struct WriteSink<W> {
     writer: W,
@@ -88,11 +88,11 @@ impl<W: Write> Sink for WriteSink<W> {
     ghost faults = { λ s. s.faults };
 
     fn write(&mut self, piece: &[u8]) -> Result<usize, Failed>
-        // What the writer tells of its bytes holds of this write.
+        // What the writer shows of its bytes holds of this write.
         ensures bytes { WriteAppends (W.contents (writer_of self.old)) (W.contents
             (writer_of self.new)) result piece.now }
 
-        // The trait's clauses, where no byte is told.
+        // The trait's clauses, where no byte is shown.
         ensures within { IfOk result (λ count. count ≤ length piece.now) }
         ensures failed { OnErr result (Risen self.old.faults self.new.faults) }
         ensures stuck { IfOk result (λ count. count ≡ 0 → 0 < length piece.now →

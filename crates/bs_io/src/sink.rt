@@ -9,7 +9,7 @@ use crate::source::Failed;
 ///
 /// A count that stands at the greatest `u64` stays there, and counts as risen.
 pub trait Sink {
-    // The bytes that the sink holds, where it tells them. Once told, they stay told.
+    // The bytes that the sink holds, where it shows them. Once shown, they stay shown.
     ghost held: { Self → Option (List ℕ) };
 
     // How many writes have failed.

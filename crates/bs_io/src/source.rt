@@ -11,7 +11,7 @@ pub struct Failed;
 ///
 /// A count that stands at the greatest `u64` stays there, and counts as risen.
 pub trait Source {
-    // The bytes that are left, where the source tells them. Once told, they stay told.
+    // The bytes that are left, where the source shows them. Once shown, they stay shown.
     ghost left: { Self → Option (List ℕ) };
 
     // How many reads have failed.

@@ -28,7 +28,7 @@ integer count (Some word) = little_endian count word
 integer count None = zeros count
 
 -- what stands where the address of a symbol is written. No symbol is a block, and one that is not defined
--- is told as a fault.
+-- is reported as a fault.
 abbrev pub symbol_bytes : Option Value → List DataByte
 symbol_bytes (Some (Word address)) = little_endian 8 address
 symbol_bytes (Some (Function f)) = replicate 8 (OfFunction f)

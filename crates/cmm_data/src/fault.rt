@@ -13,7 +13,7 @@ use cmm_tree::{DataItem, Datum, File, Item};
 
 /// The first fault of the static data of a file, in the order of its text: the item with which the data
 /// passes 16,777,216 bytes, counted from its start, the built-in list's 8 bytes included; or an item
-/// that breaks its rule. Where both stand on one item, the data is told to be too large.
+/// that breaks its rule. Where both stand on one item, the data is reported as too large.
 pub fn data_fault(file: &File) -> Option<Fault>
     ensures { result ≡ data_fault_of (file_view file.now) }
 {

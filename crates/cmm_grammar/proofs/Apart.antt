@@ -98,7 +98,7 @@ not_both_faults ts m n x y =
     let w : y.before ++ (y.bad ∷ []) ≡ x.before ++ (x.bad ∷ []) = ap (λ (v : List TokenTree). v ++ (y.bad ∷ [])) (sym z.before) ∙ ap (λ (v : TokenTree). x.before ++ (v ∷ [])) (sym z.bad) in
     x.holds.no_further (suc nesting) (subst (λ (v : List TokenTree). Begins (suc nesting) v) w y.holds.deeper)
 
--- ---- reading tells each
+-- ---- reading reports each
 
 -- an unexpected token stops reading
 pub unexpected_stops : (ts : List TokenTree) (left : ℕ) → Stands Unexpected ts left → items_at nesting ts ≡ Stops Stuck left

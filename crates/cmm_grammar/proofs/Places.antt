@@ -1,5 +1,5 @@
 -- Tokens are items, or end inside a form, or a token is unexpected, or a parenthesis too deep: exactly one of these,
--- at one place, and reading tells which.
+-- at one place, and reading says which.
 use Rattle.std.proofs.Common.{◌≡◌, ℕ, ◌+◌, ◌≤◌, suc, List, [], ◌∷◌, ◌++◌, length, refl, sym, ap, subst, ◌∙◌, arith, append_assoc}
 use Rattle.std.proofs.lemmas.List.{append-nil}
 use Rattle.cmm_lex.specs.Token.{TokenTree}
@@ -50,7 +50,7 @@ blocked e two before bad why stops b =
     let x = items_complete e b.0 ((before ++ (bad ∷ [])) ++ b.1) b.2 two in
     not_both b.0 [] why (suc (length b.1)) (sym (stops b.1) ∙ ap (items_at e) (sym (append_assoc before (bad ∷ []) b.1)) ∙ x)
 
--- ---- what reading tells
+-- ---- what reading says
 
 -- all tokens are read, as items
 pub read_items : (ts : List TokenTree) (items : List ItemTree) (rest : List TokenTree) → items_at nesting ts ≡ Read items rest → ItemsTaken nesting items ts rest

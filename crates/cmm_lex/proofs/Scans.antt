@@ -11,7 +11,7 @@ use Rattle.cmm_lex.proofs.Languages.{AreBytes}
 abbrev NoneBeyond : State → ℕ → List ℕ → Type 0
 NoneBeyond s n bs = (xs ys : List ℕ) (k : Shape) → bs ≡ xs ++ ys → accepts (run s xs) ≡ Some k → length xs ≤ n
 
--- a longest token of the bytes, with what the scan tells of it
+-- a longest token of the bytes, with what the scan reports of it
 abbrev Found : State → ℕ → List ℕ → Option (Shape × ℕ) → Type 0
 Found s n bs r =
     (k : Shape) × (xs ys : List ℕ) × (bs ≡ xs ++ ys) × (accepts (run s xs) ≡ Some k) × (r ≡ Some (k, n + length xs)) × NoneBeyond s (length xs) bs
@@ -106,7 +106,7 @@ unfolding accepts
 no_start [] short k a = cc
 no_start (b ∷ bs) short k a = omega arith
 
--- what the scan tells: the longest front that is accepted
+-- what the scan reports: the longest front that is accepted
 pub record Longest (bytes : List ℕ) (k : Shape) (n : ℕ) : Type 0 where
   pub text : List ℕ
   pub rest : List ℕ
@@ -133,7 +133,7 @@ scan-token bytes k n e = of_scanned (scan-is Start 0 None bytes)
           none_longer = λ xs ys j whole a. let short = h.6 xs ys j whole a in omega (arith, short, size);
         }
 
--- where it tells none, no front is accepted
+-- where it reports none, no front is accepted
 pub scan-none : (bytes : List ℕ) → scan Start 0 None bytes ≡ None
     → (xs ys : List ℕ) (k : Shape) → bytes ≡ xs ++ ys → accepts (run Start xs) ≡ Some k → ⊥
 scan-none bytes e = of_scanned (scan-is Start 0 None bytes)

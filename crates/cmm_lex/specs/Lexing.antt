@@ -80,7 +80,7 @@ first_range (t ∷ ts) = cond (is_out_of_range t.kind t.text) (Some (IntRange t.
 abbrev pub end_of : TokenTree → ℕ
 end_of t = t.at + length t.text
 
--- What the lexer tells of a text.
+-- What the lexer reports of a text.
 pub record IsLexed (text : List ℕ) (lexed : declared.Lexed) : Type 0 where
   pub cut : Splits 0 text (map (token_view text) (contents lexed.tokens)) lexed.fault
   -- each token ends where its bytes end

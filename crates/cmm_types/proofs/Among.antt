@@ -1,4 +1,4 @@
--- The faults that are gathered, and the one that is told of them.
+-- The faults that are gathered, and the one that is reported of them.
 use Rattle.std.proofs.Common.{◌≡◌, ◌<◌, ◌≤◌, Bool, true, false, cond, Option, Some, None, ◌⊎◌, inl, inr, refl, arith}
 use Rattle.std.proofs.lemmas.Bool.Decides.{nat_tests}
 use Rattle.bs_fault.specs.FaultLines.{fault_place}
@@ -47,7 +47,7 @@ precedes-false a b e =
     go (inl p) = further_left p
     go (inr p) = same_place p.0 p.1
 
--- what is told comes no later than this fault
+-- what is reported comes no later than this fault
 pub record ToldBy (result : Option Fault) (f : Fault) : Type 0 where
   pub told : Fault
   pub is : result ≡ Some told
@@ -99,7 +99,7 @@ noted_all-meets (One g) found f here = noted-new f found
 noted_all-meets (Both a b) found f (first m) = noted_all-keeps b (noted_all a found) f (noted_all-meets a found f m)
 noted_all-meets (Both a b) found f (second m) = noted_all-meets b (noted_all a found) f m
 
--- where the one that is told comes from
+-- where the one that is reported comes from
 pub noted_all-from : (fs : Faults) (found : Option Fault) (f : Fault) → noted_all fs found ≡ Some f → (found ≡ Some f) ⊎ Among f fs
 noted_all-from NoFault found f e = inl e
 noted_all-from (One g) None f e = inr (go e)

@@ -1,4 +1,4 @@
--- The fault that is told of a file is its leftmost one, and none is told where it has none.
+-- The fault that is reported of a file is its leftmost one, and none is reported where it has none.
 use Rattle.std.proofs.Common.{◌≡◌, ℕ, true, List, [], ◌∷◌, ◌++◌, Option, Some, None, is_none, ◌⊎◌, inl, inr, refl, ap, sym, ◌∙◌, subst}
 use mathlib.Core.Path.{fun_ext}
 use Rattle.std.specs.List.{Contains}
@@ -145,7 +145,7 @@ module _ (file : FileTree) where
       let P : Definitions → Type 0 = λ d. Among told (items_faults d file.items) in
       from_items told file.items (λ f c. c) (λ l c. c) (subst P lookups m)
 
-  -- what is told is exact
+  -- what is reported is exact
   pub told_is_leftmost : (told : Fault) → noted_all (file_faults file) None ≡ Some told → IsLeftmost (TypeFault file) told
   told_is_leftmost told e =
       record {

@@ -217,7 +217,7 @@ begin-typed ps ps' body e t =
     let P : List Scoped → Type 0 = λ l. IsAnnotated l body in
     subst P (sym (names-slots 0 (params_view ps') [] ∙ ap (λ (l : List Param). with_parameters (params_view l) []) e)) t
 
--- ---- what is told of a function
+-- ---- what is reported of a function
 
 pub told-in : (nodes : List node.Node) (entry : ℕ) (f : FunctionTree) (told : Option Limits)
     → ((bound point used : ℕ) → IsLiveIn f bound point used ↔ LeadsToBinding nodes bound point used entry)

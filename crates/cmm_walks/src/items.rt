@@ -6,7 +6,7 @@ use bs_words::{Name, Ty};
 use cmm_tree::{Binding, Case, Expr, Handler, Label};
 use std::alloc::{AllocError, Global};
 
-/// What a walk does, and tells.
+/// What a walk does, and reports.
 #[derive(Clone, Copy)]
 pub enum Action {
     /// Something is bound to a slot, at this place: an address or not.

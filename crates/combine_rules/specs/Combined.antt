@@ -13,7 +13,7 @@ use Rattle.mach_ir.specs.declared.mach.Mach.{Mach}
 
 -- ---- the open allocation
 --
--- A scan of the code has an open allocation, told by its bytes, or none: the last one that stays in
+-- A scan of the code has an open allocation, known by its bytes, or none: the last one that stays in
 -- the straight run so far, which later ones of the run may join.
 
 -- whether an allocation of these blocks joins the open one

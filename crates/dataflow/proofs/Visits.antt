@@ -48,7 +48,7 @@ absent_less (false ∷ xs) (true ∷ ys) =
 
 -- ---- a visit
 
--- what the calls of `visit` told
+-- what the calls of `visit` reported
 pub record Visit (f : flow.Flow) (rows : List (List Bool)) (p : ℕ) (set here here' : List Bool) (grew : Bool) : Type 0 where
   pub len : length rows ≡ length (contents f.places)
   pub within : p < length rows
@@ -123,7 +123,7 @@ visited f rows p set here here' grew v = record {
   fewer = visit_fewer f rows p set here here' grew v;
 }
 
--- what a call of `flow_back` told of the set
+-- what a call of `flow_back` reported of the set
 pub back_members : (f : flow.Flow) (rows lent : List (List Bool)) (p : ℕ) (x : place.Place) (set : List Bool) → p < length (contents f.places) → x ≡ get_or (contents f.places) p x → lent ≡ rows → ((r : ℕ) → has set r ≡ enters_place x lent r) →
     (r : ℕ) → has set r ≡ enters ((graph f).next p) ((graph f).aside p) ((graph f).reads p) ((graph f).writes p) rows r
 back_members f rows lent p x set within read e members r =

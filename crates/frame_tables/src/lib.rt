@@ -7,7 +7,7 @@
 //! A raise goes to the handler of the innermost trap that is pushed, which depends on the walk. So
 //! what is live is asked of places together with the traps that are pushed there: those that walks
 //! from the entry come to are searched first, and then those that come after a frame point to which
-//! no walk comes. The first search tells also how many traps are pushed before each line.
+//! no walk comes. The first search says also how many traps are pushed before each line.
 #![tactic(auto)]
 
 mod after;

@@ -1,5 +1,5 @@
 -- Reading the body of a section from its first byte on: the value of a field and the bytes after it, or
--- the first field that breaks a rule or passes the end of the body. A field is told by the number of
+-- the first field that breaks a rule or passes the end of the body. A field is known by the number of
 -- bytes of the body from it on.
 use Rattle.std.specs.Prelude.{◌≡◌, ℕ, zero, suc, ◌+◌, ◌-◌, ◌/◌, ◌%◌, Bool, true, ◌&&◌, ◌||◌, not, List, [], ◌∷◌, ◌++◌, length, take, drop, map, Option, Some, None, Result, Ok, Err, nat_lt, nat_le, ◌==◌, if◌then◌else◌}
 use Rattle.std.specs.List.{slice_get, list_all}
@@ -145,7 +145,7 @@ root_at data_len before =
     kept (λ n. ((n % 8 == 0) && nat_le (n + 8) data_len) && at_last (λ p. nat_lt p n) before)
     (number_at w32)
 
--- an entry that is there already is told at its result
+-- an entry that is there already is reported at its result
 unfoldable pub ext_at : List Ext → List ℕ → Result (Ext × List ℕ) ℕ
 ext_at before bytes = do
   name ← name_at bytes

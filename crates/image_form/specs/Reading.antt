@@ -68,7 +68,7 @@ section_at total name limits bytes = do
   n ← length_at total limits rest
   whole_at total n.0 n.1
 
--- what is read of a body, with a fault told by its place in the image: so many bytes before the end
+-- what is read of a body, with a fault known by its place in the image: so many bytes before the end
 -- of the body, after which these stand
 abbrev pub placed : {A : Type 0} → ℕ → List ℕ → Result A ℕ → Result A ImageRefusal
 placed total behind (Ok x) = Ok x
@@ -134,7 +134,7 @@ reading bytes = do
 abbrev pub NoImage : List ℕ → Type 0
 NoImage bytes = (image : declared.Image) → IsImage image → image_bytes image ≡ bytes → ⊥
 
--- What is refused is no image, and the fault told is the first.
+-- What is refused is no image, and the fault reported is the first.
 abbrev pub IsRefusalOf : List ℕ → ImageError → Type 0
 IsRefusalOf bytes errors.OutOfMemory = Unit {0}
 IsRefusalOf bytes (errors.Refused refusal) = NoImage bytes × (reading bytes ≡ Err refusal)

@@ -10,7 +10,7 @@ use thiserror::Error;
 /// Why no image was read.
 #[derive(Debug, Drop, Error)]
 pub enum ImageError {
-    /// No image has these bytes. It tells the first fault.
+    /// No image has these bytes. It reports the first fault.
     #[error("the bytes are no image")]
     Refused(ImageRefusal),
     #[error("out of memory")]
@@ -29,7 +29,7 @@ impl From<AllocError> for ImageError {
 #[derive(Debug, Drop)]
 pub(crate) enum Stop {
     Memory,
-    /// A field breaks a rule or passes the end of the body. It is told by the number of bytes of the
+    /// A field breaks a rule or passes the end of the body. It is known by the number of bytes of the
     /// body from the field on.
     Left(usize),
 }

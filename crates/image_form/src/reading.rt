@@ -146,7 +146,7 @@ fn section_from<'a>(
     whole_from(total, len, rest)
 }
 
-/// What was read of a body, with a fault told by its place in the image. After the body stand the
+/// What was read of a body, with a fault known by its place in the image. After the body stand the
 /// other bytes.
 fn placed<T>(total: usize, behind: &[u8], read: Result<T, Stop>) -> Result<T, ImageError>
     ensures { result ≡ placed_result total behind.now read }
@@ -317,7 +317,7 @@ fn image_from(alloc: Global, bytes: &[u8]) -> Result<Image, ImageError>
 /// The image that the bytes spell.
 ///
 /// It is refused exactly where no image has these bytes, with the first fault from the front. A
-/// fault in a field is told at the field's first byte, one of a name at its length, and bytes that
+/// fault in a field is reported at the field's first byte, one of a name at its length, and bytes that
 /// end too early at their end. Otherwise it fails only if memory runs out.
 pub fn read_image(alloc: Global, bytes: &[u8]) -> Result<Image, ImageError>
     // What is read is an image, and these are its bytes.

@@ -1,4 +1,4 @@
--- The offsets of branches, jumps and addresses, read as the machine reads them, lead to where they were told.
+-- The offsets of branches, jumps and addresses, read as the machine reads them, lead to where they were asked to.
 use Rattle.std.proofs.Common.{◌≡◌, ℕ, ◌+◌, ◌-◌, ◌*◌, ◌/◌, ◌%◌, ◌^◌, ◌<◌, ◌≤◌, ◌⊎◌, inl, inr, refl, arith, ◌∙◌, sym, ⊎_elim}
 use Rattle.std.proofs.lemmas.Bool.{cases_lt}
 use Rattle.bs_words.specs.Word.{add_word}

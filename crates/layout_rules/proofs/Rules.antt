@@ -28,7 +28,7 @@ jump_some Far = omega arith
 
 -- ---- descriptors
 
--- return offsets rise, from behind this one on
+-- return offsets rise, from after this one on
 RisesFrom : ℕ → List Desc → Type 0
 RisesFrom from [] = Unit {0}
 RisesFrom from (d ∷ ds) = (from < d.after) × RisesFrom d.after ds
@@ -48,7 +48,7 @@ unfolding RisesFrom
 in_order from [] rises = tt
 in_order from (d ∷ ds) rises = (in_order_first d ds rises.1, in_order d.after ds rises.1)
 
--- behind a piece of some words
+-- after a piece of some words
 past_words : {X : Type 0} (w prev at n : ℕ) (rest : List Desc) → 1 ≤ w → prev ≤ at → RisesFrom (4 * (at + (w + n))) rest →
     (prev ≤ at + w → (true ≡ true → prev < at + w) → RisesFrom (4 * (at + w + n)) rest → X) → X
 past_words w prev at n rest some h rises go =

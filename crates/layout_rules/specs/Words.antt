@@ -94,7 +94,7 @@ target_of n (SymbolAddress r name) = n.symbol name
 target_of n (ExternalNumber r row) = n.external (row_of row)
 target_of n (Descriptor d) = 0
 
--- the address of a place that is told from here, into a register
+-- the address of a place that is counted from here, into a register
 abbrev pub address_into : (rd at to : ℕ) → List Instr
 address_into rd at to =
     instr.Auipc rd (upper (distance at to))

@@ -42,7 +42,7 @@ first_here code k i lt e other = ap first_line (drop_line code k i lt e) ∙ by 
     by true s = absurd (other (label_is i.op i.args i.results s))
     by false s = refl
 
--- what is told of it
+-- what is said of it
 module _ (told : LinOp → (args results : List Spot) → Option ℕ) where
   abbrev told_of : Option Line → Option ℕ
   told_of None = None
@@ -60,7 +60,7 @@ module _ (told : LinOp → (args results : List Spot) → Option ℕ) where
   pub told_nowhere : (code : List Line) (first : Option Line) → first ≡ first_line code → first ≡ None → None ≡ first_goes told code
   told_nowhere code first e none = ap told_of (sym none ∙ e) ∙ told_of_first code
 
-  -- of a line there it is told where it goes, which another answer tells too
+  -- of a line there it is said where it goes, which another answer says too
   module _ (goes : ℕ → Flow) (is : (l : ℕ) (f : LinOp) (args results : List Spot) → told f args results ≡ Some l → line f args results ≡ bare (goes l)) (back : (l : ℕ) → told_of (Some (bare (goes l))) ≡ Some l) where
     told_is : (i : Line) (o : Option ℕ) → ((l : ℕ) → (o ≡ Some l) ↔ (i ≡ bare (goes l))) → o ≡ told i.op i.args i.results
     told_is i (Some l) exact = sym (ap (λ i. told_of (Some i)) ((exact l).0 refl) ∙ back l)
@@ -151,7 +151,7 @@ has_all : {X : Type 0} (m : Lin) (now all first : ℕ → X) (k : ℕ) → lengt
 has_all m now all first k le nowhere h l =
     ⊎_elim (λ e. e) (λ y. y.0 ∙ nowhere l (stands_nowhere l m.code (λ p d lt. y.1 p d (omega (arith, lt, le)) lt))) (h.each l)
 
--- a label is its own target, and no exit is told of it
+-- a label is its own target, and no exit is said of it
 abbrev pub own : ℕ → ℕ
 own l = l
 

@@ -118,7 +118,7 @@ no_exit m free i next o told none =
     by None e = refl
     by (Some l) e = absurd (let some = (told l).1 (exit_is l i.op i.args i.results e) in cc)
 
--- of an exit it is told where the label leads
+-- of an exit it is said where the label leads
 pub exit_there : (m : Lin) (free l : ℕ) (i : Line) (next : List Line) (o : Option ℕ) → ((l : ℕ) → (o ≡ Some l) ↔ (i ≡ bare (flow.Exit l))) →
     o ≡ Some l → exit_head m free i.op i.args i.results next ≡ cond (stands_first l next) None (head_at free (after_label l m.code))
 exit_there m free l i next o told some =

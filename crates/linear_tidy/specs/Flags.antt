@@ -1,4 +1,4 @@
--- Which lines have no use, told by tests.
+-- Which lines have no use, known by tests.
 use Rattle.std.specs.Prelude.{◌≡◌, ℕ, suc, ◌-◌, ◌<◌, Bool, true, false, List, [], ◌∷◌, drop, length, slice_index_or, IsTrue, IsFalse}
 use Rattle.lin_ir.specs.Formed.{IsSelfMove}
 use Rattle.lin_ir.specs.Meaning.{after_label}

@@ -148,7 +148,7 @@ after_store a unwritten (Ok m) = Goes [] On (record a { memory = m; unwritten = 
 after_store a unwritten (Err kind) = Stuck
 
 -- The first write of a header is none of an improper kind. It is the word that the allocation says,
--- since that word tells which values fit the cells.
+-- since that word says which values fit the cells.
 abbrev pub header_written : Chunk → Around → ℕ → Value → Value → Act
 header_written chunk.Int a s (value.Word header) (value.Word w) =
     only_if (nat_eq w header)

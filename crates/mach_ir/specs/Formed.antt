@@ -155,7 +155,7 @@ pub record CasesAgree (m : Mach) : Type 0 where
 -- ---- whole
 
 pub record WellFormed (m : Mach) : Type 0 where
-  -- a number tells a register
+  -- a number identifies a register
   pub numbers : (r q : Reg) → IsRegister m r → IsRegister m q → r.number ≡ q.number → r ≡ q
   -- a parameter is made from no other register
   pub params : All (λ (r : Reg). r.origin ≡ r.number) m.params

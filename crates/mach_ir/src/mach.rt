@@ -1,7 +1,7 @@
 //! The instructions of Mach.
 //!
 //! The code of a function is one list in the order of the text. The structures of the text (if,
-//! switch, catch, try) are told by marks in it. A label is that of the place after the mark that
+//! switch, catch, try) are given by marks in it. A label is that of the place after the mark that
 //! has it first.
 
 use crate::label::Label;

@@ -119,7 +119,7 @@ module _ (c : Place) (p q : Mach) (Suit : Around → Around → Type 0) (R : Sta
         origins_by zero le u v z w e h = first_by u v z w (running_same t u y z e) h
         origins_by (suc k) le u v z w e h = ((b.fine).fine).origins k (omega (arith, le)) u v z w e h
 
-    -- it comes to a state, from which this is told
+    -- it comes to a state, from which this is said
     came_to : {r : Run State} {xs : List Reg} {t : State} {y : Tally} → Agrees q xs t → Tells r (λ k. run c q k t y) →
         TellsFrom r xs (λ k. run c q k t y)
     came_to {r} {xs} {t} {y} agree b =

@@ -69,7 +69,7 @@ pub data ContinuesAlone (k : ℕ) : Evaluation → Evaluation → Type 0 where
       → OnwardAlone w (world_of e)
       → ContinuesAlone k (Stops OutOfFuel w) e
 
--- Two runs of one function of a file, the second with k more units. What is told of it is the same, but for k
+-- Two runs of one function of a file, the second with k more units. What is said of it is the same, but for k
 -- more units left; or the first is not finished, its external calls are the first ones of the second, and its
 -- needs are no greater.
 pub data RunsOn (k : ℕ) : Run → Run → Type 0 where

@@ -56,7 +56,7 @@ pub standing_at_first : (root : Move) (index : BTreeMap ℕ (Vec Move)) (before 
 standing_at_first root index before pending h =
     record { pending = pending; turns = length pending + length pending; holds = h; enough = omega arith; moves = refl; left = refl }
 
--- what a call of `take` tells
+-- what a call of `take` reports
 abbrev pub Takes : BTreeMap ℕ (Vec Move) → BTreeMap ℕ (Vec Move) → Loc → Option Move → Type 0
 Takes index index' here found = (moves : Moves) → Holds index moves → (found ≡ first_reader here moves) × Holds index' (others here moves)
 
@@ -176,7 +176,7 @@ pub draining_at_first : (place : Loc) (index : BTreeMap ℕ (Vec Move)) (before 
 draining_at_first place index before pending h =
     record { pending = pending; turns = length pending; holds = h; enough = omega arith; moves = refl; left = refl }
 
--- what a call of `walk` tells
+-- what a call of `walk` reports
 abbrev pub Walks : BTreeMap ℕ (Vec Move) → BTreeMap ℕ (Vec Move) → Move → Moves → Moves → Type 0
 Walks index index' root made made' = (moves : Moves) → Holds index moves → Finished index' made' made (walk_from root moves)
 

@@ -7,7 +7,7 @@ use Rattle.mach_ir.specs.Forms.{is_immediate}
 use Rattle.selection_rules.specs.Select.{immediate_of, commuted, if_commuted, right_immediate, left_immediate, power_of, exponent_from, right_of}
 use Rattle.selection_code.specs.Shapes.{integer_of}
 
--- what is told of the word, if there is one
+-- what is said of the word, if there is one
 abbrev pub told : {A : Type 0} → A → (ℕ → A) → Option ℕ → A
 told none some None = none
 told none some (Some w) = some w

@@ -1,4 +1,4 @@
--- The code of loads, stores and bound tests, where each part of it is told by an equation.
+-- The code of loads, stores and bound tests, where each part of it is given by an equation.
 use Rattle.std.proofs.Common.{◌≡◌, ℕ, suc, ◌+◌, ◌-◌, Bool, true, false, List, ◌∷◌, refl, ap, sym, ◌∙◌, arith}
 use Rattle.bs_words.specs.declared.types.Chunk.{Chunk}
 use Rattle.bs_words.specs.declared.types.Ty.{Ty}
@@ -21,7 +21,7 @@ use Rattle.selection_scope.specs.Scoping.{Visible, names_in}
 use Rattle.selection_code.specs.Shapes.{is_register}
 use Rattle.selection_scope.specs.declared.place.Place.{Place}
 
--- an expression, where its register, its first number and its tree are told by equations
+-- an expression, where its register, its first number and its tree are given by equations
 pub put-same : (env : List Named) (labels : List Label) (r x : Reg) (first b : ℕ) (e other : Expression) (next : List Instr)
     → r ≡ x
     → first ≡ b

@@ -1,4 +1,4 @@
--- The code of forms that take a row of operands, where each part of it is told by an equation.
+-- The code of forms that take a row of operands, where each part of it is given by an equation.
 use Rattle.std.proofs.Common.{◌≡◌, ℕ, suc, ◌+◌, ◌-◌, ◌&&◌, Bool, false, not, List, ◌∷◌, Option, length, ap, ◌∙◌, nat_le, ◌%◌, arith}
 use Rattle.bs_words.specs.declared.types.Chunk.{Chunk}
 use Rattle.bs_words.specs.declared.types.Chunk.TheVariants as chunk

@@ -1,4 +1,4 @@
--- The code of forms with one or two operands, where each part of it is told by an equation.
+-- The code of forms with one or two operands, where each part of it is given by an equation.
 use Rattle.std.proofs.Common.{◌≡◌, ℕ, false, List, ap, sym, ◌∙◌}
 use Rattle.cmm_tree.specs.Tree.{Expression}
 use Rattle.cmm_types.specs.Types.{type_of}

@@ -1,4 +1,4 @@
--- What the outline of an expression tells.
+-- What the outline of an expression says.
 use Rattle.std.specs.Prelude.{◌≡◌, ⊤, List}
 use Rattle.cmm_tree.specs.Tree.{Expression, Integer, Symbol, Name, Operator}
 use Rattle.cmm_tree.specs.View.{expr_view}

@@ -25,7 +25,7 @@ target_view t =
       tries = t.tries;
     }
 
--- the names alone, as types are told by
+-- the names alone, as types are known by
 abbrev pub names_in : Visible → List Scoped
 names_in scope = scopes scope.names
 

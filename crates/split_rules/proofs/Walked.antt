@@ -18,7 +18,7 @@ use Rattle.split_rules.specs.Split.{IsNaming}
 use Rattle.split_rules.specs.Writes.{Comes, from_write, past, past_raise}
 use Rattle.split_rules.proofs.Text.{same_label, same_handler, was_at, was_register, named_among, among_named}
 
--- ---- what is destroyed is told by places
+-- ---- what is destroyed is known by places
 
 at_same : (f : ℕ → ℕ) (l : Loc) (rs : List Reg) → is_at_one_of l (all_numbered f rs) ≡ is_at_one_of l rs
 at_same f l [] = refl
@@ -121,7 +121,7 @@ module _ (m : Mach) (names : Naming) (is : IsNaming m names)
       StandsFor x n (i ∷ next)
   stands_aside r s = λ from c. s from (past_raise c r)
 
-  -- what it wrote is told by where it goes on
+  -- what it wrote is known by where it goes on
   pub not_written : {x n : ℕ} {i : Instr} {next to : List Instr} → Stands i next m.code → Leads m i next to → StandsFor x n to →
       (Writes q (new next i) x → ⊥) → Writes m i n → ⊥
   not_written {x} {n} {i} {next} s l h free w =

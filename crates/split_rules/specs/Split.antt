@@ -58,7 +58,7 @@ pub record AreByFirst (m : Mach) (names : Naming) : Type 0 where
       ((from : List Instr) → Comes m n from (i ∷ next) → ⊥) → names.read (length next) n ≡ n
 
 -- Nothing but numbers of open registers has changed, writes have one number exactly where they are
--- joined, and which number is told by the first of them.
+-- joined, and which number is known by the first of them.
 pub record IsSplit (m q : Mach) : Type 0 where
   pub names : Naming
   pub is : q ≡ renamed names m

@@ -1,6 +1,6 @@
 -- Which writes of a register come to a place, and which of them are joined.
 --
--- A write is told by the code after it. The entry writes the parameters: after it comes the whole
+-- A write is known by the code after it. The entry writes the parameters: after it comes the whole
 -- code of the function.
 use Rattle.std.specs.Prelude.{ℕ, List, ◌∷◌}
 use Rattle.mach_ir.specs.Walks.{Among, Writes, Leads, Raises, Live, Stands}

@@ -1,4 +1,4 @@
-//! What a write of a register is told by.
+//! What a write of a register is known by.
 
 /// A write of a register: how many instructions come after it, and the register's number. The entry
 /// writes the parameters, before all instructions.

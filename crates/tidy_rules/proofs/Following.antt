@@ -69,7 +69,7 @@ record StandsAt (code : List Line) (f : Flow) : Type 0 where
   next : List Line
   between : LabelsBetween code (bare f ∷ next)
 
--- what is told of the first line that is no label is told of a jump, or of an exit
+-- what is said of the first line that is no label is said of a jump, or of an exit
 module _ (told : LinOp → (args results : List Spot) → Option ℕ) (goes : ℕ → Flow) (is : (l : ℕ) (f : LinOp) (args results : List Spot) → told f args results ≡ Some l → line f args results ≡ bare (goes l)) where
   stands_at : (code : List Line) (l : ℕ) → first_goes told code ≡ Some l → StandsAt code (goes l)
   stands_at [] l e = absurd (none-some l e)

@@ -3,7 +3,7 @@ use Rattle.cmm_lex.specs.Scanning.{behind_string, Fine}
 use Rattle.cmm_lex.specs.Strings.{BadEscape}
 use Rattle.cmm_lex.proofs.strings.bad_escape.Given as goal
 
--- what is told of the rest is told of all bytes
+-- what is said of the rest is said of all bytes
 abbrev pub invariant-loop-behind : goal.invariant-loop-behind
 invariant-loop-behind l =
     record {

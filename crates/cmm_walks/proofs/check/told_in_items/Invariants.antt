@@ -5,7 +5,7 @@ use Rattle.cmm_walks.specs.Refusal.{ToldAmong}
 use Rattle.cmm_types.specs.Typing.{AreItemsAnnotated}
 use Rattle.cmm_walks.proofs.check.told_in_items.Given as goal
 
--- what is told of the items so far, and the types of the others
+-- what is reported of the items so far, and the types of the others
 abbrev pub invariant-loop-item : goal.invariant-loop-item
 invariant-loop-item l = record {
   typed : AreItemsAnnotated (drop l.item-index l.items);
