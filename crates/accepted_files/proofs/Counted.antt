@@ -8,7 +8,7 @@ use Rattle.cmm_grammar.specs.Grammar.{a_token, a_data_item, data_items, data_lis
 use Rattle.cmm_grammar.specs.Spelling.{Spells, AreItems, none, more, nothing, token, both, leaf, brackets, parenthesis, inside, inside_first, not_inside, labelled, not_labelled, ended, one_more, present, absent, last, another}
 use Rattle.cmm_grammar.proofs.Paid.{moved, Two}
 
--- every value that the rule gives, n tokens having stood before, is so with the number of all tokens
+-- every value that the rule gives, n tokens having come before, is so with the number of all tokens
 abbrev Counts : {s : Sort} → Rule s → ℕ → (Value s → ℕ → Type 0) → Type 0
 Counts (Give s a) n Q = Q a n
 Counts (One s f) n Q = (a : Value s) → Q a (1 + n)

@@ -41,7 +41,7 @@ module _ (file : FileTree) (typed : (told : Fault) → TypeFault file told → �
       by None e = refl
       by (Some earlier) e = absurd (typed _ (repeated_symbol before behind s earlier whole e))
 
-  -- none of these is defined before, nor is one that stands after others
+  -- none of these is defined before, nor is one that is after others
   all_new : (before behind : List DefinedSymbol) → symbols file ≡ before ++ behind → AllByRecursion (λ (s : DefinedSymbol). definition_of before s.name ≡ None) behind
   all_new before [] whole = tt
   all_new before (s ∷ behind) whole = (

@@ -1,4 +1,4 @@
--- Laws and words of crates below, named once more for what stands above.
+-- Laws and words of crates below, named again for the crates above.
 pub use Rattle.selection_accepted.proofs.Beginning.{front_memory}
 pub use Rattle.selection_accepted.proofs.Promised.{front_setting, front_selects, function_accepted}
 pub use Rattle.selection_accepted.proofs.Selecting.{definitions, front_accepts, selectable, selectable_at}

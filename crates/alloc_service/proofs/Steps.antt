@@ -7,7 +7,7 @@ step xs i x h e =
     let n : suc i ≡ i + 1 = omega arith in
     drop-cons xs i x h ∙ ap (λ y. y ∷ drop (suc i) xs) (sym e) ∙ ap (λ k. x ∷ drop k xs) n
 
--- the same of numbers, with what stands past the end
+-- the same of numbers, with what is past the end
 pub step_at : (xs : List ℕ) (i : ℕ) → i < length xs → drop i xs ≡ get_or xs i 0 ∷ drop (i + 1) xs
 step_at xs i h =
     let n : suc i ≡ i + 1 = omega arith in

@@ -21,7 +21,7 @@ module _ (f : ℕ → ℕ) where
   kept m [] b n = refl
   kept m (a ∷ as') b n = kept (write m a (f (word m a))) as' b n.1 ∙ other_word m a b (f (word m a)) n.0
 
--- ---- words read from the old state, and as they stand
+-- ---- words read from the old state, and as they are
 
 -- the numbers that rise from a bound on are rewritten alike, where the words there are the old ones
 pub now_is :

@@ -42,7 +42,7 @@ roots_by test registers m first fs =
 
 -- ---- words that move
 
--- the words at these addresses are rewritten, each as it stands when its turn comes
+-- the words at these addresses are rewritten, each as it is when its turn comes
 abbrev pub redirected_now : (ℕ → ℕ) → List Region → List ℕ → List Region
 redirected_now f m [] = m
 redirected_now f m (a ∷ as') = redirected_now f (write m a (f (word m a))) as'

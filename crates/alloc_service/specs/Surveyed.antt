@@ -1,4 +1,4 @@
--- What stands on the stack.
+-- What is on the stack.
 use Rattle.std.specs.Prelude.{Bool, true, false, Option, Some, None}
 use Rattle.alloc_service.specs.declared.roots.Stack.{Stack}
 use Rattle.alloc_service.specs.declared.roots.Stack.TheVariants.{NoFrames, BadRoot, Fine}

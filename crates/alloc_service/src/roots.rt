@@ -1,4 +1,4 @@
-//! What the frames of the stack name, and whether it may stand there.
+//! What the frames of the stack name, and whether it may be there.
 ghost use Rattle.std.specs.Prelude.{◌≡◌, ◌≤◌, ◌<◌, ◌&&◌, true, cond, map, option_map, slice_index};
 ghost use Rattle.std.specs.List.{list_all};
 ghost use Rattle.bs_words.specs.Contents.{contents};
@@ -15,7 +15,7 @@ use bs_words::DATA_START;
 use image_form::{DescRow, Image};
 use rv_machine::{CODE_START, Memory, Table};
 
-/// What stands on the stack.
+/// What is on the stack.
 #[derive(Clone, Copy, PartialEq, Eq, Debug)]
 pub enum Stack {
     /// It does not read as frames.
@@ -26,7 +26,7 @@ pub enum Stack {
     Fine,
 }
 
-/// What stands on the stack: the frames are those from a return address and a stack pointer on.
+/// What is on the stack: the frames are those from a return address and a stack pointer on.
 pub fn survey(
     image: &Image,
     table: &Table,
@@ -75,7 +75,7 @@ fn both(a: bool, b: bool) -> bool
     a && b
 }
 
-// Whether all that one frame names may stand there; registers count in the first frame.
+// Whether all that one frame names may be there; registers count in the first frame.
 fn are_roots(
     image: &Image,
     table: &Table,
@@ -140,7 +140,7 @@ fn are_slot_roots(image: &Image, table: &Table, memory: &Memory, at: u64, entrie
     true
 }
 
-// Whether a word may stand where a location is named: an odd word, a block's start, or a word in the data
+// Whether a word may be where a location is named: an odd word, a block's start, or a word in the data
 // or in the code.
 fn is_root(image: &Image, table: &Table, word: u64) -> bool
     requires { IsImage image.now }

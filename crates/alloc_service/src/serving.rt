@@ -19,7 +19,7 @@ use rv_machine::{Cause, Machine};
 ///
 /// t0 is a multiple of 8 from 16 to 2,056, and the young blocks lie from s10 + t0 up to the young area's
 /// top, else `BadRequest`. Where all blocks do not fit a half it answers `HeapOut`. A stack that does not
-/// read as frames is `BadFrame`, and a word that may not stand where a frame names it `BadRoot`. Else the
+/// read as frames is `BadFrame`, and a word that may not be where a frame names it `BadRoot`. Else the
 /// blocks move to where the plan puts them, and what points to them is rewritten.
 ///
 /// A machine that is stopped, or has no heap, is left as it was. A count of the machine stays at the end

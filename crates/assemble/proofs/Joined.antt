@@ -21,7 +21,7 @@ AreCodes s at [] [] [] = Unit {0}
 AreCodes s at (p ∷ ps) (own ∷ forms) (part ∷ parts) = IsCode s at p own part × AreCodes s (at + total_words p.code own) ps forms parts
 AreCodes s at _ _ _ = ⊥
 
--- these functions stand from that number on
+-- these functions are from that number on
 abbrev Stand : Source → (from at : ℕ) → List Pieces → List (List Form) → Type 0
 Stand s from at ps forms =
     (k : ℕ) (p : Pieces) (own : List Form) → slice_get ps k ≡ Some p → slice_get forms k ≡ Some own →

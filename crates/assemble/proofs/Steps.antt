@@ -91,7 +91,7 @@ form_at [] i own h is = absurd (omega (arith, h))
 form_at (f ∷ all) zero own h is = ap own_forms is
 form_at (f ∷ all) (suc i) own h is = form_at all i own (omega (arith, h)) is
 
--- what stands at a place is what is read there
+-- what is at a place is what is read there
 pub same_at : {A : Type 0} (xs : List A) (i : ℕ) (x y : A) → slice_get xs i ≡ Some x → y ≡ get_or xs i y → y ≡ x
 same_at [] i x y got is = cc
 same_at (z ∷ xs) zero x y got is = cc

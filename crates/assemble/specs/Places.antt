@@ -1,4 +1,4 @@
--- Where functions begin, and in which forms their pieces stand.
+-- Where functions begin, and in which forms their pieces are laid.
 use Rattle.std.specs.Prelude.{◌≡◌, ℕ, ◌+◌, List, Some, map, slice_get}
 use Rattle.std.specs.List.{AllZip}
 use Rattle.assemble.specs.Sizes.{pieces_size}
@@ -28,7 +28,7 @@ IsLaidAt ps k own = (p : Pieces) → slice_get ps k ≡ Some p → IsLaid p own
 abbrev pub forms_in : Places → List (List Form)
 forms_in places = map (λ (own : Laid). own.forms.items) places.forms.items
 
--- These are the places of functions that are these pieces, which stand after the stub in order.
+-- These are the places of functions that are these pieces, which are after the stub in order.
 pub record ArePlaces (ps : List Pieces) (places : Places) : Type 0 where
   pub each : AllZip IsLaid ps places.forms.items
   pub forms : AreAllForms ps (forms_in places)

@@ -1,4 +1,4 @@
-//! Where functions begin, and in which forms their pieces stand.
+//! Where functions begin, and in which forms their pieces are laid.
 ghost use Rattle.std.specs.Prelude.{◌≡◌, ◌*◌, ◌<◌, ◌≤◌, ◌^◌, length, sum_by, IfOk};
 ghost use Rattle.std.specs.List.{AllZip};
 ghost use Rattle.assemble.specs.Places.{ArePlaces, IsLaid, IsLaidAt, size_of};
@@ -100,7 +100,7 @@ fn all_laid<R: Threads + Sync>(
 }
 
 impl Places {
-    /// The places of functions that stand after the stub, in order.
+    /// The places of functions that are after the stub, in order.
     pub fn of<R: Threads + Sync>(
         rt: &R,
         alloc: Global,

@@ -29,7 +29,7 @@ fault_word (AddrLive bound point used) = codes "F20 AddrLive"
 fault_word (AddrArgument at) = codes "F21 AddrArgument"
 fault_word (SwitchSize at) = codes "F22 SwitchSize"
 
--- where a fault stands, in bytes from the start of the text
+-- where a fault is, in bytes from the start of the text
 abbrev pub fault_place : Fault → ℕ
 fault_place (TooLong at) = at
 fault_place (BadToken at) = at

@@ -1,5 +1,5 @@
 -- The lines that the program writes for faults: the program's name, the number and the word of the
--- fault, and where it stands.
+-- fault, and where it is.
 use Rattle.std.specs.Prelude.{ℕ, List, ◌++◌, codes}
 use Rattle.std.specs.Fmt.{decimal}
 use Rattle.bs_fault.specs.declared.image.ImageFault.{ImageFault}

@@ -31,12 +31,12 @@ fault_number (AddrLive bound point used) = 20
 fault_number (AddrArgument at) = 21
 fault_number (SwitchSize at) = 22
 
--- one fault comes before another: it stands further left, or at the same place and has the lower number
+-- one fault comes before another: it is further left, or at the same place and has the lower number
 abbrev pub Precedes : Fault → Fault → Type 0
 Precedes a b =
     (fault_place a < fault_place b) ⊎ ((fault_place a ≡ fault_place b) × (fault_number a < fault_number b))
 
--- the fault that is reported of those that stand: none of them comes before it
+-- the fault that is reported of those that there are: none of them comes before it
 pub record IsLeftmost (stands : Fault → Type 0) (reported : Fault) : Type 0 where
   pub is_fault : stands reported
   pub none_before : (other : Fault) → stands other → ¬ Precedes other reported

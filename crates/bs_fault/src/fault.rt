@@ -23,7 +23,7 @@ pub enum Fault {
     TooDeep { at: u32 },
     /// F6: an integer is out of range.
     IntRange { at: u32 },
-    /// F7: more than 16 parameters or arguments. It stands at the seventeenth.
+    /// F7: more than 16 parameters or arguments. It is at the seventeenth.
     TooManyParams { at: u32 },
     /// F8: a function has more than 32,000 tokens.
     FunctionTooLong { at: u32 },
@@ -39,7 +39,7 @@ pub enum Fault {
     DuplicateSymbol { at: u32 },
     /// F14: another number of arguments than parameters.
     Arity { at: u32 },
-    /// F15: an expression without a value stands where a value is taken.
+    /// F15: an expression without a value is where a value is taken.
     NoValue { at: u32 },
     /// F16: an assignment to a name that is not mutable.
     NotMutable { at: u32 },

@@ -19,7 +19,7 @@ pub enum ImageFault {
     Section,
     /// G5: a length or a field breaks a rule, or passes the end of its body.
     Table,
-    /// G6: bytes stand after the last section.
+    /// G6: bytes are after the last section.
     Trailing,
 }
 

@@ -7,7 +7,7 @@ ghost use Rattle.bs_fault.specs.Reported.{precedes, noted, noted_all, one_if, on
 use crate::fault::Fault;
 
 impl Fault {
-    /// Where the fault stands, in bytes from the start of the text; of an address that is used, where the
+    /// Where the fault is, in bytes from the start of the text; of an address that is used, where the
     /// use is.
     pub fn place(self) -> u32
         ensures { result ≡ fault_place self }
@@ -76,7 +76,7 @@ impl Fault {
         }
     }
 
-    /// Whether this fault comes before another: it stands further left, or at the same place and has the
+    /// Whether this fault comes before another: it is further left, or at the same place and has the
     /// lower number.
     pub fn precedes(self, other: Fault) -> bool
         ensures { result ≡ precedes self other }

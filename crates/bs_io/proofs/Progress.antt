@@ -1,4 +1,4 @@
--- What stands on the way of a whole read and a whole write.
+-- What holds on the way of a whole read and a whole write.
 use Rattle.std.proofs.Common.{◌≡◌, ℕ, ◌+◌, ◌-◌, ◌<◌, ◌≤◌, List, [], ◌++◌, length, take, drop, Option, None, Some, refl, sym, ap, subst, ◌∙◌, arith, append-nil, length-drop, take_all, drop_of_length-le, take-append-drop}
 use Rattle.std.specs.Io.KnownBytes.{Appends, Consumes, Keeps}
 use Rattle.std.proofs.KnownBytes.{Appends-trans, Appends-kept, Consumes-trans}
@@ -64,7 +64,7 @@ Consumes-over a b c before room lent after size filled n long was front same kep
 
 -- ---- a source over memory
 
--- the bytes that were copied are the front of what was left, and the rest stands after them
+-- the bytes that were copied are the front of what was left, and the rest is after them
 pub Consumes-copied : (left bytes slice front : List ℕ) (taken n : ℕ) → left ≡ drop taken bytes → slice ≡ bytes
     → front ≡ take n (take (length slice - taken) (drop taken slice)) → left ≡ front ++ drop (taken + n) bytes
 Consumes-copied left bytes slice front taken n was same copied =

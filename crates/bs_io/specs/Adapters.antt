@@ -1,4 +1,4 @@
--- What stands after an adapter.
+-- What is after an adapter.
 use Rattle.bs_io.specs.declared.adapters.ReadSource.{ReadSource}
 use Rattle.bs_io.specs.declared.adapters.WriteSink.{WriteSink}
 

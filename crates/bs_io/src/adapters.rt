@@ -1,4 +1,4 @@
-//! The edge to std: a source over a reader and a sink over a writer. They tell no bytes.
+//! The edge to std: a source over a reader and a sink over a writer. They show no bytes.
 ghost use Rattle.std.specs.Prelude.{◌≡◌, ◌≤◌, ◌<◌, length, None, IfOk, OnErr};
 ghost use Rattle.std.specs.Io.KnownBytes.{ReadConsumes, WriteAppends};
 ghost use Rattle.bs_io.specs.Adapters.{reader_of, writer_of};

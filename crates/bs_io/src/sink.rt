@@ -7,7 +7,7 @@ use crate::source::Failed;
 
 /// Bytes that were written, which may be known, and a count of faults that never falls.
 ///
-/// A count that stands at the greatest `u64` stays there, and counts as risen.
+/// A count that is at the greatest `u64` stays there, and counts as risen.
 pub trait Sink {
     // The bytes that the sink holds, where it shows them. Once shown, they stay shown.
     ghost held: { Self → Option (List ℕ) };

@@ -9,7 +9,7 @@ pub struct Failed;
 
 /// Bytes to be read, some of which may be known, and a count of faults that never falls.
 ///
-/// A count that stands at the greatest `u64` stays there, and counts as risen.
+/// A count that is at the greatest `u64` stays there, and counts as risen.
 pub trait Source {
     // The bytes that are left, where the source shows them. Once shown, they stay shown.
     ghost left: { Self → Option (List ℕ) };

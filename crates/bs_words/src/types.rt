@@ -60,7 +60,7 @@ pub enum Chunk {
     Val,
 }
 
-/// Where a register of the middle languages stands.
+/// Where a register of the middle languages is.
 #[derive(Clone, Copy, PartialEq, Eq, Debug)]
 pub enum Loc {
     Unset,

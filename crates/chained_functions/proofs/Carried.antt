@@ -55,7 +55,7 @@ use Rattle.mach_laws.proofs.Instructions.{instr}
 
 -- ---- tries
 
--- so many tries at most stand round each place of a code
+-- so many tries at most are round each place of a code
 abbrev AllTries : ℕ → List Instr → Type 0
 AllTries k [] = Unit {0}
 AllTries k (i ∷ is) = (length (tries_at (i ∷ is)) ≤ k) × AllTries k is
@@ -184,7 +184,7 @@ module _ (number : ℕ → ℕ) where
   lowered_closed carried.at_return = closes
   lowered_closed (carried.further {i = i} {is = is} e) = let c = lowered_closed e in either_close (is_idle i.op i.args i.results) c (lines_close i.op i c)
 
--- a label after a line stands after it, or is the line
+-- a label after a line is after it, or is the line
 behind : (l : ℕ) (f : LinOp) {ls : List ℕ} → IsIn l (label_of f ++ ls) → has_label l f ≡ false → IsIn l ls
 behind l (lin.Op f) z e = z
 behind l (lin.Flow (flow.Label k)) is_first e = absurd (true≢false (sym (eq-eqb k k refl) ∙ e))

@@ -99,7 +99,7 @@ module _ {defined : List ℕ → Option DefinedSymbol} {tree : FunctionTree} (ac
   tidies : Tidies (lowered q) m
   tidies = tidied_tidies first linear.made
 
-  -- No more traps are pushed at a place than tries stand round one of the text.
+  -- No more traps are pushed at a place than tries are round one of the text.
   pub depth : (code : List Line) (traps : List ℕ) → Traps m code traps → length traps ≤ tries tree
   depth code traps (by_walk r) = tidied_shallow (tries tree) first tidies (lowered_shallow q is.formed is.placed (tries tree) is.tries) code traps r
   depth code traps (unreached out) = omega arith

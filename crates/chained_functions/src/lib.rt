@@ -17,7 +17,7 @@ ghost use Rattle.made_once.specs.Made.{IsMadeOf};
 ghost use Rattle.rv_pieces.specs.declared.piece.Pieces.{Pieces};
 ghost use Rattle.placed_functions.specs.Known.{IsAccepted};
 
-/// Law: no more traps are pushed at a place of a compiled function than tries stand round one of its text.
+/// Law: no more traps are pushed at a place of a compiled function than tries are round one of its text.
 pub fn traps_are_few()
     ensures { (defined : List ℕ →
         Option DefinedSymbol) (tree : FunctionTree) (m : Lin) (ds : List Descr)

@@ -27,7 +27,7 @@ keeps_rule address (Skip (Some count)) = not (is_negative count)
 keeps_rule address (Align (Some unit)) = is_unit unit
 keeps_rule address _ = true
 
--- the fault that stands on an item, if one does: where both do, the data is reported as too large
+-- the fault that is on an item, if one is: where both are, the data is reported as too large
 abbrev pub fault_on : PlacedItem → Option Fault
 fault_on i =
     cond (passes_limit i) (Some (DataTooLarge i.at)) (cond (keeps_rule i.address i.datum) None (Some (DataItem i.at)))

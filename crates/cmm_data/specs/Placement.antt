@@ -34,7 +34,7 @@ skipped count = cond (is_negative count) 0 count
 abbrev pub aligned : ℕ → ℕ → ℕ
 aligned address unit = cond (is_unit unit) (to_multiple address unit) 0
 
--- the bytes of an item that stands at an address. An integer out of range has no word: its item keeps the
+-- the bytes of an item that is at an address. An integer out of range has no word: its item keeps the
 -- size that it has at every word, and skips and aligns nothing. A float has no bytes: it is refused.
 abbrev pub size_at : ℕ → DatumTree → ℕ
 size_at address (Define name) = 0
@@ -149,7 +149,7 @@ pub record Definition : Type 0 where
 abbrev pub definition_of_data : DataSymbolTree → Definition
 definition_of_data s = record { name = s.name; value = value.Word s.address }
 
--- what items define that stand from an address on
+-- what items define that are from an address on
 abbrev pub defined_at : ℕ → List DataItemTree → List Definition
 defined_at address items = map definition_of_data (symbols_among (items_from address items))
 

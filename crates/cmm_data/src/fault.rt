@@ -13,7 +13,7 @@ use cmm_tree::{DataItem, Datum, File, Item};
 
 /// The first fault of the static data of a file, in the order of its text: the item with which the data
 /// passes 16,777,216 bytes, counted from its start, the built-in list's 8 bytes included; or an item
-/// that breaks its rule. Where both stand on one item, the data is reported as too large.
+/// that breaks its rule. Where both are on one item, the data is reported as too large.
 pub fn data_fault(file: &File) -> Option<Fault>
     ensures { result ≡ data_fault_of (file_view file.now) }
 {
@@ -29,7 +29,7 @@ pub fn data_fault(file: &File) -> Option<Fault>
     None
 }
 
-/// The first address past the items, the first of which stands at the address, or the first fault
+/// The first address past the items, the first of which is at the address, or the first fault
 /// among them.
 fn end_of_items(start: u64, items: &[DataItem]) -> Result<u64, Fault>
     requires { start ≤ data_start + data_limit }

@@ -83,7 +83,7 @@ fn built_in_list(alloc: Global) -> Result<DataCells, AllocError>
     })
 }
 
-/// The cells of a list whose items stand from the address on. Its symbols and its root cells are added to
+/// The cells of a list whose items are from the address on. Its symbols and its root cells are added to
 /// those of the lists before it.
 fn place_items(
     alloc: Global,

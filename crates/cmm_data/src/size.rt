@@ -45,7 +45,7 @@ fn aligned(address: u64, unit: u64) -> u64
     }
 }
 
-/// The bytes of an item that stands at the address. A negative `skip` and an `align` to no power of two
+/// The bytes of an item that is at the address. A negative `skip` and an `align` to no power of two
 /// from 1 to 4,096 have none.
 pub(crate) fn size_at(address: u64, datum: &Datum) -> u64
     ensures { result ≡ size_at address (datum_view datum.now) }

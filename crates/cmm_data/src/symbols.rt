@@ -82,7 +82,7 @@ impl<'a> SymbolTable<'a> {
         }
     }
 
-    /// Adds the symbols of a list, whose items stand from the address on, and answers its end.
+    /// Adds the symbols of a list, whose items are from the address on, and answers its end.
     fn define_items(&mut self, start: u64, items: &'a [DataItem]) -> Result<u64, AllocError>
         requires within { start ≤ data_start + data_limit }
         requires faultless { first_fault (items_from start (map data_item_view items.now)) ≡ None }

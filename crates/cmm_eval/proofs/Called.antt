@@ -100,7 +100,7 @@ frame_asks_one s frames end written call h w a left e none =
     sym (ap (λ (l : List ℕ). resume s frames (returned written h (frame_answered end written call l w))) (e ∙ ap (λ l. a ∷ l) none)
     ∙ ap (λ x. resume s frames (returned written h x)) (one_asks end written call a w))
 
--- the call has been made, and what it gives or raises stands
+-- the call has been made, and what it gives or raises is there
 pub frame_taken : (s : Surroundings) (frames : List Frame) (end : ℕ) (written : Ret) (call : Made) (h : Here) (w : World) (first second : ℕ)
     (rest left : List ℕ) (calls : List Made) (now : World → Evaluation) → w.answers ≡ first ∷ rest → rest ≡ second ∷ left →
     calls ≡ w.made ++ call ∷ [] →

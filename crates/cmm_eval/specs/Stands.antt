@@ -9,11 +9,11 @@ use Rattle.eval_frames.specs.declared.around.Surroundings.{Surroundings}
 use Rattle.eval_frames.specs.declared.frame.Now.{Now}
 use Rattle.cmm_eval.specs.declared.machine.Machine.{Machine}
 
--- the evaluation that stands in the machine, with all that is still to be done
+-- the evaluation that is in the machine, with all that is still to be done
 abbrev pub stands_in : evaluation.Surroundings → Machine → Now → Evaluation
 stands_in s m now = resume s m.frames.items (standing s now (here_view m.here) (world_view m.world))
 
--- the machine's frames round this evaluation from where it stands
+-- the machine's frames round this evaluation from where it is
 abbrev pub goes_on_in : evaluation.Surroundings → Machine → (Here → World → Evaluation) → Evaluation
 goes_on_in s m e = resume s m.frames.items (e (here_view m.here) (world_view m.world))
 

@@ -85,7 +85,7 @@ abbrev pub begins_plain : List ℕ → Bool
 begins_plain [] = false
 begins_plain (b ∷ bs) = not (b == 34) && not (b == 40)
 
--- A token that ends where one of the bytes stands that end tokens.
+-- A token that ends where one of the bytes is that end tokens.
 pub record Word (k : TokenKind) (text : List ℕ) : Type 0 where
   pub is : IsToken k text
   pub bytes : AreBytes text

@@ -30,7 +30,7 @@ some-tokens : (n : ℕ) → 1 ≤ most_tokens_in n
 some-tokens zero = omega arith
 some-tokens (suc n) = omega arith
 
--- How an expression is read that stands at a place.
+-- How an expression is read that is at a place.
 pub record Reading (n : ℕ) (e : Drawn) (at : ℕ) : Type 0 where
   pub tree : Expression
   pub spelled : Spelled (drawn_text e) at tree (most_tokens_in n) (levels_in n)

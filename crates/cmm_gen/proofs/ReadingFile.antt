@@ -89,7 +89,7 @@ flat-parts s p q b = simp append_assoc
 flat-line : (j : ℕ) (f : DrawnFunction) → function_text j f ≡ line_text j (bindings_text j f)
 flat-line j f = flat-parts (symbol_of j) (drawn_text f.p) (drawn_text f.q) (body_text j f.b)
 
--- How a function is read whose line stands at a place.
+-- How a function is read whose line is at a place.
 pub record ReadingFunction (j : ℕ) (f : DrawnFunction) (at : ℕ) : Type 0 where
   pub tokens : List TokenTree
   pub part : FunctionPart
@@ -218,7 +218,7 @@ pub data AreWithin : List DrawnFunction → Type 0 where
   none_within : AreWithin []
   more_within : (f : DrawnFunction) (fs : List DrawnFunction) → IsFunctionWithin f → AreWithin fs → AreWithin (f ∷ fs)
 
--- How the lines of functions are read that stand at a place.
+-- How the lines of functions are read that are at a place.
 pub record ReadingLines (j : ℕ) (fs : List DrawnFunction) (at : ℕ) : Type 0 where
   pub tokens : List TokenTree
   pub items : List ItemTree

@@ -152,7 +152,7 @@ fn write_function(text: &mut String, words: &mut Lcg64Xsh32, number: u32) -> Res
 
 /// The text of a file of so many functions, from 1 to 1,000, as the words of a seed draw it.
 ///
-/// Function J, from 0, is the line `(function "gJ" (x:int y:int) (let p E (let q E B)))`. For each `E` stands an
+/// Function J, from 0, is the line `(function "gJ" (x:int y:int) (let p E (let q E B)))`. Each `E` is an
 /// expression that is drawn for it. `B` is such an `E` in function 0, and else `(+ (app "gI" p q int) E)`, where I is
 /// J - 1.
 ///

@@ -1,4 +1,4 @@
--- Where reading stops: what stands before can be finished, and with the token there reading stops so, whatever follows.
+-- Where reading stops: what is before can be finished, and with the token there reading stops so, whatever follows.
 use Rattle.std.proofs.Common.{◌≡◌, ℕ, ◌≤◌, zero, suc, true, List, [], ◌∷◌, ◌++◌, length, ◌⊎◌, inl, inr, refl, sym, ap, subst, ◌∙◌, arith, append_assoc}
 use Rattle.cmm_lex.specs.Token.{TokenTree}
 use Rattle.cmm_grammar.specs.Words.{is_open}

@@ -1,4 +1,4 @@
--- Where reading stops in what stands any number of times.
+-- Where reading stops in what comes any number of times.
 use Rattle.std.proofs.Common.{◌≡◌, ℕ, ◌<◌, ◌≤◌, zero, suc, Bool, true, false, cond, List, [], ◌∷◌, ◌++◌, length, refl, sym, ap, subst, ◌∙◌, arith, length-append}
 use Rattle.cmm_lex.specs.Token.{TokenTree}
 use Rattle.cmm_grammar.specs.Rule.{Sort, Value, Listed, Rule, Until, Repeat}

@@ -12,7 +12,7 @@ pub record Two (A B : Type 0) : Type 0 where
   pub first : A
   pub second : B
 
--- every value that the rule gives, n tokens having stood before, is so with the number of all tokens
+-- every value that the rule gives, n tokens having come before, is so with the number of all tokens
 abbrev pub Pays : {s : Sort} → Rule s → ℕ → (Value s → ℕ → Type 0) → Type 0
 Pays (Give s a) n Q = Q a n
 Pays (One s f) n Q = (t : TokenTree) (a : Value s) → f t ≡ Some a → Q a (1 + n)

@@ -101,7 +101,7 @@ then_halts forms s t d r k fine so one next ts why left p = go (bind_stops (read
 a_close_bracket : TokenTree
 a_close_bracket = of_kind (kind.Sign sign.CloseBracket)
 
--- after an opening bracket stands none that closes it
+-- after an opening bracket there is none that closes it
 bracket_stop : (d : ℕ) (t : TokenTree) (cs : List TokenTree) → is_open_bracket t ≡ true
     → ((zs : List TokenTree) → Alike cs zs → bracket_at t.at zs ≡ Stops Stuck (length zs))
     → Halted AnExpression d Expr Stuck (t ∷ cs) (length cs)

@@ -1,6 +1,6 @@
--- The grammar of Cmm texts: what stands in each form, and the tree that it gives.
+-- The grammar of Cmm texts: what is in each form, and the tree that it gives.
 --
--- A star in a comment is any number, a plus at least one. A rule that stands after a parenthesis holds the
+-- A star in a comment is any number, a plus at least one. A rule that is after a parenthesis holds the
 -- one that closes it too.
 use Rattle.std.specs.Prelude.{ℕ, Bool, true, false, List, [], ◌∷◌, Option, Some, None, option_map, is_some}
 use Rattle.bs_words.specs.declared.types.Chunk.{Chunk}
@@ -269,7 +269,7 @@ case_body numbers = do
     end ← a_token ends_case
     give (record { indexes = numbers; body = sequence e es; goes_on = is_case end }))
 
--- what stands after the first `case` of a case: integer : (case integer :)* expr+, and the next `case`, or )
+-- what is after the first `case` of a case: integer : (case integer :)* expr+, and the next `case`, or )
 unfoldable pub a_case : Rule ACase
 a_case = do
   i ← case_number
@@ -371,7 +371,7 @@ try_form at = do
   handler ← sequence_to_close
   give (Try at body name.at name.text handler)
 
--- what stands after the word of a form that opens at this place
+-- what is after the word of a form that opens at this place
 unfoldable pub form_of : ℕ → ℕ → Head → Rule AnExpression
 form_of at word_at head.Let = let_form at a_binding
 form_of at word_at head.Letmut = let_form at a_mutable_binding

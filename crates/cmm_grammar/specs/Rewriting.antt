@@ -1,4 +1,4 @@
--- The forms that stand for others. Every node that a rewriting makes stands at the `(` of its form.
+-- The forms that stand for others. Every node that a rewriting makes is at the `(` of its form.
 use Rattle.std.specs.Prelude.{ℕ, ◌*◌, ◌%◌, ◌^◌, zero, suc, []}
 use Rattle.bs_words.specs.declared.operators.IntOp.TheVariants as op
 use Rattle.bs_words.specs.declared.types.Chunk.{Chunk}

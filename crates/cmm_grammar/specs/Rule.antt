@@ -1,4 +1,4 @@
--- Rules of a grammar: what stands one after the other, and what it gives.
+-- Rules of a grammar: what comes one after the other, and what it gives.
 use Rattle.std.specs.Prelude.{ℕ, Bool, List, Option}
 use Rattle.cmm_lex.specs.Token.{TokenTree}
 use Rattle.cmm_tree.specs.Tree.{Expression, Parameter, Declaration, Index, DatumTree, DataItemTree}

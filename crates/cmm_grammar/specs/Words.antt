@@ -296,7 +296,7 @@ data_keyword _ = None
 abbrev pub data_word_of : TokenTree → Option (TokenTree × DataWord)
 data_word_of t = cond (is_symbol_token t) (Some (t, item.Define)) (marked data_keyword t)
 
--- what stands after `val`: a symbol or an integer
+-- what is after `val`: a symbol or an integer
 abbrev pub val_of : TokenTree → Option DatumTree
 val_of t =
     cond (is_symbol_token t) (Some (Address true t.at (string_bytes t.text)))

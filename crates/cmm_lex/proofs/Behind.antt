@@ -1,4 +1,4 @@
--- What may stand after a byte, as a form again.
+-- What may be after a byte, as a form again.
 use Rattle.std.proofs.Common.{◌≡◌, ℕ, Bool, true, false, cond, ◌&&◌, ◌||◌, ◌⊎◌, leb, List, [], ◌∷◌, ◌++◌, refl, sym, ap, subst, ◌∙◌, inl, inr, le-leb, leb-true}
 use Rattle.std.proofs.lemmas.Bool.{false≢true, and_parts, and_from, or_cases, or_left, or_right}
 use Rattle.cmm_lex.specs.Form.{Form, Nothing, Empty, Between, Then, Either, Many, Repeats, none, more, Matches}
@@ -37,7 +37,7 @@ has_empty (Then f g) = has_empty f && has_empty g
 has_empty (Either f g) = has_empty f || has_empty g
 has_empty (Many f) = true
 
--- what stands after this byte
+-- what is after this byte
 abbrev pub behind : ℕ → Form → Form
 behind b Nothing = Nothing
 behind b Empty = Nothing
@@ -183,7 +183,7 @@ between-to b l h xs true e a =
     (b, leb-true l b p.0, leb-true b h p.1, ap (λ (v : List ℕ). b ∷ v) a)
 between-to b l h xs false e a = absurd a
 
--- what has the form and begins with the byte goes on with what stands after it
+-- what has the form and begins with the byte goes on with what is after it
 pub behind-from : (b : ℕ) (f : Form) (xs : List ℕ) → Matches f (b ∷ xs) → Matches (behind b f) xs
 unfolding Matches
 behind-from b Nothing xs m = absurd m

@@ -107,7 +107,7 @@ braces-to inside rest (brace_byte b bytes other h) =
 is_both : (a b x y : ℕ) → a ≡ x → b ≡ y → (a == x && b == y) ≡ true
 is_both a b x y e f = and_from _ _ (eq-eqb a x e) (eq-eqb b y f)
 
--- a sign of two bytes does not stand across the end
+-- a sign of two bytes is not across the end
 no_sign : (b c x y : ℕ) (bs inside rest : List ℕ)
     → (b == x && c == y) ≡ false
     → c ∷ bs ≡ inside ++ rest

@@ -91,7 +91,7 @@ by_letter a v bs rest is found =
       same = ap behind_string r;
     }
 
--- no code stands there
+-- no code is there
 letter_alone : (a : ℕ) → (is_letter_escape a || false) ≡ true → is_letter_escape a ≡ true
 letter_alone a e = elim (or_cases _ _ e) [ inl h ↦ h | inr h ↦ absurd (false≢true h) ]
 

@@ -1,4 +1,4 @@
--- What stands at the front of a text.
+-- What is at the front of a text.
 use Rattle.std.proofs.Common.{◌≡◌, ℕ, ◌+◌, ◌-◌, ◌≤◌, ◌<◌, suc, zero, Bool, true, false, cond, ◌&&◌, ◌==◌, eqb-true, List, [], ◌∷◌, ◌++◌, length, drop, Some, None, Contains, lit<, ◌⊎◌, refl, sym, ap, subst, ◌∙◌, inl, inr, arith, length-append, append-nil}
 use Rattle.std.proofs.lemmas.Bool.{false≢true, and_parts, or_cases}
 use Rattle.bs_fault.specs.declared.fault.Fault.TheVariants.{BadToken, Unclosed}
@@ -107,7 +107,7 @@ bad-string bytes front back offset at cut ends bad =
     subst (λ (v : List ℕ). IsFault at (34 ∷ v) (BadToken (at + (1 + offset)))) (sym cut)
     (subst (λ (p : ℕ). IsFault at (34 ∷ (front ++ back)) (BadToken p)) place (bad_escape at offset front back ends bad))
 
--- a bad escape stands in the bytes
+-- a bad escape is in the bytes
 pub bad-within : (n : ℕ) (bytes : List ℕ) → BadEscape n bytes → n < length bytes
 bad-within n bytes (here bs none) = omega arith
 bad-within n bytes (past_plain m b bs x y h) = let less = bad-within m bs h in omega arith
@@ -294,7 +294,7 @@ unclosed-comment bytes inside at e none =
 
 -- ---- all else
 
--- where nothing else opens, no quote and no comment stands
+-- where nothing else opens, there is no quote and no comment
 pub other-no_quote : (bytes : List ℕ) → opening_of bytes ≡ Other → BeginsWith bytes (34 ∷ []) → ⊥
 other-no_quote bytes e (rest, whole) = let wrong : opening_of (34 ∷ rest) ≡ Other = ap opening_of (sym whole) ∙ e in cc
 

@@ -1,4 +1,4 @@
--- The automaton accepts the tokens: what stands after the bytes that lead to a state is what the state
+-- The automaton accepts the tokens: what is after the bytes that lead to a state is what the state
 -- goes on to.
 use Rattle.std.proofs.Common.{◌≡◌, ℕ, ◌<◌, suc, zero, Bool, true, false, cond, ◌&&◌, eqb, List, [], ◌∷◌, Option, Some, None, codes, Contains, lit<, ◌⊎◌, inl, inr, refl, sym, ap, subst, ◌∙◌, eqb-true, arith}
 use Rattle.std.proofs.lemmas.Bool.{false≢true, and_parts, cases_eq}

@@ -47,7 +47,7 @@ place-room text at rest p =
     let len = p.len in
     omega (arith, size, length-append p.front rest)
 
--- the length of what stands before the rest
+-- the length of what is before the rest
 pub cut-length : (bytes more behind : List ℕ) → bytes ≡ more ++ behind → length more ≡ length bytes - length behind
 cut-length bytes more behind cut =
     let size : length bytes ≡ length (more ++ behind) = ap length cut in
@@ -118,7 +118,7 @@ range-push (u ∷ us) t = at_test (is_out_of_range u.kind u.text) (range-push us
     at_test true e = refl
     at_test false e = e
 
--- ---- gaps and tokens have bytes; faults stand in the text
+-- ---- gaps and tokens have bytes; faults are in the text
 
 pub gap-some : (text : List ℕ) → IsGap text → 1 ≤ length text
 gap-some text (separator b is) = omega arith

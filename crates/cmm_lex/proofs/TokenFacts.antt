@@ -19,7 +19,7 @@ sign-spelled s text (is_sign u t e) = e
 
 -- ---- places
 
--- tokens that stand one after the other between two places, each with a byte at least
+-- tokens that come one after the other between two places, each with a byte at least
 pub data Rising (last : ℕ) : ℕ → List TokenTree → Type 0 where
   none : (first : ℕ) → first ≤ last → Rising last first []
   one : (first : ℕ) (t : TokenTree) (ts : List TokenTree)
@@ -33,7 +33,7 @@ rising-from : (last first lower : ℕ) (ts : List TokenTree) → lower ≤ first
 rising-from last first lower ts low (none f within) = none lower (omega arith)
 rising-from last first lower ts low (one f t us from some is rest) = one lower t us (omega arith) some is rest
 
--- the tokens of a text are tokens, stand in it, and their places rise
+-- the tokens of a text are tokens, are in it, and their places rise
 pub splits-rise : (at : ℕ) (bytes : List ℕ) (ts : List TokenTree) (f : Option Fault) → Splits at bytes ts f → Rising (at + length bytes) at ts
 splits-rise at bytes ts f (ended a) = none at (omega arith)
 splits-rise at bytes ts f (gap a text rest tokens g is s) =

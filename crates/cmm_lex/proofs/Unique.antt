@@ -30,7 +30,7 @@ use Rattle.cmm_lex.proofs.Spelled.{Accepted, accepted-token, token-found, kind-s
 -- ---- the first bad escape
 
 abbrev mutual
-  -- how many bytes stand before it, so many having been read
+  -- how many bytes are before it, so many having been read
   first_bad : ℕ → List ℕ → Option ℕ
   first_bad n [] = None
   first_bad n (b ∷ bs) = cond (b == 34) None (cond (b == 92) (bad_behind n bs) (first_bad (n + 1) bs))
@@ -205,7 +205,7 @@ brace-dead : after Start 123 ≡ Dead
 unfolding after after_start
 brace-dead = refl
 
--- nothing else opens where a token stands that is no string
+-- nothing else opens where a token is that is no string
 token-other : (bytes text rest : List ℕ) (s : Shape)
     → bytes ≡ text ++ rest
     → accepts (run Start text) ≡ Some s

@@ -1,4 +1,4 @@
--- What is read from its opening to its end, whatever stands between: strings, comments, texts in braces.
+-- What is read from its opening to its end, whatever is between: strings, comments, texts in braces.
 use Rattle.std.specs.Prelude.{◌≡◌, ℕ, ◌+◌, List, [], ◌∷◌, ◌++◌}
 
 -- these bytes begin with that front

@@ -23,7 +23,7 @@ pub data IsGap : List ℕ → Type 0 where
   comment : (inside : List ℕ) → Ends AComment inside → IsGap (opening AComment ++ inside)
   in_braces : (inside : List ℕ) → Ends Braces inside → IsGap (opening Braces ++ inside)
 
--- The fault that stands at the front of bytes, which stand at this place of the text.
+-- The fault that is at the front of bytes, which are at this place of the text.
 pub data IsFault : ℕ → List ℕ → Fault → Type 0 where
   -- no token begins here, and nothing else does
   no_token : (at b : ℕ) (bytes : List ℕ)
@@ -43,7 +43,7 @@ pub data IsFault : ℕ → List ℕ → Fault → Type 0 where
 
 -- ---- the whole text
 
--- Bytes that stand at this place of a text, cut into tokens, each the longest that fits, up to their end
+-- Bytes that are at this place of a text, cut into tokens, each the longest that fits, up to their end
 -- or to the first fault.
 pub data Splits : ℕ → List ℕ → List TokenTree → Option Fault → Type 0 where
   ended : (at : ℕ) → Splits at [] [] None

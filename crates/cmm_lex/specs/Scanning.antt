@@ -62,7 +62,7 @@ abbrev pub code_of : List ℕ → Option (ℕ × List ℕ)
 code_of (a ∷ b ∷ c ∷ bs) = cond (is_code a b c) (Some (coded a b c, bs)) None
 code_of _ = None
 
--- the byte of an escape whose backslash stands before, and the bytes after it
+-- the byte of an escape whose backslash is before, and the bytes after it
 abbrev pub first_unescaped : List ℕ → Option (ℕ × List ℕ)
 first_unescaped [] = None
 first_unescaped (a ∷ []) = Some (escaped a, [])

@@ -5,7 +5,7 @@ use Rattle.cmm_lex.specs.Enclosed.{BeginsWith}
 
 -- ---- escapes
 
--- what may stand after a backslash: `\`, `"`, `n`, `t`, `r`, `b`
+-- what may be after a backslash: `\`, `"`, `n`, `t`, `r`, `b`
 abbrev pub letters : List ℕ
 letters = 92 ∷ 34 ∷ 110 ∷ 116 ∷ 114 ∷ 98 ∷ []
 
@@ -32,7 +32,7 @@ pub data IsInside : List ℕ → Type 0 where
 abbrev pub IsString : List ℕ → Type 0
 IsString text = (inside : List ℕ) × (text ≡ 34 ∷ inside) × IsInside inside
 
--- After so many of the bytes after an opening quote stands the first backslash that begins no escape.
+-- After so many of the bytes after an opening quote comes the first backslash that begins no escape.
 pub data BadEscape : ℕ → List ℕ → Type 0 where
   here : (bytes : List ℕ) → ((e : List ℕ) → IsEscape e → BeginsWith (92 ∷ bytes) e → ⊥) → BadEscape 0 (92 ∷ bytes)
   past_plain : (n b : ℕ) (bytes : List ℕ) → (b ≡ 34 → ⊥) → (b ≡ 92 → ⊥) → BadEscape n bytes → BadEscape (n + 1) (b ∷ bytes)

@@ -2,7 +2,7 @@
 ghost use Rattle.std.specs.Prelude.{◌≡◌, ◌+◌, ◌<◌, ◌≤◌, length};
 ghost use Rattle.cmm_lex.specs.Scanning.{slice_of, step_of, comment_step, behind_string, behind_comments, behind_braces};
 
-/// The bytes after the closing quote of a string whose opening quote stands before `bytes`; `None` where
+/// The bytes after the closing quote of a string whose opening quote is before `bytes`; `None` where
 /// it is not closed. A backslash takes the byte after it along.
 pub fn behind_string(bytes: &[u8]) -> Option<&[u8]>
     ensures { slice_of result ≡ behind_string bytes.now }
@@ -32,7 +32,7 @@ fn comment_step(depth: usize, bytes: &[u8]) -> Option<(usize, &[u8])>
     }
 }
 
-/// The bytes after a comment whose opening stands before `bytes`; `None` where it is not closed.
+/// The bytes after a comment whose opening is before `bytes`; `None` where it is not closed.
 /// Comments nest.
 pub fn behind_comment(bytes: &[u8]) -> Option<&[u8]>
     requires { length bytes.now < usize.MAX }

@@ -11,7 +11,7 @@ use crate::strings::bad_escape;
 use crate::token::TokenKind;
 use crate::words::kind_of;
 
-/// What stands at the front of a text that is not empty.
+/// What is at the front of a text that is not empty.
 #[derive(Clone, Copy)]
 pub enum Front<'a> {
     /// Bytes between tokens, and the bytes after them.
@@ -93,7 +93,7 @@ fn read_opening(bytes: &[u8]) -> Opening
     }
 }
 
-/// What stands at the front of a text.
+/// What is at the front of a text.
 pub fn read_front(bytes: &[u8]) -> Front<'_>
     requires some { 0 < length bytes.now }
     requires short { length bytes.now ≤ longest_text }

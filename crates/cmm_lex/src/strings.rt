@@ -84,7 +84,7 @@ fn next_byte(bytes: &[u8]) -> Option<(u8, &[u8])>
     }
 }
 
-/// How many bytes stand before the first backslash that begins no escape; `None` where each one up to the
+/// How many bytes are before the first backslash that begins no escape; `None` where each one up to the
 /// closing quote does. The bytes are those after the opening quote.
 pub fn bad_escape(bytes: &[u8]) -> Option<usize>
     ensures { MatchOption result (IsFine bytes.now) (λ offset. BadEscape offset bytes.now) }

@@ -46,7 +46,7 @@ pub data Evaluated (A : Type 0) : Type 0 where
 abbrev pub Evaluation : Type 0
 Evaluation = Evaluated (Option Value)
 
--- What stands round an expression.
+-- What is round an expression.
 pub record Surroundings : Type 0 where
   -- the first address past the data
   pub end : ℕ
@@ -271,7 +271,7 @@ abbrev pub node : Surroundings → Expression → Here → World → (World → 
 node s e h w go = begins w (λ w. typed s.end (type_of (scope h) e) (go w))
 
 abbrev mutual
-  -- the evaluation of an expression; `tail` says whether it stands in tail position
+  -- the evaluation of an expression; `tail` says whether it is in tail position
   pub evaluated : Surroundings → Expression → Bool → Here → World → Evaluation
   evaluated s (Integer at n) tail h w =
       node s (Integer at n) h w (λ w. Gives (Some (value.Word n)) h w)

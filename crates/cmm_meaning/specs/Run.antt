@@ -117,7 +117,7 @@ first_world file answers n =
       doings = [];
     }
 
--- the call of the entry: nothing stands below it
+-- the call of the entry: nothing is below it
 abbrev pub first_call : ℕ → List ℕ → Called
 first_call entry arguments =
     record { function = entry; arguments = map Word arguments; below = 0; tail = false; tries = 0 }

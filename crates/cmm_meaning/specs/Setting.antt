@@ -13,6 +13,6 @@ pub record Setting : Type 0 where
   -- the components of the parameters of each function, in order
   pub parameters : List (List Comp)
 
--- the setting of a run: what stands round it but for the calls
+-- the setting of a run: what is round it but for the calls
 abbrev pub setting_of : Surroundings → Setting
 setting_of s = record { end = s.end; symbol = s.symbol; parameters = s.parameters }

@@ -102,7 +102,7 @@ within_try h = record h { tries = suc h.tries }
 abbrev pub scope : Here → List Scoped
 scope h = map (λ (b : Binding). b.scoped) h.names
 
--- the innermost binding of a name, which stands first
+-- the innermost binding of a name, which is first
 abbrev pub innermost : List Binding → List ℕ → Option Binding
 innermost names name = find (λ (b : Binding). bytes_eq b.scoped.name name) names
 

@@ -67,7 +67,7 @@ params_in NoHandler = 0
 params_in (Handle at label params body rest) = length params + params_in rest
 
 -- The values and names that a node has itself: its own value, and each name that it binds. The unit has none. An exit
--- counts for one, since it may stand where a value is wanted. A new block counts for three: the block, its place before it
+-- counts for one, since it may be where a value is wanted. A new block counts for three: the block, its place before it
 -- is filled, and its header.
 abbrev pub own_values : Expression → ℕ
 own_values (Let at bindings body) = 1 + names_in bindings

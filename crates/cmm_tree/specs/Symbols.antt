@@ -11,7 +11,7 @@ pub record DefinedSymbol : Type 0 where
   pub at : ℕ
   pub parameters : Option ℕ
 
--- the built-in data, which stands first; no text has its string
+-- the built-in data, which is first; no text has its string
 abbrev pub built_in : DefinedSymbol
 built_in = record { name = caml_bound_error; at = 0; parameters = None }
 

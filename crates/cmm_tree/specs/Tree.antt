@@ -56,7 +56,7 @@ mutual
     Name : (at : ℕ) (name : List ℕ) → Expression
     -- `[]`
     Nothing : (at : ℕ) → Expression
-    -- a literal, an operator or an access of memory that computes with floats, whose word stands at `word_at`
+    -- a literal, an operator or an access of memory that computes with floats, whose word is at `word_at`
     Float : (at word_at : ℕ) (operands : Expressions) → Expression
     -- `let` and `letmut`
     Let : (at : ℕ) (bindings : Bindings) (body : Expression) → Expression
@@ -77,7 +77,7 @@ mutual
     Switch : (at size_at size : ℕ) (selector : Expression) (cases : Cases) → Expression
     Catch : (at : ℕ) (body : Expression) (handlers : Handlers) → Expression
     Exit : (at label_at : ℕ) (label : LabelTree) (arguments : Expressions) → Expression
-    -- the handler's name stands at `name_at`
+    -- the handler's name is at `name_at`
     Try : (at : ℕ) (body : Expression) (name_at : ℕ) (name : List ℕ) (handler : Expression) → Expression
 
   -- Expressions, first to last.

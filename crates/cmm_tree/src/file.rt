@@ -70,7 +70,7 @@ pub enum Datum {
     Int(Option<u64>),
     /// Eight bytes that are a value of the heap, and a root.
     Val(Option<u64>),
-    /// The address of a symbol, whose string stands at `name_at`. It is a root where it is written as a `val`.
+    /// The address of a symbol, whose string is at `name_at`. It is a root where it is written as a `val`.
     Address {
         root: bool,
         name_at: u32,

@@ -1,4 +1,4 @@
--- The innermost binding of a name, where each name in scope stands with something more.
+-- The innermost binding of a name, where each name in scope comes with something more.
 use Rattle.std.proofs.Common.{◌≡◌, ℕ, Bool, true, false, cond, List, [], ◌∷◌, Option, Some, map, option_map, refl, ap, ◌∙◌, bytes_eq}
 use Rattle.std.specs.Prelude.{find}
 use Rattle.cmm_types.specs.Types.{Scoped, binding_of}

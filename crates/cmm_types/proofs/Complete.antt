@@ -1,4 +1,4 @@
--- Each fault of a node that stands in a function is gathered.
+-- Each fault of a node that is in a function is gathered.
 use Rattle.std.proofs.Common.{◌≡◌, ℕ, Bool, true, false, not, List, [], ◌∷◌, Option, None, is_none, ◌⊎◌, inl, inr, refl, ap}
 use Rattle.std.specs.List.{Contains}
 use Rattle.bs_words.specs.declared.types.Comp.TheVariants as comp
@@ -84,7 +84,7 @@ module _ (told : Fault) (d : List ℕ → Option DefinedSymbol) where
   part_below names labels _ _ (Standing.case at size_at size chosen cases e i) m = second (cases_below names labels e cases i m)
   part_below names labels _ _ (Standing.tried at body name_at name handler) m = first m
 
-  -- what is gathered below a node that stands in a function is gathered of its body
+  -- what is gathered below a node that is in a function is gathered of its body
   pub stands_below : (f : FunctionTree) (names : List Scoped) (labels : List Visible) (e : Expression) → Stands f names labels e → Among told (faults_in d names labels e) → Among told (faults_in d (with_parameters f.params []) [] f.body)
   stands_below f _ _ _ Standing.the_body m = m
   stands_below f _ _ _ (Standing.part names labels node e s p) m = stands_below f names labels node s (part_below names labels node e p m)

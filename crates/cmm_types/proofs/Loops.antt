@@ -6,7 +6,7 @@ use Rattle.cmm_types.specs.Types.{Scoped, type_without_float}
 use Rattle.bs_fault.specs.Reported.{Faults, noted_all}
 use Rattle.cmm_types.specs.declared.checker.Checker.{Checker}
 
--- what stands round is as before, and what is left to note gives from here what all gives from the start
+-- what is round is as before, and what is left to note gives from here what all gives from the start
 pub record Noting (before now : Checker) (left all : Faults) : Type 0 where
   pub names : now.names ≡ before.names
   pub labels : now.labels ≡ before.labels

@@ -1,4 +1,4 @@
--- Each fault that is gathered is a fault of a node that stands in the function.
+-- Each fault that is gathered is a fault of a node that is in the function.
 use Rattle.std.proofs.Common.{◌≡◌, ℕ, Bool, true, false, not, ◌==◌, List, [], ◌∷◌, ◌++◌, Option, Some, None, is_none, refl, ap, sym, subst}
 use Rattle.std.specs.List.{Contains}
 use Rattle.bs_words.specs.declared.types.Comp.{Comp}
@@ -76,7 +76,7 @@ params-from (p ∷ params) told (second m) =
     let f = params-from params told m in
     record { param = f.param; within = contains_tail p params f.param f.within; float = f.float; is = f.is }
 
--- a fault of this kind stands at a place with this property
+-- a fault of this kind is at a place with this property
 pub record Placed (kind : ℕ → Fault) (P : ℕ → Type 0) (told : Fault) : Type 0 where
   pub there : ℕ
   pub holds : P there
@@ -103,7 +103,7 @@ repeated-from (Handle at label params body rest) told (second m) =
 -- ---- nodes
 
 module _ (told : Fault) (defined : List DefinedSymbol) (f : FunctionTree) (Goal : Type 0)
-    -- what a fault of a node that stands in the function comes to
+    -- what a fault of a node that is in the function comes to
     (of : (names : List Scoped) (labels : List Visible) (e : Expression) → Stands f names labels e → FaultOf defined names labels e told → Goal) where
   abbrev d : List ℕ → Option DefinedSymbol
   d = definition_of defined

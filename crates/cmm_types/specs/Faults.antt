@@ -18,7 +18,7 @@ abbrev pub row_length : Expressions → ℕ
 row_length NoMore = 0
 row_length (More e rest) = row_length rest + 1
 
--- the header of a block of so many cells: the number stands above the low ten bits, there are 1 to 256
+-- the header of a block of so many cells: the number is above the low ten bits, there are 1 to 256
 -- cells, and the tag, the low eight bits, is none of 245 to 250
 abbrev pub is_header : ℕ → ℕ → Bool
 is_header header cells =
@@ -26,7 +26,7 @@ is_header header cells =
     (nat_le 1 cells && (nat_le cells 256 && not
     (nat_le 245 (header % 256) && nat_le (header % 256) 250)))
 
--- a handler of this label stands here
+-- a handler of this label is here
 pub data Labelled (label : LabelTree) : Handlers → ℕ → Type 0 where
   first : (at : ℕ) (other : LabelTree) (params : List Parameter) (body : Expression)
       (rest : Handlers)
@@ -37,7 +37,7 @@ pub data Labelled (label : LabelTree) : Handlers → ℕ → Type 0 where
       → Labelled label rest there
       → Labelled label (Handle at other params body rest) there
 
--- the handler that stands here has the label of an earlier one
+-- the handler that is here has the label of an earlier one
 pub data Repeated : Handlers → ℕ → Type 0 where
   first : (at : ℕ) (label : LabelTree) (params : List Parameter) (body : Expression)
       (rest : Handlers) (there : ℕ)
@@ -48,7 +48,7 @@ pub data Repeated : Handlers → ℕ → Type 0 where
       → Repeated rest there
       → Repeated (Handle at label params body rest) there
 
--- a binding declares a float, whose word stands here
+-- a binding declares a float, whose word is here
 pub data DeclaresFloat : Bindings → ℕ → Type 0 where
   first : (at : ℕ) (name : List ℕ) (there : ℕ) (value : Expression) (rest : Bindings)
       → DeclaresFloat (Bind at name
@@ -146,7 +146,7 @@ pub data FaultOf (defined : List DefinedSymbol) (names : List Scoped)
 
 -- `TypeFault file fault`: the file has the fault, one of F11 to F19 and F21
 pub data TypeFault (file : FileTree) : faults.Fault → Type 0 where
-  -- a fault of a node that stands in a function
+  -- a fault of a node that is in a function
   of_node : (f : FunctionTree) (names : List Scoped) (labels : List Visible) (e : Expression)
       (told : faults.Fault)
       → Contains (functions file) f

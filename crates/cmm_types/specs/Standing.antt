@@ -1,4 +1,4 @@
--- Which nodes stand in a function, and which names and labels are visible there.
+-- Which nodes are in a function, and which names and labels are visible there.
 use Rattle.std.specs.Prelude.{ℕ, Bool, false, List, [], ◌∷◌, ◌++◌, Option, length, find}
 use Rattle.bs_words.specs.declared.types.Ty.TheVariants.{Val}
 use Rattle.cmm_tree.specs.Tree.{Expression, Float, Let, Assign, Operator, Load, Store, Alloc, App, Extcall, Checkbound, Raise, Seq, If, Switch, Catch, Exit, Try, Expressions, More, Bindings, NoBinding, Bind, Cases, Choose, Handlers, NoHandler, Handle, Parameter, FunctionTree, LabelTree, Bare, same_label}
@@ -11,7 +11,7 @@ pub record Visible : Type 0 where
   pub label : LabelTree
   pub parameters : ℕ
 
--- the innermost handler of a label, which stands first; of handlers of one catch with one label the first
+-- the innermost handler of a label, which is first; of handlers of one catch with one label the first
 abbrev pub handler_of : List Visible → LabelTree → Option Visible
 handler_of labels label = find (λ (v : Visible). same_label v.label label) labels
 
@@ -56,7 +56,7 @@ pub data InHandlers (params : List Parameter) (e : Expression) : Handlers → Ty
       → InHandlers params e rest
       → InHandlers params e (Handle at label others other rest)
 
--- `InBindings value inner names bindings`: this is what one of the bindings binds, and it stands with the
+-- `InBindings value inner names bindings`: this is what one of the bindings binds, and it comes with the
 -- names `inner` in scope: those before the bindings, and those that the earlier bindings bind
 pub data InBindings (value : Expression) (inner : List Scoped) : List Scoped
     → Bindings
@@ -100,7 +100,7 @@ pub data Takes : Expression → Expression → Type 0 where
       → InRow e arguments
       → Takes (Exit at label_at label arguments) e
 
--- `PartOf node e`: e is a part of the node, and stands in the scope of the node
+-- `PartOf node e`: e is a part of the node, and is in the scope of the node
 pub data PartOf : Expression → Expression → Type 0 where
   taken : (node e : Expression) → Takes node e → PartOf node e
   float_operand : (at word_at : ℕ) (operands : Expressions) (e : Expression)
@@ -119,12 +119,12 @@ pub data PartOf : Expression → Expression → Type 0 where
 
 -- ---- nodes of a function
 
--- `Stands f names labels e`: the node e stands in the function, with these names and labels visible, the
+-- `Stands f names labels e`: the node e is in the function, with these names and labels visible, the
 -- innermost first
 pub data Stands (f : FunctionTree) : List Scoped → List Visible → Expression → Type 0 where
   -- the body, in the scope of the parameters
   the_body : Stands f (with_parameters f.params []) [] f.body
-  -- what stands in the scope of its node
+  -- what is in the scope of its node
   part : (names : List Scoped) (labels : List Visible) (node e : Expression)
       → Stands f names labels node
       → PartOf node e

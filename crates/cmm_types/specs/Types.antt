@@ -17,7 +17,7 @@ pub record Scoped : Type 0 where
   pub type : Ty
   pub mutable : Bool
 
--- the innermost binding of a name, which stands first
+-- the innermost binding of a name, which is first
 abbrev pub binding_of : List Scoped → List ℕ → Option Scoped
 binding_of scope name = find (λ (s : Scoped). bytes_eq s.name name) scope
 
@@ -73,7 +73,7 @@ abbrev pub has_float_parameter : List Parameter → Bool
 has_float_parameter [] = false
 has_float_parameter (p ∷ params) = is_float p.comp || has_float_parameter params
 
--- whether a float form stands in an expression: a literal, an operator, a chunk, a declared type or a result
+-- whether a float form is in an expression: a literal, an operator, a chunk, a declared type or a result
 abbrev mutual
   pub holds_float : Expression → Bool
   holds_float (Integer at word) = false

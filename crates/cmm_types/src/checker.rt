@@ -1,4 +1,4 @@
-//! What stands round a node, and the fault that is reported so far.
+//! What is round a node, and the fault that is reported so far.
 ghost use Rattle.std.specs.Prelude.{◌≡◌, is_none, option_map, OnOk};
 ghost use Rattle.bs_fault.specs.declared.fault.Fault.TheVariants as faults;
 ghost use Rattle.cmm_tree.specs.View.{expr_view, label_view, params_view, declared_view};
@@ -21,7 +21,7 @@ use bs_words::{Comp, Name, Ret, Ty};
 use cmm_tree::{Declared, Expr, Form, Handler, Label, Param};
 use std::alloc::{AllocError, Global};
 
-/// The names and labels that are visible where a node stands, and the fault that is reported so far.
+/// The names and labels that are visible where a node is, and the fault that is reported so far.
 #[derive(Drop)]
 pub struct Checker {
     pub names: Names,

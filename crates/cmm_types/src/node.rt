@@ -581,7 +581,7 @@ impl Checker {
         Ok(seen)
     }
 
-    /// The same of parts with this role, first to last. The type is that of the last, if no float stands in
+    /// The same of parts with this role, first to last. The type is that of the last, if no float is in
     /// it.
     #[cycle(node)]
     fn operands(
@@ -636,7 +636,7 @@ impl Checker {
         Ok(held)
     }
 
-    /// The same of bindings, one after the other, and binds their names. It answers whether a float stands in
+    /// The same of bindings, one after the other, and binds their names. It answers whether a float is in
     /// them.
     #[cycle(node)]
     fn bind_all(
@@ -664,7 +664,7 @@ impl Checker {
         Ok(float)
     }
 
-    /// The same of what a binding binds, and binds its name. It answers whether a float stands in the binding.
+    /// The same of what a binding binds, and binds its name. It answers whether a float is in the binding.
     #[cycle(node)]
     fn bind(
         &mut self,

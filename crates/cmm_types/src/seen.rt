@@ -12,7 +12,7 @@ use crate::names::Meaning;
 use bs_words::{Chunk, Comp, IntOp, Ret, Ty};
 use cmm_tree::{Declared, Param};
 
-/// What is found out of a node: its type if no float stood in it, and whether a float form stands in it.
+/// What is found out of a node: its type if no float was in it, and whether a float form is in it.
 #[derive(Clone, Copy, PartialEq, Eq, Debug)]
 pub struct Seen {
     pub plain: Ty,
@@ -159,7 +159,7 @@ pub fn has_float(params: &[Param]) -> bool
     false
 }
 
-/// Whether a block of so many cells may have this header: the number stands above the low ten bits, there
+/// Whether a block of so many cells may have this header: the number is above the low ten bits, there
 /// are 1 to 256 cells, and the tag, the low eight bits, is none of 245 to 250.
 pub fn is_header(header: u64, cells: usize) -> bool
     ensures { result ≡ is_header header cells }

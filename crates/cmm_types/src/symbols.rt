@@ -83,7 +83,7 @@ impl Symbols {
         self.find(name)?.parameters
     }
 
-    /// Defines the symbol, unless it is defined already. It answers the definition that stood before.
+    /// Defines the symbol, unless it is defined already. It answers the definition that came before.
     pub(crate) fn define(
         &mut self,
         alloc: Global,

@@ -32,7 +32,7 @@ IsBelow c (item.Catches scope slot in_handler handlers first rest) = (scope < c)
 IsBelow c (item.Handler scope slot handlers own first rest) = (scope < c) × (rest < c)
 IsBelow c (item.Handles scope slot name_at name handler entry rest) = (scope < c) × (rest < c)
 
--- these handlers of a catch stand in a row of cells, from this one on
+-- these handlers of a catch are in a row of cells, from this one on
 abbrev pub HandlersAt : ℕ
     → (ℕ → List Task)
     → ℕ

@@ -19,7 +19,7 @@ use Rattle.cmm_types.specs.Types.{Scoped, type_of, type_named, type_bound, is_mu
 pub data Event : Type 0 where
   -- something is bound to this slot, at this place; it is an address or not
   Binds : (slot : ℕ) (address : Bool) (at : ℕ) → Event
-  -- what stands in this slot is used, at this place
+  -- what is in this slot is used, at this place
   Uses : (slot at : ℕ) → Event
   -- a frame point
   Passes : (at : ℕ) → Event
@@ -38,7 +38,7 @@ pub record Slotted : Type 0 where
 abbrev pub names : List Slotted → List Scoped
 names scope = map (λ (s : Slotted). s.scoped) scope
 
--- the innermost binding of a name, which stands first
+-- the innermost binding of a name, which is first
 abbrev pub slotted_as : List Slotted → List ℕ → Option Slotted
 slotted_as scope name = find (λ (s : Slotted). bytes_eq s.scoped.name name) scope
 
@@ -91,7 +91,7 @@ abbrev pub takes : ℕ → ℕ → ℕ → List Task
 takes at slot zero = []
 takes at slot (suc count) = Does (Uses slot at) ∷ takes at (suc slot) count
 
--- ---- operands: the first stands in `slot`, the next in the slot after, and `free` is after the last
+-- ---- operands: the first is in `slot`, the next in the slot after, and `free` is after the last
 
 abbrev pub count : Expressions → ℕ
 count NoMore = 0

@@ -11,7 +11,7 @@ use std::alloc::{AllocError, Global};
 pub enum Action {
     /// Something is bound to a slot, at this place: an address or not.
     Binds { slot: usize, address: bool, at: u32 },
-    /// What stands in a slot is used, at this place.
+    /// What is in a slot is used, at this place.
     Uses { slot: usize, at: u32 },
     /// A frame point.
     Passes { at: u32 },

@@ -23,7 +23,7 @@ fn finds(label: &Label, own: &Label, in_handler: bool) -> bool
     same && !(bare && in_handler)
 }
 
-/// Which of these handlers, which stand in a row of cells from `first` on, an exit finds.
+/// Which of these handlers, which are in a row of cells from `first` on, an exit finds.
 fn find_handler(
     label: &Label,
     in_handler: bool,

@@ -4,7 +4,7 @@ use Rattle.std.proofs.lemmas.List.{take_more, take-append-drop, drop-append-le, 
 use Rattle.std.proofs.lemmas.List.Elements.{All-from_get_or}
 use Rattle.cmmc_core.specs.Soak.{BeginsLine, IsLastLine}
 
--- No line feed stands from here on but the last of the text.
+-- There is no line feed from here on but the last of the text.
 pub record IsWithinLine (text : List ℕ) (start : ℕ) : Type 0 where
   pub within : start < length text
   pub none : (k : ℕ) → start ≤ k → k + 1 < length text → get_or text k 0 ≢ 10

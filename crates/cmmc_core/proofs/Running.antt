@@ -18,7 +18,7 @@ use Rattle.rv_machine.specs.declared.setup.LoadError.TheVariants.{UnknownEntry, 
 use Rattle.rv_machine.specs.declared.setup.Setup.{Setup}
 use Rattle.cmmc_core.specs.Run.{IsRunText, IsUnfit, words_of_answers, schedule_of}
 
--- A machine stands where the run of a setup begins.
+-- A machine is where the run of a setup begins.
 pub record Begun (image : Tables) (setup : Setup) (h : Hart) : Type 0 where
   pub entry : Func
   pub args : List ℕ

@@ -1,4 +1,4 @@
--- That nothing but want of memory, an image past its limit, or a read or a write that failed, stands
+-- That nothing but want of memory, an image past its limit, or a read or a write that failed, comes
 -- between good input and its output, and between bad input and its line.
 use Rattle.std.specs.Prelude.{⊤, ◌≡◌, ◌⊎◌, ℕ, List, Some, None}
 use Rattle.bs_fault.specs.declared.fault.Fault.{Fault}

@@ -41,7 +41,7 @@ module _ {defined : List ℕ → Option DefinedSymbol} {tree : FunctionTree} (ac
       (λ k s. promise.no_slot s.register s.among k s.stands)
       is.slots linear.slots
 
-  -- the frame, and 16 bytes for each try that may stand on top
+  -- the frame, and 16 bytes for each try that may be on top
   pub frame_small : frame_bytes m + 16 * tries tree ≤ 16 * tree.tokens + 32
   frame_small =
       let bytes = frame_few m (2 * (tree.tokens - all_tries tree.body)) few_made in

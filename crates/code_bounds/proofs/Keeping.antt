@@ -31,7 +31,7 @@ use Rattle.chained_functions.specs.Made.{IsMadeOf}
 use Rattle.code_bounds.specs.Kept.{KeepsTo}
 use Rattle.code_bounds.proofs.Bounded.{bounded}
 
--- Labels stand once, and below a number: there are no more of them.
+-- Labels occur once, and below a number: there are no more of them.
 few_labels : (p : Mach) → WellFormed p → length (labels_in p.code) ≤ p.labels
 few_labels p formed =
     length-le_from_distinct_below (labels_in p.code) p.labels

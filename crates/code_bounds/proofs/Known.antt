@@ -1,4 +1,4 @@
--- What is known of placed and chained functions, named once more for what stands above.
+-- What is known of placed and chained functions, named again for the crates above.
 pub use Rattle.chained_functions.proofs.Chained.{chained, within}
 pub use Rattle.chained_functions.proofs.Once.{made_once}
 pub use Rattle.chained_functions.proofs.Placed.{IsPlacedFor, selected_preparable, selected_room, ready, prepared_room, carried, placed_for}

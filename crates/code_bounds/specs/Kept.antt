@@ -8,7 +8,7 @@ use Rattle.rv_pieces.specs.declared.piece.Pieces.{Pieces}
 
 -- They are as small as the text asks.
 pub record KeepsTo (tree : FunctionTree) (pieces : Pieces) : Type 0 where
-  -- the descriptors that stand among them
+  -- the descriptors that are among them
   pub descrs : List Descr
   pub carried : marks_in pieces.code ≡ descrs
   pub bounded : IsBoundedBy tree descrs pieces

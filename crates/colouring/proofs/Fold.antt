@@ -23,7 +23,7 @@ put_here place n here k e = ap (λ (b : Bool). cond b here (place k)) (eq-eqb k 
 put_other : (place : Colouring) (n : ℕ) (here : Loc) (k : ℕ) → (k ≡ n → ⊥) → put place n here k ≡ place k
 put_other place n here k ne = ap (λ (b : Bool). cond b here (place k)) (ne_eqb k n ne)
 
--- a neighbour of the node stands at the colour
+-- a neighbour of the node is at the colour
 record Beside (nodes : List Node) (place : Colouring) (x : Node) (c : ℕ) : Type 0 where
   pub node : Node
   pub among : Contains nodes node
@@ -137,7 +137,7 @@ module _ (g : Graph) (h : IsColourable g) where
     waiting : (y : Node) → Contains rest y → then y.reg.number ≡ loc.Unset
     waiting y c = put_other place x.reg.number here y.reg.number (apart y c) ∙ good.waiting y (later_in x y rest c)
 
-    -- who joins the node and stands where it does stands in the slot of its origin
+    -- who joins the node and is where it is, is in the slot of its origin
     shares : (z : Node) → Contains g.nodes z → Contains x.neighbours z.reg.number → place z.reg.number ≡ here →
         (z.reg.origin ≡ x.reg.origin) × (here ≡ loc.Slot x.reg.origin)
     shares z c j e =

@@ -15,7 +15,7 @@ pairs_first R x xs h y c =
     let le = c.1 in subst (R x) c.2 (h 0 (suc c.0) y (omega arith) (omega (arith, le)))
 
 module _ {A : Type 0} (R : A → A → Type 0) (strict : (x y : A) → R x y → R y x → ⊥) where
-  -- what stands after one head stands after the other, which is equal
+  -- what is after one head is after the other, which is equal
   left_over : (x y : A) (xs ys : List A) → x ≡ y → AllPairs R (x ∷ xs) →
       ((z : A) → Contains (x ∷ xs) z → Contains (y ∷ ys) z) → (z : A) → Contains xs z → Contains ys z
   left_over x y xs ys e up into z c =

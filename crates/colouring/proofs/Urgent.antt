@@ -24,7 +24,7 @@ use Rattle.colouring.specs.declared.order.Ranked.{Ranked}
 use Rattle.colouring.proofs.Found.{Rising, in_filter, into_filter}
 use Rattle.colouring.proofs.Ordered.{pairs_first}
 
--- two that pass a test stand to each other as among those that pass
+-- two that pass a test are to each other as among those that pass
 within_filter : {A : Type 0} (R : A → A → Type 0) (p : A → Bool) (xs : List A) (i j : ℕ) (d : A) → i < j →
     j < length xs →
     p (get_or xs i d) ≡ true → p (get_or xs j d) ≡ true → AllPairs R (filter p xs) → R (get_or xs i d) (get_or xs j d)

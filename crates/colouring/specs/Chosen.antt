@@ -32,7 +32,7 @@ is_slot loc.Unset = false
 is_slot (loc.Machine n) = false
 is_slot (loc.Slot n) = true
 
--- how many neighbours have or may take a colour: those that stand in slots take none
+-- how many neighbours have or may take a colour: those that are in slots take none
 abbrev pub degree : Colouring → Node → ℕ
 degree place x = count_by (λ n. not (is_slot (place n))) x.neighbours
 
@@ -67,7 +67,7 @@ is_in colour loc.Unset = false
 is_in colour (loc.Machine n) = nat_eq n colour
 is_in colour (loc.Slot n) = false
 
--- how many of these registers, by number, stand in a colour
+-- how many of these registers, by number, are in a colour
 abbrev pub standing : Colouring → ℕ → List ℕ → ℕ
 standing place colour ns = count_by (λ n. is_in colour (place n)) ns
 
@@ -86,7 +86,7 @@ merit g place x colour = record {
   wanted = wanted_by g place colour x.neighbours;
 }
 
--- whether a register had better stand where the first merit is: the more of its own moves, the better,
+-- whether a register had better be where the first merit is: the more of its own moves, the better,
 -- and then the fewer of its neighbours'
 abbrev pub is_better : Merit → Merit → Bool
 is_better a b = cond (nat_eq a.own b.own) (nat_lt a.wanted b.wanted) (nat_lt b.own a.own)

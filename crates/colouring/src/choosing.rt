@@ -28,7 +28,7 @@ fn choose(graph: &Graph, table: &NodeTable, places: &[Loc], node: &Node) -> Loc
     }
 }
 
-/// A place for each register of a graph. Places that are fixed stay, neighbours stand apart, and a register
+/// A place for each register of a graph. Places that are fixed stay, neighbours are apart, and a register
 /// goes to a slot only where each colour has a neighbour. Registers numbered `fresh` or above were made by
 /// reloading, and come first.
 ///

@@ -1,4 +1,4 @@
-//! How many registers stand in each machine register.
+//! How many registers are in each machine register.
 ghost use Rattle.std.specs.Prelude.{◌≡◌, ◌<◌, ◌+◌, ◌^◌, ℕ, cond, nat_eq, length};
 ghost use Rattle.colouring.specs.Chosen.{is_in, standing};
 ghost use Rattle.colouring.specs.Tables.{places_by, count_at};
@@ -29,7 +29,7 @@ impl Counts {
         Counts { items: [0; 32] }
     }
 
-    /// How many registers stand there.
+    /// How many registers are there.
     pub fn at(&self, register: u8) -> u128
         ensures { result ≡ count_at self.now register }
     {

@@ -13,7 +13,7 @@ pub struct Merit {
 }
 
 impl Merit {
-    /// Whether a register had better stand there than where the other merit is.
+    /// Whether a register had better be there than where the other merit is.
     pub fn is_better(self, other: Merit) -> bool
         ensures { result ≡ is_better self other }
     {

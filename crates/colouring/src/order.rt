@@ -32,7 +32,7 @@ fn takes_colour(places: &[Loc], number: u32) -> bool
     }
 }
 
-/// How many of a node's neighbours have or may take a colour: those that stand in slots take none.
+/// How many of a node's neighbours have or may take a colour: those that are in slots take none.
 fn degree(places: &[Loc], node: &Node) -> usize
     ensures { result ≡ degree (places_by places.now) node.now }
 {

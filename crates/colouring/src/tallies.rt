@@ -12,7 +12,7 @@ use mach_ir::{Graph, Node};
 /// Counts for one register, by machine register.
 #[derive(Clone, Copy)]
 pub struct Tallies {
-    /// Its neighbours that stand there.
+    /// Its neighbours that are there.
     pub near: Counts,
     /// Its moves that have their other end there.
     pub own: Counts,

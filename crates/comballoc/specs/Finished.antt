@@ -11,7 +11,7 @@ abbrev pub held_bytes : Option Held → Option ℕ
 held_bytes None = None
 held_bytes (Some h) = Some (bytes_of h.blocks)
 
--- the open allocation and the instructions after it, as they stand
+-- the open allocation and the instructions after it, as they are
 abbrev pub closed : Option Held → List Instr
 closed None = []
 closed (Some h) = allocation h.blocks h.results.items ∷ h.since.items

@@ -55,7 +55,7 @@ module _ (m : Mach) (is : IsCombinable m) where
   abbrev pub at_place : List Instr → Scanned
   at_place rest = scanned m.code rest
 
-  -- The second has allocated the blocks that go to the open allocation, and their starts stand in its registers. Else it has
+  -- The second has allocated the blocks that go to the open allocation, and their starts are in its registers. Else it has
   -- all that the first has.
   pub record Pending (s : Scanned) (x y : Around) (a b : File) : Type 0 where
     pub same : y ≡ ahead s.blocks x
@@ -235,7 +235,7 @@ module _ (m : Mach) (is : IsCombinable m) where
               }),
         ))
 
-    -- it ends the run, or stands in none
+    -- it ends the run, or is in none
     ends_here : (i : Instr) (next : List Instr) (x : Around) (a b : File) → Ending (i ∷ next) m.code → f (length next) i ≡ i ∷ [] →
         (at_place next).results ≡ [] → ((n : ℕ) → Has (a n) (b n)) → (vs : List Value) → values a i.args ≡ Some vs →
         Answer i next x x a b vs

@@ -1,4 +1,4 @@
--- Registers that are written where one file has all that another has, and blocks whose starts stand in registers.
+-- Registers that are written where one file has all that another has, and blocks whose starts are in registers.
 use Rattle.std.proofs.Common.{◌≡◌, ℕ, suc, ◌+◌, Bool, true, false, cond, List, [], ◌∷◌, ◌++◌, length, Option, Some, None, refl, sym, ap, ◌∙◌, subst, arith, append_assoc}
 use Rattle.std.specs.Prelude.{nat_eq}
 use Rattle.std.proofs.lemmas.Bool.{true≢false, eq-eqb, eqb-true}
@@ -83,7 +83,7 @@ abbrev pub starts : ℕ → List Reg → List Value
 starts s [] = []
 starts s (r ∷ rs) = value.Block s 0 ∷ starts (suc s) rs
 
--- they stand in the registers
+-- they are in the registers
 pub data Holds (b : File) : ℕ → List Reg → Type 0 where
   holds_none : {s : ℕ} → Holds b s []
   holds_one : {s : ℕ} {r : Reg} {rs : List Reg} → b r.number ≡ Some (record { comp = r.comp; value = value.Block s 0 }) →
@@ -118,7 +118,7 @@ home_fits end s comp.Val e = refl
 home_fits end s comp.Addr e = refl
 home_fits end s comp.Float e = absurd (true≢false (sym e))
 
--- no number stands twice
+-- no number occurs twice
 pub data Distinct : List Reg → Type 0 where
   no_regs : Distinct []
   one_more : {r : Reg} {rs : List Reg} → (Among r.number rs → ⊥) → Distinct rs → Distinct (r ∷ rs)

@@ -1,4 +1,4 @@
--- The result is well-formed, and its operands and results stand where the conventions put them.
+-- The result is well-formed, and its operands and results are where the conventions put them.
 use Rattle.std.proofs.Common.{◌≡◌, ◌≢◌, ℕ, zero, suc, ◌<◌, ◌≤◌, Bool, true, false, inl, inr, List, [], ◌∷◌, ◌++◌, length, Option, Some, None, refl, sym, ap, ◌∙◌, subst, arith}
 use Rattle.std.specs.List.{All, AllPairs, Contains}
 use Rattle.std.specs.Prelude.{slice_index_or}
@@ -308,7 +308,7 @@ module _ (m : Mach) (is : IsCombinable m) where
       each_in (λ (i : Instr). AreDistinct i.results)
       (λ i c. All-contains (λ (i : Instr). AreDistinct i.results) m.code i formed.distinct c) opened_distinct
 
-  -- ---- where an instruction that is no allocation stood
+  -- ---- where an instruction that is no allocation was
 
   record Stood (j : Instr) (ys : List Instr) : Type 0 where
     next : List Instr

@@ -25,7 +25,7 @@ use Rattle.mach_laws.proofs.Among.{none_among, left_among, right_among, split_am
 use Rattle.mach_laws.proofs.Instructions.{instr}
 use Rattle.split_rules.proofs.Known.{among_or_not}
 
--- what may stand within a straight run, and is no allocation
+-- what may be within a straight run, and is no allocation
 pub record Runs (i : Instr) : Type 0 where
   pub straight : is_straight i.op ≡ true
   pub label : (l : ℕ) → has_label l i.op ≡ false

@@ -29,9 +29,9 @@ module _ (m : Mach) (is : IsCombinable m) where
   abbrev f : ℕ → Instr → List Instr
   f = merged m.code
 
-  -- ---- what stands in the result
+  -- ---- what is in the result
 
-  -- an instruction of the result, by the one for which it stands
+  -- an instruction of the result, by the one that it stands for
   record Main (j : Instr) (zs : List Instr) : Type 0 where
     instr : Instr
     next : List Instr

@@ -1,4 +1,4 @@
--- What may stand in a straight run does the same where blocks have been allocated ahead of it.
+-- What may be in a straight run does the same where blocks have been allocated ahead of it.
 use Rattle.std.proofs.Common.{◌≡◌, true, List, [], ◌∷◌, length, map, sym, ap}
 use Rattle.std.proofs.lemmas.Bool.{true≢false}
 use Rattle.bs_words.specs.declared.values.Value.{Value}

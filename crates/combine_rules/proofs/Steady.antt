@@ -447,7 +447,7 @@ module _ (b : NewBlock) (a : Around) where
   access_steady (access.Store k n) apart (x ∷ v ∷ z ∷ vs) = is_lost
   access_steady (access.Alloc blocks) apart vs = absurd (apart blocks refl)
 
-  -- What may stand in a straight run, and is no allocation.
+  -- What may be in a straight run, and is no allocation.
   pub steady : (c : Setting) (f : Op) (vs : List Value) → is_straight (mach.Op f) ≡ true → ((blocks : List NewBlock) → f ≡ op.Access (access.Alloc blocks) → ⊥) →
       Steadies b a (act c f vs a) (act c f vs (with_block b a))
   steady c (op.Pure f) vs e apart = pure_steady c f vs

@@ -79,7 +79,7 @@ module _ (m : Mach) (is : IsCombinable m) (c : Place) where
     none : Trail from from
     then : {s t : State} → Trail from s → ValsWritten m s → step c m s ≡ Continues t → Agrees m (wrote_at m s.rest) t → Trail from t
 
-  -- the second stands where the first stood when nothing was pending
+  -- the second is where the first was when nothing was pending
   record Awaiting (s t : State) : Type 0 where
     from : State
     ending : Ending s.rest m.code

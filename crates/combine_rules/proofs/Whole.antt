@@ -41,7 +41,7 @@ module _ (m : Mach) where
 
   -- ---- what is reached
 
-  -- an instruction of the result that is reached, by the one for which it stands
+  -- an instruction of the result that is reached, by the one that it stands for
   record Head (j : Instr) (zs : List Instr) : Type 0 where
     instr : Instr
     next : List Instr

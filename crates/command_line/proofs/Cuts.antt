@@ -79,7 +79,7 @@ no_number text no_at no_minus past item (number n is fits e) = let h = past n is
 no_number text no_at no_minus past item (negative digits n t is fits e) = no_minus digits t
 no_number text no_at no_minus past item (symbol name t is free e) = no_at name t
 
--- ---- where the first comma stands
+-- ---- where the first comma is
 
 -- no comma so far, and at its place
 pub cut_here : (text : List ℕ) (at : ℕ) → at < length text → get_or text at 0 ≡ 44

@@ -1,4 +1,4 @@
--- What the texts that stand by default are read as.
+-- What the texts of defaults are read as.
 use Rattle.std.proofs.Common.{◌≡◌, ◌≤◌, ◌&&◌, ℕ, Bool, true, false, List, [], ◌∷◌, All, codes, length, nat_le, refl, arith, leb-true}
 use Rattle.std.specs.List.{list_all}
 use Rattle.std.proofs.lemmas.Bool.{both_ways}

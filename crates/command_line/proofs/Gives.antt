@@ -157,7 +157,7 @@ pub sets_each : {X Y E : Type 0} (others : List (List ℕ)) (slot : Slot) (Reads
 sets_each others slot Reads default v f d g (Ok y) reads = stands_sets others slot Reads default v d g (f y) reads
 sets_each others slot Reads default v f d g (Err e) reads = tt
 
--- where nothing stands by default, a word gives what stands
+-- where there is no default, a word gives the text
 pub stands_given : (others : List (List ℕ)) (slot : Slot) (v : List ℕ) → default_texts slot ≡ [] → Stands others slot v → Gives others slot v
 stands_given others slot v empty (word_gives g) = g
 stands_given others slot v empty (word_lacks none is) = let clash : v ∷ [] ≡ [] = sym is ∙ empty in cc

@@ -247,7 +247,7 @@ held_at rows pending = record { rows = rows; pending = pending; skip = 0 }
 abbrev stand : List Row → Option (Text × List Text) → ℕ → Walk
 stand rows pending position = record { held = held_at rows pending; waiting = idle; position = position; is_trailing = false; stopped = None }
 
--- where the walk stands after words whose rows these are
+-- where the walk is after words whose rows these are
 record At (rules : List Rule) (w : Walk) (rows : List Row) : Type 0 where
   kept : List Row
   pending : Option (Text × List Text)

@@ -11,7 +11,7 @@ use Rattle.command_line.specs.Words.{word_of, slots_of, Gives}
 
 -- ---- what the parser is given
 
--- the slot's name: an option's is what stands between `--` and `=`
+-- the slot's name: an option's is what is between `--` and `=`
 abbrev pub id_of : Slot → List ℕ
 id_of Plain = codes "word"
 id_of Args = codes "args"

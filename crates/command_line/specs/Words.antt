@@ -33,7 +33,7 @@ wanted_of word.Check = Plain ∷ []
 wanted_of word.List = Plain ∷ []
 wanted_of word.Soak = Seed ∷ Functions ∷ []
 
--- what stands before the value in a word of the slot: an option is `--name=value`, and a plain word is its own value
+-- what is before the value in a word of the slot: an option is `--name=value`, and a plain word is its own value
 abbrev pub prefix_of : Slot → List ℕ
 prefix_of Plain = []
 prefix_of Args = codes "--args="

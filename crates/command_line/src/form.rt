@@ -1,4 +1,4 @@
-//! The form of a command line: which words may stand in it, whatever their values are.
+//! The form of a command line: which words may be in it, whatever their values are.
 ghost use Rattle.std.specs.Prelude.{◌≡◌, ◌≢◌, ◌≤◌, ◌↔◌, ◌++◌, true, false, MatchOption, IsTrue, count_by, nat_le, string_bytes};
 ghost use Rattle.std.specs.List.{list_any, list_all};
 ghost use Rattle.command_line.specs.declared.form.CommandWord.{CommandWord};
@@ -156,7 +156,7 @@ impl Slot {
             .count()
     }
 
-    /// The slot's name: an option's stands between `--` and `=`.
+    /// The slot's name: an option's is between `--` and `=`.
     pub(crate) fn id(self) -> &'static str
         ensures { result.now ≡ id_of self }
     {

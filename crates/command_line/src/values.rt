@@ -83,7 +83,7 @@ pub(crate) fn moves(text: &[u8]) -> Option<Moves>
     }
 }
 
-/// The moves by the seed that stands after `seed:`.
+/// The moves by the seed that is after `seed:`.
 fn seeded(text: &[u8]) -> Option<Moves>
     ensures { MatchOption result
         (Nothing (SeedsMoves text.now))
@@ -203,7 +203,7 @@ fn item(alloc: Global, text: &[u8]) -> Result<Arg, WordsError>
     }
 }
 
-/// What stands before and after the first comma.
+/// What is before and after the first comma.
 fn cut_at_comma(text: &[u8]) -> Option<(&[u8], &[u8])>
     ensures { MatchOption result
         (All (λ b. b ≢ 44) text.now)

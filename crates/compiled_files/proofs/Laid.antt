@@ -1,2 +1,2 @@
--- That what is made of a function can be laid out, named once more for what stands above.
+-- That what is made of a function can be laid out, named again for the crates above.
 pub use Rattle.function_stands.proofs.Laid.{function_can}

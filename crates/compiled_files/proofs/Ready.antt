@@ -1,4 +1,4 @@
--- Where a run of a Linear function stands, its line finds what it is to find: a raise is on its way only before the entry of a handler.
+-- Where a run of a Linear function is, its line finds what it is to find: a raise is on its way only before the entry of a handler.
 use Rattle.std.proofs.Common.{◌≡◌, ◌⊎◌, inl, inr, ⊎_elim, ℕ, zero, suc, Bool, true, false, not, ◌||◌, List, [], ◌∷◌, Option, Some, None, Result, Ok, Err, length, refl, sym, ap, ◌∙◌, subst}
 use Rattle.bs_words.specs.Memory.{Memory, sizes}
 use Rattle.bs_words.specs.Operators.{word_in}

@@ -123,7 +123,7 @@ module _ (c : Place) (named : NamedAt) (m : Lin) (i : Line) (next : List Line) (
   none_served : (Comes i.op → ⊥) → words + service_of does ≤ words
   none_served never = let zero_is = served_never does (step_no c named m i next file a never) in omega (arith, zero_is)
 
-  -- What stands before the service, and that, are the words of the part.
+  -- What is before the service, and that, are the words of the part.
   pub served : (ActsAt i.op i.args i.results → 1 ≤ words) → before_service i.op words + service_of does ≤ words
   served acts = by i.op refl
     where

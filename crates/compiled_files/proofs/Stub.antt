@@ -178,7 +178,7 @@ module _ (s : Fixed) (end : ℕ) (end_is : end ≡ data_start + length s.image.b
 
 -- ---- the stub
 
--- its words stand at the beginning of the code
+-- its words are at the beginning of the code
 pub record HasStub (s : Fixed) : Type 0 where
   pub returns : IsCode s 0 (OpImm Addi 7 0 0)
   pub tells : IsCode s 1 Ecall

@@ -69,7 +69,7 @@ pub fn selected_functions_keep()
         IsSelected file layout (selected_in file) (most_nodes (functions file)) }
 {}
 
-/// Law: wherever a run of a well formed function stands, its line finds what it is to find: a raise is on its way
+/// Law: wherever a run of a well-formed function is, its line finds what it is to find: a raise is on its way
 /// only before the entry of a handler, a try is pushed where one is popped, and none where the function is left.
 pub fn runs_are_ready()
     ensures { (lins : ℕ → Lin) (named : ℕ → NamedAt) (f : ℕ) (c : Place) → WellFormed (lins f) →

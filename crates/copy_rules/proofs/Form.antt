@@ -1,4 +1,4 @@
--- A function whose copies are propagated is well-formed, and stands where it did.
+-- A function whose copies are propagated is well-formed, and is where it was.
 use Rattle.std.proofs.Common.{◌≡◌, ◌≢◌, ℕ, suc, ◌+◌, ◌<◌, ◌⊎◌, ⊎_elim, List, [], ◌∷◌, ◌++◌, length, map, refl, sym, ap, ◌∙◌, subst, arith, append_assoc}
 use Rattle.std.proofs.lemmas.List.Elements.{Contains-append_cases, All-contains}
 use Rattle.std.specs.List.{All, AllPairs, Contains}

@@ -22,7 +22,7 @@ is_called_in row d = nat_lt row.offset d.after && nat_le d.after (end_of row)
 
 -- A function's row, and the descriptors of its calls, keep to the text.
 pub record IsWithinText (described : List Desc) (f : FunctionTree) (row : Func) : Type 0 where
-  -- bytes of the frame, and 16 for each try that may stand on top
+  -- bytes of the frame, and 16 for each try that may be on top
   pub frame : row.frame + 16 * tries f ≤ 16 * f.tokens + 32
   pub words : row.words ≤ most_words f
   pub descs : count_by (is_called_in row) described ≤ frame_points f

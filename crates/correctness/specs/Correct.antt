@@ -40,7 +40,7 @@ pub record Forwards (run : ℕ → Run) (machine : ℕ → Seen) (stack heap wor
       → IsGiven (run n) stack heap
       → (m : ℕ) × (m ≤ 2 * (n + 1) * words) × Alike (run n) (machine m)
 
--- how the machine stands is accounted for by runs of the text
+-- the state of the machine is accounted for by runs of the text
 abbrev pub Accounted : (ℕ → Run) → ℕ → ℕ → Seen → End → Type 0
 Accounted run stack heap now Running = ⊤
 Accounted run stack heap now (machine.Returned value) = (n : ℕ) × Alike (run n) now

@@ -15,7 +15,7 @@ use Rattle.rv_machine.specs.Places.{domain_start}
 use Rattle.rv_machine.specs.Run.{Schedule, after, begun, seen}
 use Rattle.rv_machine.specs.Services.{Machine, Now, Going}
 
--- The machine stands at an allocation service, before it is done: the next instruction is an ECALL,
+-- The machine is at an allocation service, before it is done: the next instruction is an ECALL,
 -- and t2 says service 3.
 pub record IsAtAllocation (m : Machine) : Type 0 where
   pub instruction : ℕ

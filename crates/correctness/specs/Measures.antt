@@ -22,7 +22,7 @@ frame_points f = total is_frame_point f.body
 abbrev pub switch_indexes : FunctionTree → ℕ
 switch_indexes f = total indexes_of f.body
 
--- the most tries that stand around one point of an expression
+-- the most tries that are around one point of an expression
 abbrev mutual
   pub tries_in : Expression → ℕ
   tries_in (Integer at word) = 0

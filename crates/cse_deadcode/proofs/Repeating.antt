@@ -188,7 +188,7 @@ module _ (m : Mach) (formed : WellFormed m) where
 
     -- ---- what is not found is not repeated
 
-    -- an operator that stands after later instructions stood after fewer
+    -- an operator that is after later instructions was after fewer
     stood : (others : List Instr) (j : Instr) (mid : List Instr) (k : Instr) (rest : List Instr) (r : Reg) →
         (t : StillStands made j r) → t.others ≡ others → t.run ≡ mid ++ k ∷ rest → StillStands (others ++ j ∷ mid) j r
     stood others j mid k rest r t e h =

@@ -68,7 +68,7 @@ closed_past f c rows p past =
           absurd (both_ways _ none entered);
     }
 
--- the sets tell exactly what is used
+-- the sets say exactly what is used
 pub solved : (f : flow.Flow) (c : ℕ → Bool) (rows : List (List Bool)) (set : List Bool) (grew : Bool) → grew ≡ false →
     Solving f c rows set grew → AreUsed f c rows
 solved f c rows set grew unchanged s =

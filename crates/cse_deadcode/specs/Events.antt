@@ -10,7 +10,7 @@ use Rattle.mach_ir.specs.declared.op.Right.TheVariants as right
 use Rattle.mach_ir.specs.declared.reg.Reg.{Reg}
 use Rattle.cse_deadcode.specs.declared.events.Computed.{Computed}
 
--- where a comparison stands among all
+-- where a comparison is among all
 abbrev pub rank_of_comparison : CmpOp → ℕ
 rank_of_comparison compare.Eq = 0
 rank_of_comparison compare.Ne = 1
@@ -19,7 +19,7 @@ rank_of_comparison compare.Le = 3
 rank_of_comparison compare.Gt = 4
 rank_of_comparison compare.Ge = 5
 
--- where an operator stands among all
+-- where an operator is among all
 abbrev pub rank_of_operator : IntOp → ℕ
 rank_of_operator operator.Add = 0
 rank_of_operator operator.Sub = 1

@@ -21,7 +21,7 @@ pub data UsedBefore (g : Graph) (computes : ℕ → Bool) : ℕ → ℕ → Type
   aside : {p q r : ℕ} → Contains (g.aside p) q → UsedBefore g computes q r →
       UsedBefore g computes p r
 
--- the sets tell exactly what is used before each place
+-- the sets say exactly what is used before each place
 pub record AreUsed (f : flow.Flow) (computes : ℕ → Bool) (rows : List (List Bool)) : Type 0 where
   pub exact : (p r : ℕ) → (has (row rows p) r ≡ true) ↔ UsedBefore (graph f) computes p r
 
@@ -31,7 +31,7 @@ pub record AreUsed (f : flow.Flow) (computes : ℕ → Bool) (rows : List (List 
 abbrev pub is_wanted : List ℕ → List ℕ → List (List Bool) → Bool
 is_wanted next writes rows = list_any (λ k. list_any (λ q. has (row rows q) k) next) writes
 
--- whether r is used before a place, as far as the rows tell what is used before the next ones
+-- whether r is used before a place, as far as the rows say what is used before the next ones
 abbrev pub enters : Bool → List ℕ → List ℕ → List ℕ → List ℕ → List (List Bool) → ℕ → Bool
 enters computes next past reads writes rows r =
     ((list_any (λ q. has (row rows q) r) next && not (list_any (λ k. k == r) writes))

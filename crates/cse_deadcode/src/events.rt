@@ -18,7 +18,7 @@ pub struct Operator {
     pub operator: IntOp,
 }
 
-/// Where the comparison stands among all, from 0 on.
+/// Where the comparison is among all, from 0 on.
 fn rank_of_comparison(comparison: CmpOp) -> u8
     ensures { result ≡ rank_of_comparison comparison }
 {
@@ -33,7 +33,7 @@ fn rank_of_comparison(comparison: CmpOp) -> u8
 }
 
 impl Operator {
-    /// Where the operator stands among all, from 0 on.
+    /// Where the operator is among all, from 0 on.
     fn rank(&self) -> u8
         ensures { result ≡ rank_of_operator self.now.operator }
     {

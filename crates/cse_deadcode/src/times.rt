@@ -47,7 +47,7 @@ fn event_of(op: &MachOp, args: &[Reg]) -> Option<Event>
 
 /// For each event the place of the last instruction in which it happened, counted from 1.
 ///
-/// What one number names stands in a table by it, and only what is computed in a map, since most of
+/// What one number names is in a table by it, and only what is computed in a map, since most of
 /// what is noted and asked is of writes.
 #[derive(Drop)]
 pub struct Times {

@@ -257,7 +257,7 @@ comes_member f rows formed len closed (suc n) q r (inr (o, step, walk)) =
     let there : has (row rows o) r ≡ true = comes_member f rows formed len closed n o r walk in
     (closed o from).member q r to (or_left (list_any (λ k. k == q) (g.aside o) && has (row rows o) r) (list_any (λ k. k == q) (g.next o) && ((has (row rows o) r && not (list_any (λ k. k == r) (g.writes o))) || list_any (λ k. k == r) (g.reads o))) (and_from (list_any (λ k. k == q) (g.aside o)) (has (row rows o) r) (from_contains (g.aside o) q step) there))
 
--- the sets tell exactly what comes to each place
+-- the sets say exactly what comes to each place
 pub solved_on : (f : flow.Flow) (rows : List (List Bool)) (marks : List Bool) (grew : Bool) → WellFormed f → grew ≡ false → SolvingOn f rows marks grew → IsReaching f rows
 solved_on f rows marks grew formed unchanged s = record {
   len = s.len;

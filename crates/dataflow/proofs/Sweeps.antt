@@ -68,7 +68,7 @@ closed_past f rows p past =
           absurd (both_ways _ none entered);
     }
 
--- the sets tell exactly what is live
+-- the sets say exactly what is live
 pub solved : (f : flow.Flow) (rows : List (List Bool)) (set : List Bool) (grew : Bool) → grew ≡ false → Solving f rows set grew → IsLiveness f rows
 solved f rows set grew unchanged s = record {
   len = s.len;

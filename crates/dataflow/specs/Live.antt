@@ -1,4 +1,4 @@
--- Sets that tell exactly what is live before each place.
+-- Sets that say exactly what is live before each place.
 use Rattle.std.specs.Prelude.{◌≡◌, ℕ, Bool, true, List, length, ◌↔◌}
 use Rattle.bs_words.specs.Contents.{contents}
 use Rattle.bs_bits.specs.Set.{has}

@@ -20,7 +20,7 @@ ComesIn g r (suc n) p =
 abbrev pub ComesTo : Graph → ℕ → ℕ → Type 0
 ComesTo g p r = (n : ℕ) × ComesIn g r n p
 
--- the sets tell exactly what comes to each place
+-- the sets say exactly what comes to each place
 pub record IsReaching (f : flow.Flow) (rows : List (List Bool)) : Type 0 where
   pub len : length rows ≡ length (contents f.places)
   pub sizes : HasSizes f.bound rows

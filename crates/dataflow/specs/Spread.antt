@@ -22,7 +22,7 @@ pub record Pushed (marks : List Bool) (old new : List (List Bool)) (places : Lis
   pub most : missing new ≤ missing old
   pub fewer : grew ≡ true → missing new < missing old
 
--- Whether r arrives at q from place p, as far as the rows tell what came to p. The place generates the numbers of
+-- Whether r arrives at q from place p, as far as the rows say what came to p. The place generates the numbers of
 -- `gen`, and kills those of `kill`.
 abbrev pub arrives : List ℕ → List ℕ → List ℕ → List ℕ → List (List Bool) → ℕ → ℕ → ℕ → Bool
 arrives next aside gen kill rows p q r =

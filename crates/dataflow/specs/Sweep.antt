@@ -8,7 +8,7 @@ use Rattle.dataflow.specs.declared.flow.Flow as flow
 use Rattle.dataflow.specs.Flow.{Graph, graph, LiveBefore}
 use Rattle.dataflow.specs.Rows.{row, HasSizes}
 
--- whether r is live before a place, as far as the rows tell what is live before the next ones
+-- whether r is live before a place, as far as the rows say what is live before the next ones
 abbrev pub enters : List ℕ → List ℕ → List ℕ → List ℕ → List (List Bool) → ℕ → Bool
 enters next aside reads writes rows r =
     ((list_any (λ q. has (row rows q) r) next && not (list_any (λ k. k == r) writes)) || list_any

@@ -22,7 +22,7 @@ pub(crate) fn empty_rows(alloc: Global, count: usize, bound: u32) -> Result<Vec<
 /// The numbers that are live before each place: those that some walk from it reads before it writes
 /// them.
 ///
-/// It sweeps over the places backwards until no set grows, so a graph whose places stand in the order
+/// It sweeps over the places backwards until no set grows, so a graph whose places are in the order
 /// of control takes one sweep for each depth of loops and two more. Its memory is a row of
 /// `bound / 8` bytes for each place and one more.
 pub fn live(alloc: Global, flow: &Flow) -> Result<Rows, AllocError>
@@ -38,7 +38,7 @@ pub fn live(alloc: Global, flow: &Flow) -> Result<Rows, AllocError>
     Ok(Rows { rows })
 }
 
-/// The same as `live`, for a graph whose places do not stand in the order of control.
+/// The same as `live`, for a graph whose places are not in the order of control.
 ///
 /// It sweeps over the places in both directions until no set grows, so a graph takes one turn for each time
 /// that a walk changes between the directions, and two more.

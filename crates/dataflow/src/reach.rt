@@ -14,7 +14,7 @@ use std::alloc::{AllocError, Global};
 ///
 /// The gen set of a place is its `reads`, the kill set its `writes`; what is in both reaches the places
 /// after it. A step aside generates and kills nothing. It sweeps over the places forwards until no set
-/// grows, so a graph whose places stand in the order of control takes one sweep for each depth of loops
+/// grows, so a graph whose places are in the order of control takes one sweep for each depth of loops
 /// and two more. Its memory is a row of `bound / 8` bytes for each place and one more.
 pub fn reaching(alloc: Global, flow: &Flow) -> Result<Rows, AllocError>
     requires { WellFormed flow.now }

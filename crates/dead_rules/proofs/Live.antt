@@ -175,7 +175,7 @@ module _ (m : Mach) (drops : ℕ → Bool) (dead : AreDead m drops) where
           after_step (goes (At l) o)
           (used_live (live_back v (after_label l m.code) (ending_label l m.code) (label_is l)))
 
-  -- ---- what stands in the second
+  -- ---- what is in the second
 
   pub record IsMain (j : Instr) (zs code : List Instr) : Type 0 where
     pub next : List Instr

@@ -1,4 +1,4 @@
--- What may go is no mark, raises nothing and goes on: labels, handlers and tries stand where they did.
+-- What may go is no mark, raises nothing and goes on: labels, handlers and tries are where they were.
 use Rattle.std.proofs.Common.{◌≡◌, ℕ, Bool, true, false, cond, ◌&&◌, ◌⊎◌, inl, inr, List, [], ◌∷◌, ◌++◌, length, Option, Some, None, Result, Ok, Err, refl, sym, ap, ◌∙◌}
 use Rattle.std.proofs.lemmas.Bool.{both_ways}
 use Rattle.bs_words.specs.Memory.{sizes}

@@ -1,4 +1,4 @@
--- The descriptors stand among the pieces as they are handed in, in their order.
+-- The descriptors are among the pieces as they are handed in, in their order.
 use Rattle.std.proofs.Common.{◌≡◌, ℕ, suc, Bool, true, false, cond, List, [], ◌∷◌, ◌++◌, length, Some, None, refl, sym, ◌∙◌, ap, append_assoc, arith}
 use Rattle.std.proofs.lemmas.Bool.{true≢false}
 use Rattle.mach_ir.specs.Blocks.{bytes_of}

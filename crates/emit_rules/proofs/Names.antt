@@ -1,4 +1,4 @@
--- The pieces of a function: their numbers fit, they name what the function names, and each place and each descriptor stands
+-- The pieces of a function: their numbers fit, they name what the function names, and each place and each descriptor comes
 -- in them once.
 use Rattle.std.proofs.Common.{◌≡◌, ℕ, List, [], ◌∷◌, ◌++◌, length, Option, Some, refl, sym, ◌∙◌, ap, subst, append_assoc, arith, Contains}
 use Rattle.std.proofs.lemmas.List.Elements.{Contains-append_right}

@@ -1,4 +1,4 @@
--- Calls, and the return from a function. Arguments and results stand at the places of the
+-- Calls, and the return from a function. Arguments and results are at the places of the
 -- convention.
 use Rattle.std.specs.Prelude.{ℕ, Bool, true, false, List, [], ◌∷◌, ◌++◌, Option, Some, None}
 use Rattle.mach_ir.specs.declared.op.Callee.{Callee}
@@ -15,7 +15,7 @@ use Rattle.emit_rules.specs.Slots.{first, register_of, fetched}
 use Rattle.emit_rules.specs.Tests.{value_words}
 use Rattle.emit_rules.specs.Entry.{Frame, given_back}
 
--- what stands at the return address of a frame point
+-- what is at the return address of a frame point
 abbrev pub mark_of : Option Descr → List Piece
 mark_of (Some d) = piece.Descriptor d ∷ []
 mark_of None = []

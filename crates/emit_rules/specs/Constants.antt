@@ -2,7 +2,7 @@
 --
 -- A word of 64 bits is made from the top: its highest 32 bits or fewer by lui and addiw, then 12
 -- bits at a time by a shift and addi. Addi and addiw add their 12 bits with their sign, so that
--- what stands above is rounded: one more where the highest of the 12 bits is set.
+-- what is above is rounded: one more where the highest of the 12 bits is set.
 use Rattle.std.specs.Prelude.{ℕ, zero, suc, ◌+◌, ◌-◌, ◌/◌, ◌%◌, Bool, cond, ◌||◌, nat_eq, nat_lt, nat_le, List, [], ◌∷◌, ◌++◌}
 use Rattle.mach_ir.specs.Forms.{is_immediate_12}
 use Rattle.rv_isa.specs.declared.instr.AluOp.TheVariants as alu
@@ -18,7 +18,7 @@ use Rattle.emit_rules.specs.Instructions.{low_12, addi, addiw, lui, add, operati
 abbrev pub is_word_32 : ℕ → Bool
 is_word_32 w = nat_lt w 0x80000000 || nat_le 0xFFFFFFFF80000000 w
 
--- what stands above the lowest 12 bits, rounded
+-- what is above the lowest 12 bits, rounded
 abbrev pub above_12 : ℕ → ℕ
 above_12 w = w / 4096 + w / 2048 % 2
 

@@ -1,4 +1,4 @@
--- The instructions that emission makes, over registers. A number stands in its field as the field's
+-- The instructions that emission makes, over registers. A number is in its field as the field's
 -- low bits.
 use Rattle.std.specs.Prelude.{ℕ, ◌%◌, List, [], ◌∷◌, Option, Some, None, slice_get}
 use Rattle.rv_isa.specs.Registers.{number}

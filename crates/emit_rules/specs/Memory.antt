@@ -94,14 +94,14 @@ reserved bytes =
     ∷ ask bytes
 
 -- Each block lies above those after it, and its address is that of the cell after its header. The
--- first result is written last, so that it stands where two are written to one location.
+-- first result is written last, so that it stays where two are written to one location.
 abbrev pub addresses : (traps : ℕ) → List NewBlock → List Spot → List Piece
 addresses traps (b ∷ blocks) (s ∷ results) =
     addresses traps blocks results
     ++ sum_to T1 (target s.loc) S10 (bytes_of blocks + 8) ++ kept traps s.loc
 addresses traps _ _ = []
 
--- what stands at the return address, its descriptor, comes between
+-- what is at the return address, its descriptor, comes between
 abbrev pub alloc_part : (traps : ℕ) → (mark : List Piece) → List NewBlock → List Spot → List Piece
 alloc_part traps mark blocks results =
     reserved (bytes_of blocks) ++ mark ++ addresses traps blocks results

@@ -1,7 +1,7 @@
 -- Exits that have no words.
 --
 -- An exit counts a unit. Where its label comes right after it, with other labels alone between, and a
--- branch stands right after that label, control comes there without an instruction. The branch takes
+-- branch is right after that label, control comes there without an instruction. The branch takes
 -- one whichever way it goes, and that one stands for the unit.
 use Rattle.std.specs.Prelude.{ℕ, Bool, true, false, cond, ◌&&◌, List, [], ◌∷◌}
 use Rattle.lin_ir.specs.Formed.{is_label}
@@ -26,7 +26,7 @@ falls_to l [] = false
 falls_to l (i ∷ next) =
     cond (has_label l i.op) (tests_first next) (is_label i.op && falls_to l next)
 
--- before this code the operation is such an exit: a label stands once, so it goes where it falls
+-- before this code the operation is such an exit: a label occurs once, so it goes where it falls
 abbrev pub is_free : LinOp → List Line → Bool
 is_free (lin.Flow (flow.Exit l)) next = falls_to l next
 is_free _ next = false

@@ -168,7 +168,7 @@ scope_bound (p ∷ params) [] names e = absurd (omega arith)
 scope_bound (p ∷ params) (v ∷ values) names e =
     scope_bound params values (record { scoped = scoped_parameter p; value = v } ∷ names) (omega arith)
 
--- the names of parameters stand round those that were in scope
+-- the names of parameters are round those that were in scope
 pub within_parameters : (params : List Parameter) (names : List Scoped) → Within names (with_parameters params names)
 within_parameters [] names = record { extra = []; is = refl }
 within_parameters (p ∷ params) names =

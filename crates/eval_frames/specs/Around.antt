@@ -1,4 +1,4 @@
--- What stands round the run of a file, and the activations of its functions.
+-- What is round the run of a file, and the activations of its functions.
 use Rattle.std.specs.Prelude.{◌≡◌, ℕ, ◌+◌, true, List, [], ◌∷◌, Option, Some, None, map, option_copied, slice_get}
 use Rattle.bs_words.specs.Contents.{contents}
 use Rattle.bs_words.specs.declared.values.Kind.TheVariants.{BadCall}
@@ -38,7 +38,7 @@ activated_held s frame (Some f) arguments below w =
     } in
     expression s f.body true here (deepened (below + frame) w)
 
--- what stands round a run of a file
+-- what is round a run of a file
 abbrev pub whole : File → Layout → evaluation.Surroundings
 whole file layout = fuel.whole (file_view file) layout
 

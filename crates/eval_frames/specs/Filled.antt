@@ -260,7 +260,7 @@ WantsValue (step.Return here tests) = ⊥
 abbrev pub fills : Surroundings → Frame → Evaluation → Evaluation
 fills s frame e = does s frame.step frame.form.now frame.tail e
 
--- what frames make of it, the innermost of which stands last
+-- what frames make of it, the innermost of which is last
 abbrev pub resume : Surroundings → List Frame → Evaluation → Evaluation
 resume s [] e = e
 resume s (f ∷ frames) e = fills s f (resume s frames e)
@@ -273,7 +273,7 @@ HasEnded (now.Exits label values) = Unit {0}
 HasEnded (now.Raises v) = Unit {0}
 HasEnded (now.Stops why) = Unit {0}
 
--- the evaluation that stands now
+-- the evaluation that is now
 abbrev pub standing : Surroundings → Now → Here → World → Evaluation
 standing s (now.Begins e tail) h w = expression s e.now tail h w
 standing s (now.Gives v) h w = Gives v h w

@@ -29,7 +29,7 @@ bound_view b =
     record
     { scoped = record { name = b.name.now; type = b.ty; mutable = b.mutable }; value = b.value }
 
--- the innermost binding stands last in the code, and first here
+-- the innermost binding is last in the code, and first here
 abbrev pub bounds_view : List Bound → List Binding
 bounds_view bounds = map bound_view (reverse bounds)
 

@@ -1,10 +1,10 @@
-//! What stands round a run.
+//! What is round a run.
 use crate::layout::Layout;
 use cmm_data::SymbolTable;
 use cmm_tree::{File, Function};
 use std::alloc::Global;
 
-/// What stands round a run.
+/// What is round a run.
 #[derive(Drop)]
 pub struct Surroundings<'a> {
     pub alloc: Global,

@@ -13,7 +13,7 @@ use cmm_tree::{Binding, Expr, Form, Label};
 pub struct Frame<'a> {
     /// The node.
     pub form: &'a Form,
-    /// Whether it stands in tail position.
+    /// Whether it is in tail position.
     pub tail: bool,
     pub step: Step<'a>,
 }
@@ -97,7 +97,7 @@ pub enum Step<'a> {
     },
 }
 
-/// What stands now: an expression that begins, or how an evaluation ended.
+/// What is now: an expression that begins, or how an evaluation ended.
 #[derive(Drop)]
 pub enum Now<'a> {
     /// An expression begins.

@@ -32,7 +32,7 @@ pub struct Here<'a> {
     pub tries: u64,
 }
 
-/// The innermost binding of a name, which stands last among those of its name.
+/// The innermost binding of a name, which is last among those of its name.
 fn innermost<'b, 'a>(names: &'b [Bound<'a>], name: &Name) -> Option<&'b Bound<'a>>
     ensures { option_map bound_view (option_copied result)
         ≡ innermost (bounds_view names.now) name.now }

@@ -68,7 +68,7 @@ pub row_parts : (n n' : List ℕ) (ps ps' : List Comp) (r : Ret) → n ≡ n' �
     row n ps r ≡ row n' ps' r
 row_parts n n' ps ps' r e f = ap₂ (λ (a : List ℕ) (b : List Comp). record { name = a; params = b; result = r }) e f
 
--- an entry that stands at its own bytes is found by those of a call where it is of its row
+-- an entry that is at its own bytes is found by those of a call where it is of its row
 found_by : (e : External) (key : List ℕ) (entry : Entry) → key ≡ key_of e → entry.0.items ≡ key_of (entry_view entry) → bytes_eq key entry.0.items ≡ same_row (entry_view entry) e
 found_by e key entry is keyed =
     ap₂ bytes_eq is keyed ∙ (turned (key_of e) (key_of (entry_view entry)) ∙ same_key (entry_view entry) e)

@@ -20,6 +20,6 @@ key_of e = ret_byte e.result ∷ (map comp_byte e.params ++ 255 ∷ e.name)
 abbrev pub entry_view : {A : Type 0} → Vec ℕ A × ExtRow → External
 entry_view e = record { name = e.1.name; params = contents e.1.params; result = e.1.result }
 
--- each row stands at its own bytes
+-- each row is at its own bytes
 abbrev pub AreKeyed : {A : Type 0} → List (Vec ℕ A × ExtRow) → Type 0
 AreKeyed entries = map (λ e. e.0.items) entries ≡ map (λ e. key_of (entry_view e)) entries

@@ -187,7 +187,7 @@ root_symbol file (Some (Function f)) small h some = (refl, h (Function f) refl)
 root_symbol file (Some (Block serial offset)) small h some = absurd (h (Block serial offset) refl)
 root_symbol file None small h some = absurd (false≢true some)
 
--- a root item that stands here
+-- a root item that is here
 root_datum : (file : FileTree) (address : ℕ) (datum : DatumTree) (r : ℕ) → data_end file < 2 ^ 64 → keeps_rule address datum ≡ true → IsGiven file datum →
     Among r (root_at address datum) → IsRootDatum file address datum r
 root_datum file address (Val (Some w)) r small keeps given (inl e) =
@@ -260,7 +260,7 @@ root_item file address (i ∷ items) r small within none given among =
           value = m.value;
         }
 
--- a root cell of items stands after their begin
+-- a root cell of items is after their begin
 item_low : (address : ℕ) (items : List DataItemTree) (r : ℕ) → Among r (roots_among (items_from address items)) → address ≤ r
 item_low address [] r among = absurd among
 item_low address (i ∷ items) r among =

@@ -1,6 +1,6 @@
 //! A function called with each number below a count, in threads that fork and join by halves of the work.
 //!
-//! It knows nothing of what is computed: what the calls give stands in the order of their numbers, whatever
+//! It knows nothing of what is computed: what the calls give is in the order of their numbers, whatever
 //! order they ended in and however many threads there were.
 #![tactic(auto)]
 

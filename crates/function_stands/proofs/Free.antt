@@ -28,7 +28,7 @@ named_in {l} (falls_here {i = i} {j = j} {rest = rest} has tests) =
 named_in {l} (falls_past {i = i} {next = next} other mark falls) =
     let line = label_line i.op mark in subst (λ g. IsIn l (label_of g ++ labels_in next)) (sym line.is) (is_later (named_in falls))
 
--- labels stand once
+-- labels occur once
 pub falls_in : {i : Line} {next : List Line} {l : ℕ} (m : Lin) → WellFormed m → Stands i next m.code → (falls : FallsTo l next) →
     after_label l m.code ≡ branch_code falls
 falls_in {l = l} m well stands falls = later_after l (tail_next (stands_tail stands)) well.labels (named_in falls) ∙ falls_after falls

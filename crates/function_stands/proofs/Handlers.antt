@@ -85,6 +85,6 @@ module _ (m : Lin) (formed : WellFormed m) where
   pub pushed_enters : (l : ℕ) → Pushed m l → Enters m.code l
   pushed_enters l p = enters l m.code formed.labels (formed.handlers p.line (contains_of p.among) l p.is)
 
-  -- the label of a pushed trap stands
+  -- the label of a pushed trap is there
   pub pushed_stands : (l : ℕ) → Pushed m l → Contains (labels_in m.code) l
   pushed_stands l p = formed.named p.line (contains_of p.among) l (pushes p.is)

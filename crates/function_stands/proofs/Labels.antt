@@ -25,7 +25,7 @@ use Rattle.tidy_rules.proofs.Ends.{has_own_label}
 use Rattle.function_stands.proofs.Parts.{Place, left_in, part_in, place_first, place_later}
 use Rattle.function_stands.proofs.Splitting.{has_second}
 
--- the label does not stand at this piece
+-- the label is not at this piece
 abbrev pub NoLabel : ℕ → Piece → Type 0
 NoLabel l p = is_label l p ≡ false
 

@@ -31,7 +31,7 @@ abbrev pub left_in : List Descr → Line → List Descr
 left_in ds i = left_after (passes_frame i.op) ds
 
 -- the place of the part of the line with so many lines from it on, where the parts of these lines
--- stand from `at` on
+-- are from `at` on
 abbrev pub place_of_part : (traps : ℕ → ℕ) → Frame → List Descr → List Line → List Form → (at k : ℕ) → ℕ
 place_of_part traps f ds [] fs at k = at
 place_of_part traps f ds (i ∷ next) fs at k =
@@ -81,7 +81,7 @@ module _ (image : Tables) where
 
 -- ---- parts
 
--- the pieces stand, and their descriptors are found
+-- the pieces are there, and their descriptors are found
 pub record PartFound (s : Fixed) (n : Named) (at to : ℕ) (ps : List Piece) : Type 0 where
   pub part : PartStands s n at to ps
   pub found : AreFound s.image at ps part.forms
@@ -183,7 +183,7 @@ module _ (traps : ℕ → ℕ) (f : Frame) where
           ap (λ x. Place (left_in ds i) next left x k) same ∙ e
 
 module _ (s : Fixed) (n : Named) (traps : ℕ → ℕ) (f : Frame) where
-  -- the part of each line stands from its place up to that of the next line's
+  -- the part of each line is from its place up to that of the next line's
   pub line_part : {i : Line} {next : List Line} (ds : List Descr) (code : List Line) (fs : List Form) (at : ℕ) → Stands i next code →
       HasPieces s.image.code n at (parts traps f ds code) fs → ReachFrom (label_place n) at (parts traps f ds code) fs →
       AreFound s.image at (parts traps f ds code) fs →

@@ -1,4 +1,4 @@
--- What reaches its label does so wherever the function stands.
+-- What reaches its label does so wherever the function is.
 use Rattle.std.proofs.Common.{◌≡◌, ℕ, ◌+◌, ◌≤◌, List, [], ◌∷◌, refl, sym, ap, ◌∙◌, subst, arith}
 use Rattle.std.proofs.lemmas.Grind.{common_steps}
 use Rattle.layout_rules.specs.declared.form.Form.{Form}

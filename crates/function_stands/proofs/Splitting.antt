@@ -1,4 +1,4 @@
--- Pieces that stand in the code, cut in two.
+-- Pieces that are in the code, cut in two.
 use Rattle.std.proofs.Common.{◌≡◌, ℕ, ◌+◌, ◌≤◌, List, [], ◌∷◌, ◌++◌, length, take, drop, refl, ap, subst, arith}
 use Rattle.emit_rules.specs.Sizes.{least_words, words_at_least}
 use Rattle.layout_rules.specs.declared.form.Form.{Form}
@@ -36,7 +36,7 @@ least_of (ExternalNumber r row) f = omega arith
 least_of (Descriptor d) f = omega arith
 
 module _ (code : List ℕ) (n : Named) where
-  -- pieces that stand have all the words that they have in every form
+  -- pieces that are there have all the words that they have in every form
   pub least : (at : ℕ) (ps : List Piece) (fs : List Form) → HasPieces code n at ps fs → words_at_least ps ≤ total_words ps fs
   least at [] fs has = omega arith
   least at (p ∷ ps) [] has = absurd has

@@ -1,4 +1,4 @@
--- A chained function stands in the image of its file.
+-- A chained function lies in the image of its file.
 use Rattle.std.proofs.Common.{◌≡◌, ℕ, zero, suc, ◌+◌, ◌*◌, ◌^◌, ◌<◌, ◌≤◌, Bool, true, false, List, [], ◌∷◌, ◌++◌, length, drop, take, Option, Some, refl, sym, ap, ◌∙◌, subst, arith}
 use Rattle.std.specs.Prelude.{slice_get, slice_index}
 use Rattle.std.specs.List.{Contains}
@@ -311,7 +311,7 @@ module _ (image : Tables) (file : FileTree) (ps : List Pieces) (c : Setting) (k 
         spare = spare_passes m it.regular.homes i line_in next tries;
       }
 
-      -- a walk comes to what stands after a frame point
+      -- a walk comes to what is after a frame point
       point_before : passes_frame i.op ≡ true → part_place (length next) < length s.image.code
       point_before point =
           subst (λ (t : Tables). part_place (length next) < length t.code) (sym same)

@@ -1,4 +1,4 @@
--- How a function stands in the image: what the laws of its lines and of its entry take as known.
+-- How a function lies in the image: what the laws of its lines and of its entry take as known.
 use Rattle.std.specs.Prelude.{◌≡◌, ℕ, ◌+◌, ◌-◌, ◌/◌, ◌≤◌, true, false, List, ◌∷◌, length, Option, slice_index}
 use Rattle.cmm_meaning.specs.Setting.{Setting}
 use Rattle.correctness.specs.Setting.{layout_of}
@@ -45,7 +45,7 @@ pub record FunctionStands (image : Tables) (m : Lin) (c : Setting) (named : Name
   pub rises : (fewer more : ℕ) → fewer ≤ more → laid.part more ≤ laid.part fewer
   pub begins : entry_place image k ≤ laid.part (length m.code)
   pub ends : laid.part 0 + 4 ≤ entry_place image k + length image.code
-  -- the entry's pieces stand at the entry, up to the first line's part
+  -- the entry's pieces are at the entry, up to the first line's part
   pub entered : (s : Fixed) → s.image ≡ image →
       PartStands s names (entry_place image k) (laid.part (length m.code))
       (entry (record { bytes = laid.frame; saves = laid.saves }))

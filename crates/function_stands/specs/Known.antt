@@ -1,3 +1,3 @@
--- Words of crates below, named once more for what stands above.
+-- Words of crates below, named again for the crates above.
 pub use Rattle.line_calls.specs.Laws.{frame_in}
 pub use Rattle.line_calls.specs.Points.{IsReadyFor, before_service}

@@ -1,4 +1,4 @@
-//! How a function stands in the image of its file: from what is known of it, whatever passes made it, and from its
+//! How a function lies in the image of its file: from what is known of it, whatever passes made it, and from its
 //! layout, all that the laws of its lines and of its entry take as known, in every run of the image.
 //!
 //! The crate holds definitions and laws alone.
@@ -19,9 +19,9 @@ ghost use Rattle.laid_files.specs.Made.{IsChained};
 ghost use Rattle.moving_laws.specs.Values.{HasFunctions};
 ghost use Rattle.rv_pieces.specs.declared.piece.Pieces.{Pieces};
 
-/// Law: a function of which all is known that the compiler keeps stands in the image.
+/// Law: a function of which all is known that the compiler keeps lies in the image.
 ///
-/// Its entry's pieces stand at its entry and the part of each line at its place, one after the other;
+/// Its entry's pieces are at its entry and the part of each line at its place, one after the other;
 /// what lines name stands for what it is to; and the descriptor of each frame point is found at its
 /// return address and says what is live there.
 pub fn functions_stand()

@@ -14,7 +14,7 @@ use Rattle.mach_laws.proofs.Places.{shorter}
 use Rattle.hoist.specs.Written.{noted, noted_in, times}
 use Rattle.hoist.proofs.Counting.{noted_some, not_noted, is_noted, none_in_code, again_in_code, one_place}
 
--- ---- what an operation destroys stands at a colour
+-- ---- what an operation destroys is at a colour
 
 record IsGone (n : ℕ) (rs : List Reg) (d : Destroyed) : Type 0 where
   pub reg : Reg

@@ -77,7 +77,7 @@ now : (p : ℕ) → p < suc p
 now p = omega arith
 
 module _ (code : List Instr) (p : ℕ) (i : Instr) (at : slice_get code p ≡ Some i) where
-  -- where no exit to the label stands here
+  -- where no exit to the label is here
   same_end : (l n : ℕ) → (exit_of i.op ≡ Some l → ⊥) → IsAbove (ExitBefore code p l) n → IsAbove (ExitBefore code (suc p) l) n
   same_end l n other =
       same_above (ExitBefore code p l) (ExitBefore code (suc p) l) n (λ k w. (later k p w.0, w.1))

@@ -7,7 +7,7 @@ use Rattle.mach_ir.specs.declared.mach.MachOp.TheVariants as mach
 use Rattle.mach_ir.specs.declared.mach.Instr.{Instr}
 use Rattle.hoist.specs.Constants.{makes_wide}
 
--- the label that stands here
+-- the label that is here
 abbrev pub label_of : MachOp → Option ℕ
 label_of (mach.Op f) = None
 label_of (mach.Mark (mark.Exit l n)) = None
@@ -42,7 +42,7 @@ pub record IsAbove (P : ℕ → Type 0) (n : ℕ) : Type 0 where
   pub above : (k : ℕ) → P k → k < n
   pub least : (n ≡ 0) ⊎ ((k : ℕ) × (n ≡ suc k) × P k)
 
--- an exit to a label stands at a place
+-- an exit to a label is at a place
 pub record IsExitTo (code : List Instr) (l e : ℕ) : Type 0 where
   pub instr : Instr
   pub at : slice_get code e ≡ Some instr
@@ -61,7 +61,7 @@ abbrev pub end_by : (ℕ → ℕ) → Option ℕ → ℕ
 end_by ends None = 0
 end_by ends (Some l) = ends l
 
--- the place after the last exit to the label that stands here
+-- the place after the last exit to the label that is here
 abbrev pub end_of : (ℕ → ℕ) → MachOp → ℕ
 end_of ends f = end_by ends (label_of f)
 

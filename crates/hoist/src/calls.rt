@@ -1,4 +1,4 @@
-//! Calls and the entries of handlers, over which no colour stands.
+//! Calls and the entries of handlers, over which no colour lives.
 ghost use Rattle.hoist.specs.Loops.{IsFirstCall};
 
 use mach_ir::Instr;

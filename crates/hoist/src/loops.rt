@@ -100,7 +100,7 @@ pub fn last_exits(alloc: Global, code: &[Instr]) -> Result<Table, AllocError>
     Ok(ends)
 }
 
-/// The place after the last exit to the label that stands here, or 0.
+/// The place after the last exit to the label that is here, or 0.
 fn end_of(ends: &Table, op: &MachOp) -> usize
     ensures { result ≡ end_of (entry ends.now) op.now }
 {

@@ -43,7 +43,7 @@ module _ (m : Mach) (moves : ℕ → Bool) (may : MayAllMove m moves) (formed : 
       by (falls g d s h) t = subst EndsInReturn (sym h) t
       by (remains k s h) t = subst EndsInReturn (sym h) (further t)
 
-  -- no try stands round the entry
+  -- no try is round the entry
   front_tries : {j : Instr} {zs xs : List Instr} → at_entry_of.Front m moves may xs → {code : List Instr} →
       code ≡ xs ++ rest_of.code → Stands j zs code →
       (tries_at (j ∷ zs) ≡ tries_at rest_of.code) ⊎ live.IsMain m moves may j zs m.code

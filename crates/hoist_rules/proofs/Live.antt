@@ -232,7 +232,7 @@ module _ (m : Mach) (moves : ℕ → Bool) (may : MayAllMove m moves) where
       (λ d. is_in_code d)
       (either (at_entry_of.front m moves may) rest_of.code c)
 
-  -- ---- what stands in the second
+  -- ---- what is in the second
 
   pub record IsMain (j : Instr) (zs code : List Instr) : Type 0 where
     pub next : List Instr

@@ -53,7 +53,7 @@ in_part {r} (x ∷ xs) ys c =
 
 -- ---- places
 
--- what stands before one code is one instruction
+-- what is before one code is one instruction
 pub same_place : {i j : Instr} {next others code : List Instr} → Stands i next code → Stands j others code →
     length next ≡ length others → i ≡ j
 same_place here here e = refl
@@ -186,7 +186,7 @@ module _ (m : Mach) (moves : ℕ → Bool) (may : MayAllMove m moves) where
   tries_past_front ys (front_one {i = i} {next = next} {xs = xs} s h k) =
       ap (λ (j : Instr). tries_past j.op (tries_at (xs ++ ys))) (may i next s h).is ∙ tries_past_front ys k
 
-  -- ---- places stand as in what is left
+  -- ---- places are as in what is left
 
   pub label_same : (l : ℕ) → after_label l q.code ≡ after_label l rest_of.code
   label_same l = label_past l rest_of.code whole_front
@@ -212,7 +212,7 @@ module _ (m : Mach) (moves : ℕ → Bool) (may : MayAllMove m moves) where
   pub handler_is : (l : ℕ) → from_handler l rest_of.code ≡ expand f (from_handler l m.code)
   handler_is l = handler_expand f (keeps_marks moves) l m.code
 
-  -- ---- where what moves stands at the entry
+  -- ---- where what moves is at the entry
 
   abbrev pub InFront : Instr → List Instr → Type 0
   InFront i xs = (ys : List Instr) × Stands i ys xs

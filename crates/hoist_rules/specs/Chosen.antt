@@ -7,7 +7,7 @@ use Rattle.mach_ir.specs.declared.mach.Instr.{Instr}
 use Rattle.mach_ir.specs.declared.mach.Mach.{Mach}
 use Rattle.hoist_rules.specs.Hoisted.{MayMove, hoisted}
 
--- A loop round the code `from`, by the text: its label stands there or before, and an exit to it there
+-- A loop round the code `from`, by the text: its label is there or before, and an exit to it there
 -- or after, from which on is `end`.
 pub record IsLoopRound (m : Mach) (from end : List Instr) : Type 0 where
   pub label : ℕ
@@ -28,7 +28,7 @@ pub record IsLoopRound (m : Mach) (from end : List Instr) : Type 0 where
 abbrev pub IsWide : ℕ → Type 0
 IsWide w = (2048 ≤ w) × (w + 2048 < 2 ^ 64)
 
--- An instruction moves to the entry where it may, where it makes a wide constant, and where it stands
+-- An instruction moves to the entry where it may, where it makes a wide constant, and where it is
 -- in a loop, and each loop round it ends before the first call or entry of a handler: so it lives over
 -- none that it did not live over before. A tail call counts, an external call does not.
 pub record IsMoved (m : Mach) (i : Instr) (next : List Instr) : Type 0 where

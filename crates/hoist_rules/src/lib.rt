@@ -2,7 +2,7 @@
 //! a function keeps.
 //!
 //! A constant may move whose register is of ints or odd vals, open, and its own: nothing else writes it,
-//! and no other register has its origin. Those move that do not fit twelve bits and that stand in a
+//! and no other register has its origin. Those move that do not fit twelve bits and that are in a
 //! loop, where each loop round them ends before the first call or entry of a handler of the text. A
 //! register is live at more places then, and so may meet more registers; nothing else changes.
 //!

@@ -22,7 +22,7 @@ abbrev pub EachNext : {A : Type 0} → (A → A → Type 0) → List A → Type 
 EachNext R [] = ⊤
 EachNext R (x ∷ xs) = First (R x) xs × EachNext R xs
 
--- no element stands twice
+-- no element occurs twice
 abbrev pub AllDiffer : {A : Type 0} → List A → Type 0
 AllDiffer [] = ⊤
 AllDiffer (x ∷ xs) = AllByRecursion (λ y. x ≢ y) xs × AllDiffer xs

@@ -31,13 +31,13 @@ Reads view (Err e) read = Refuses e read
 abbrev pub refused : ImageFault → ℕ → List ℕ → ImageRefusal
 refused fault total bytes = record { fault = fault; at = total - length bytes }
 
--- the first n bytes; where they are not all there, the fault stands at the end
+-- the first n bytes; where they are not all there, the fault is at the end
 unfoldable pub whole_at : ℕ → ℕ → List ℕ → Result (List ℕ × List ℕ) ImageRefusal
 whole_at total n bytes =
     if nat_lt (length bytes) n then Err (record { fault = faults.Truncated; at = total }) else Ok
     (take n bytes, drop n bytes)
 
--- the bytes after the mark, which is to stand here
+-- the bytes after the mark, which is to be here
 unfoldable pub mark_at : ℕ → ImageFault → List ℕ → List ℕ → Result (List ℕ) ImageRefusal
 mark_at total fault mark bytes = do
   front ← whole_at total (length mark) bytes
@@ -69,7 +69,7 @@ section_at total name limits bytes = do
   whole_at total n.0 n.1
 
 -- what is read of a body, with a fault known by its place in the image: so many bytes before the end
--- of the body, after which these stand
+-- of the body, after which these come
 abbrev pub placed : {A : Type 0} → ℕ → List ℕ → Result A ℕ → Result A ImageRefusal
 placed total behind (Ok x) = Ok x
 placed total behind (Err left) =

@@ -1,4 +1,4 @@
--- Which texts stood before.
+-- Which texts came before.
 use Rattle.std.specs.Prelude.{◌≡◌, ℕ, Bool, List, map}
 use Rattle.std.specs.List.{list_any}
 use Rattle.std.specs.Str.{bytes_eq}

@@ -117,7 +117,7 @@ pub(crate) fn name_from(bytes: &[u8]) -> Result<(&[u8], &[u8]), Stop>
     Ok((name, rest))
 }
 
-/// A name that did not stand before. It is then among those that did.
+/// A name that did not come before. It is then among those that did.
 #[tactic(auto, unfolding(crate::specs::Fields::new_name_at, crate::specs::Fields::kept))]
 pub(crate) fn new_name_from<'a>(
     alloc: Global,

@@ -62,7 +62,7 @@ fn refusal(fault: ImageFault, total: usize, rest: &[u8]) -> ImageError
     ImageError::Refused(ImageRefusal { fault, at })
 }
 
-/// The first bytes. Where they are not all there, the fault stands at the end of the image.
+/// The first bytes. Where they are not all there, the fault is at the end of the image.
 #[tactic(auto, unfolding(crate::specs::Reading::whole_at))]
 fn whole_from(total: usize, count: usize, bytes: &[u8]) -> Result<(&[u8], &[u8]), ImageError>
     ensures reads { Reads (λ x. (x.0.now, x.1.now)) result (whole_at total count bytes.now) }
@@ -146,7 +146,7 @@ fn section_from<'a>(
     whole_from(total, len, rest)
 }
 
-/// What was read of a body, with a fault known by its place in the image. After the body stand the
+/// What was read of a body, with a fault known by its place in the image. After the body come the
 /// other bytes.
 fn placed<T>(total: usize, behind: &[u8], read: Result<T, Stop>) -> Result<T, ImageError>
     ensures { result ≡ placed_result total behind.now read }
@@ -164,7 +164,7 @@ fn placed<T>(total: usize, behind: &[u8], read: Result<T, Stop>) -> Result<T, Im
     }
 }
 
-/// The functions. The names that stand before the symbols are then theirs.
+/// The functions. The names that are before the symbols are then theirs.
 #[tactic(auto, unfolding(crate::specs::Reading::part_at))]
 fn func_part<'a>(
     alloc: Global,

@@ -198,7 +198,7 @@ fn sym_offset_from<'a>(
     Ok((offset, rest))
 }
 
-/// A symbol. The names that stood before are those of the functions and of the symbols before it.
+/// A symbol. The names that came before are those of the functions and of the symbols before it.
 #[tactic(auto, unfolding(crate::specs::Fields::sym_at))]
 fn sym_from<'a>(
     alloc: Global,
@@ -277,7 +277,7 @@ fn rises(before: &[u32], number: u32) -> bool
     }
 }
 
-/// Whether a cell of 8 bytes stands at the offset in the data.
+/// Whether a cell of 8 bytes is at the offset in the data.
 fn is_cell(data_len: usize, offset: u32) -> bool
     ensures { result ≡ ((offset % 8 == 0) && nat_le (offset + 8) data_len) }
 {
@@ -327,7 +327,7 @@ pub(crate) fn root_table(alloc: Global, data_len: usize, body: &[u8]) -> Result<
     Ok(rows)
 }
 
-/// An external call. The rows that stood before are known by their bytes.
+/// An external call. The rows that came before are known by their bytes.
 #[tactic(auto, unfolding(crate::specs::Fields::ext_at, crate::specs::Fields::kept))]
 fn ext_from<'a>(alloc: Global, seen: &mut Seen, bytes: &'a [u8]) -> Result<(ExtRow, &'a [u8]), Stop>
     ensures gives { (before : List Ext)
@@ -394,7 +394,7 @@ fn is_entry(size: u32, entry: u32) -> bool
     entry % 2 == 1 && entry <= 63 || entry % 8 == 0 && entry < size
 }
 
-/// Whether the entry may stand next: registers first, and each part rising.
+/// Whether the entry may be next: registers first, and each part rising.
 #[tactic(auto, unfolding(crate::specs::Fields::is_next_entry))]
 fn is_next_entry(last: u32, entry: u32) -> bool
     ensures { result ≡ is_next_entry last entry }
@@ -454,7 +454,7 @@ fn is_return(code_len: usize, offset: u32) -> bool
     offset % 4 == 0 && offset >= 20 && offset as usize <= code_len
 }
 
-/// Whether a descriptor of the offset may stand after the last of those before it.
+/// Whether a descriptor of the offset may be after the last of those before it.
 fn returns_behind(before: &[DescRow], offset: u32) -> bool
     ensures { result ≡ at_last (λ d. nat_lt d.after offset) (map desc before.now) }
 {

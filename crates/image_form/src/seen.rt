@@ -1,4 +1,4 @@
-//! Which texts stood before, so that each is found to be new or not.
+//! Which texts came before, so that each is found to be new or not.
 ghost use Rattle.std.specs.Prelude.{◌≡◌, List, ℕ, [], ◌∷◌, ◌++◌, not, IfOk};
 ghost use Rattle.image_form.specs.Seen.{has, Holds};
 

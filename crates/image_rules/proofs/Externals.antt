@@ -1,4 +1,4 @@
--- The external calls of a file: no row stands twice, and each keeps the rules of images.
+-- The external calls of a file: no row occurs twice, and each keeps the rules of images.
 use Rattle.std.proofs.Common.{◌≡◌, ◌≢◌, ℕ, Bool, true, false, cond, ◌&&◌, ◌==◌, List, [], ◌∷◌, ◌++◌, map, refl, sym, ap, ◌∙◌, subst, bytes_eq, true≢false}
 use Rattle.std.specs.List.{AllByRecursion}
 use Rattle.std.proofs.lemmas.List.{map-append}
@@ -20,7 +20,7 @@ pub firsts_append : (before xs ys : List External) → firsts_behind before (xs 
 firsts_append before [] ys = refl
 firsts_append before (x ∷ xs) ys = firsts_append (cond (is_among before x) before (before ++ x ∷ [])) xs ys
 
--- ---- no row stands twice
+-- ---- no row occurs twice
 
 bytes_same : (bs : List ℕ) → bytes_eq bs bs ≡ true
 bytes_same bs = (bytes_eq-Decides bs bs).1 refl

@@ -34,7 +34,7 @@ nodes_none t nodes e =
       whole = λ n r lt h. absurd (omega (arith, lt));
     })
 
--- what was read at a number stands there
+-- what was read at a number is there
 read_at : (xs : List (Option Reg)) (n : ℕ) (slot : Option Reg) (r : Reg) → n < length xs → slot ≡ get_or xs n slot →
     slot ≡ Some r → IsAt xs n r
 read_at [] n slot r l e f = absurd (omega (arith, l))
@@ -165,7 +165,7 @@ is_graph m t g nodes formed are has made =
     register : (x : Node) → Contains nodes x → IsRegister m x.reg
     register x c = (are.registers.sound x.reg.number x.reg (has.each x c).there).1
 
-    -- the node of a register: what stands at its number is the register itself
+    -- the node of a register: what is at its number is the register itself
     found : (r : Reg) → IsRegister m r → HasNode nodes r
     found r h =
         let one = are.registers.whole r h in

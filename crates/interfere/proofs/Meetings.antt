@@ -114,7 +114,7 @@ among_register (q ∷ rs) r c =
 
 -- ---- places
 
--- the place of an instruction that stands in a code
+-- the place of an instruction that is in a code
 stands_at : {i : Instr} {next code : List Instr} → Stands i next code → (p : ℕ) × (p < length code) × (drop p code ≡ i ∷ next)
 stands_at here = (0, omega arith, refl)
 stands_at (below s) = let p = stands_at s in let lt = p.1 in (suc p.0, omega (arith, lt), p.2)

@@ -8,7 +8,7 @@ use Rattle.mach_ir.specs.declared.mach.Mach.{Mach}
 abbrev pub IsAt : List (Option Reg) → ℕ → Reg → Type 0
 IsAt table n r = slice_index_or table n None ≡ Some r
 
--- some register stands there
+-- some register is there
 pub record HasOne (table : List (Option Reg)) (n : ℕ) : Type 0 where
   pub register : Reg
   pub there : IsAt table n register

@@ -19,7 +19,7 @@ pub record AreTables (m : Mach) (t : Tables) : Type 0 where
   pub partners : (n : ℕ) → partners_in t.partners.items n ≡ moves_of n m.code
   pub uses : (n : ℕ) → slice_index t.uses.items n ≡ uses_of n m.code
 
--- each register stands at its number, and has a row
+-- each register is at its number, and has a row
 pub record AreByNumber (t : Tables) : Type 0 where
   pub len : length t.registers.items ≡ length t.joined
   pub number : (n : ℕ) (r : Reg) → IsAt t.registers.items n r → r.number ≡ n

@@ -1,5 +1,5 @@
 //! The interference graph of a Mach function (OCaml's `asmcomp/interf.ml`): which of its registers must
-//! stand apart, since one is written while the other is live.
+//! are apart, since one is written while the other is live.
 //!
 //! What is live where an instruction goes on is joined with each register that it writes, what it
 //! destroys among them, in a square of bits over the numbers of registers. A move's source and target

@@ -48,7 +48,7 @@ use Rattle.selection_laws.proofs.Accepting.{left, right}
 use Rattle.laid_files.proofs.Functions.{descriptors_are, some_words}
 use Rattle.laid_files.proofs.Marks.{descriptors_stand}
 
--- ---- labels stand once
+-- ---- labels occur once
 
 occurs : ℕ → List ℕ → ℕ
 occurs l [] = 0

@@ -35,7 +35,7 @@ use Rattle.rv_pieces.specs.declared.piece.Piece.TheVariants as piece
 
 -- ---- descriptors
 
--- whether a word stands after the last descriptor, or after the begin
+-- whether a word is after the last descriptor, or after the begin
 abbrev behind : Bool → List Piece → Bool
 behind b [] = b
 behind b (piece.Descriptor d ∷ ps) = behind false ps
@@ -76,7 +76,7 @@ none_are b (piece.TailCall name ∷ ps) (each_more h hs) = none_are true ps hs
 none_are b (piece.SymbolAddress r name ∷ ps) (each_more h hs) = none_are true ps hs
 none_are b (piece.ExternalNumber r row ∷ ps) (each_more h hs) = none_are true ps hs
 
--- after pieces without a mark that stand after a word there is a word
+-- after pieces without a mark that are after a word there is a word
 behind_true : (ps : List Piece) → Each NoMark ps → behind true ps ≡ true
 behind_true [] each_none = refl
 behind_true (piece.Descriptor d ∷ ps) (each_more h hs) = absurd (let z : d ∷ [] ≡ [] = h in cc)
@@ -187,7 +187,7 @@ module _ (f : Frame) (traps : ℕ → ℕ) where
   parts_are [] ds all = tt
   parts_are (i ∷ next) ds all = step i next (passes_frame i.op) refl (parts_are next) ds all
 
--- Descriptors that keep the rules of images stand so among the pieces.
+-- Descriptors that keep the rules of images keep them among the pieces.
 pub descriptors_stand : (m : Lin) (traps : ℕ → ℕ) (ds : List Descr) → AllByRecursion IsDescriptor ds → AreDescriptors false (emitted m traps ds).code
 descriptors_stand m traps ds all =
     joined false (entry (frame_of m)) (parts traps (frame_of m) ds m.code) (none_are false (entry (frame_of m)) (entry-in NoMark (λ j h. refl) (frame_of m)))

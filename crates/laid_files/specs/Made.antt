@@ -1,4 +1,4 @@
--- What is made of a function and of a file, named once more for what stands above.
+-- What is made of a function and of a file, named again for the crates above.
 pub use Rattle.made_functions.specs.Chained.{IsChained}
 pub use Rattle.made_functions.specs.Exact.{IsExact, IsFunctionExact}
 pub use Rattle.made_functions.specs.Files.{IsFunctionMade, IsMadeFor}

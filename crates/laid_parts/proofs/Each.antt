@@ -165,7 +165,7 @@ pub with_inv : (f : _) (w : ℕ) (xs ys : List Comp) → HasForm (op.Pure (pure.
     (t : Comp) × (o : Comp) × (xs ≡ t ∷ []) × (ys ≡ o ∷ [])
 with_inv f w xs ys (operates {left = t} {to = o} (a_constant e)) = (t, o, refl, refl)
 
--- what stands beside the first operand
+-- what is beside the first operand
 pub data RightIs : Right → List Comp → Type 0 where
   one_right : (t : Comp) → RightIs right.Register (t ∷ [])
   no_right : {w : ℕ} → RightIs (right.Constant w) []
@@ -319,7 +319,7 @@ pub call_more : (result : _) (xs ys : List Comp) → HasForm (op.Calling (callin
     (t : Comp) × (ts : List Comp) × (xs ≡ t ∷ ts)
 call_more result xs ys (calls {first} more is) = callee_more first more is
 
--- what stands after a branch is no matter
+-- what is after a branch is no matter
 targets_up_to : (n : ℕ) (xs : List Piece) (p : Piece) (ys : List Piece) → is_target n xs ≡ false → is_among n (piece_targets p) ≡ false →
     branches p ≡ true → is_target n (up_to_branch (xs ++ p ∷ ys)) ≡ false
 targets_up_to n [] p ys e g k =

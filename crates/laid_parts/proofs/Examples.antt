@@ -67,7 +67,7 @@ pub branch_reads_second : is_source 11
     (record { loc = loc.Machine 10; comp = comp.Int } ∷ record { loc = loc.Machine 11; comp = comp.Int } ∷ [])) ≡ true
 branch_reads_second = refl
 
--- after the branch of a bound test stands what raises, and nothing after that
+-- after the branch of a bound test comes what raises, and nothing after that
 abbrev pub bound_test : List Piece
 bound_test = check_part 0 right.Register
     (record { loc = loc.Machine 10; comp = comp.Int } ∷ record { loc = loc.Machine 11; comp = comp.Int } ∷ [])

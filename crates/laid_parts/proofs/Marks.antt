@@ -1,4 +1,4 @@
--- The descriptor of a frame point stands right after its call.
+-- The descriptor of a frame point is right after its call.
 use Rattle.std.proofs.Common.{◌≡◌, ℕ, suc, ◌+◌, ◌*◌, Bool, true, false, cond, List, [], ◌∷◌, ◌++◌, length, append_assoc, refl, sym, subst, ◌∙◌, ap, arith, Some}
 use Rattle.mach_ir.specs.Blocks.{bytes_of}
 use Rattle.mach_ir.specs.declared.op.Access.TheVariants as access

@@ -1,4 +1,4 @@
--- After the branch of a bound test stands its raising path alone.
+-- After the branch of a bound test comes its raising path alone.
 use Rattle.std.proofs.Common.{◌≡◌, ℕ, ◌+◌, ◌*◌, Bool, true, false, cond, nat_eq, nat_lt, List, [], ◌∷◌, ◌++◌, length, append_assoc, refl, ◌∙◌, ap, Option}
 use Rattle.bs_words.specs.declared.types.Loc.{Loc}
 use Rattle.bs_words.specs.declared.types.Loc.TheVariants as loc
@@ -26,7 +26,7 @@ use Rattle.emit_rules.specs.Values.{Makes, makes_first, makes_upper, makes_lower
 use Rattle.emit_rules.proofs.Values.{constant_is_made}
 use Rattle.laid_parts.specs.Laid.{branches, behind_branch, leave_at_end, RaisesBehind}
 
--- the first branch is the first of what stands after these
+-- the first branch is the first of what is after these
 record Straight (xs : List Piece) : Type 0 where
   pub behind : (ys : List Piece) → behind_branch (xs ++ ys) ≡ behind_branch ys
 

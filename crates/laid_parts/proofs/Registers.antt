@@ -75,7 +75,7 @@ joined {n} {xs} {ys} {R} {S} {Q} {T} x y = record {
   sets = target-append n xs ys ∙ (ap (λ (z : Bool). z || is_target n ys) x.sets ∙ ap (λ (z : Bool). S || z) y.sets);
 }
 
--- what stands last and names none
+-- what is last and names none
 pub then_none : {n : ℕ} {xs ys : List Piece} {R S : Bool} → Names n xs R S → Names n ys false false → Names n (xs ++ ys) R S
 then_none {n} {xs} {ys} {R} {S} x y = same (joined x y) (ap (λ (z : Bool). R || z) (and-false (not S)) ∙ or-false R) (or-false S)
 

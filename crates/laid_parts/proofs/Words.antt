@@ -142,7 +142,7 @@ module _ (c : ℕ) where
       Chunk c (p ∷ []) false false
   still p a b t = one_still p (λ h e. a h) (λ h e. b h) (λ h e. ap (λ (z : Bool). cond z (piece_made h p) (h 2)) t ∙ e)
 
-  -- wherever it stands
+  -- wherever it is
   pub silent : {P : Held → Type 0} (p : Piece) → ((h : Held) → loaded h p ≡ []) → ((h : Held) → stored h p ≡ []) →
       Through P Whatever c (p ∷ []) false false
   silent p a b = one_still p (λ h e. a h) (λ h e. b h) (λ h e. tt)

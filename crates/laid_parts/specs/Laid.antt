@@ -92,7 +92,7 @@ leave_at_end [] = false
 leave_at_end (p ∷ []) = leaves p
 leave_at_end (p ∷ q ∷ ps) = not (jumps p) && leave_at_end (q ∷ ps)
 
--- After the branch of a bound test stands its raising path, to the end of the part. So nothing that
+-- After the branch of a bound test comes its raising path, to the end of the part. So nothing that
 -- is written there comes to the next line.
 abbrev pub RaisesBehind : LinOp → List Piece → Type 0
 RaisesBehind (lin.Op (op.Leaving (leaving.Checkbound r))) part =
@@ -186,7 +186,7 @@ abbrev pub some_comes_back : List Piece → Bool
 some_comes_back [] = false
 some_comes_back (p ∷ ps) = comes_back p || some_comes_back ps
 
--- The descriptor of a frame point that is no tail call stands right after its one call. It is the
+-- The descriptor of a frame point that is no tail call is right after its one call. It is the
 -- first of those that are left; then these are left.
 pub data IsMarked (f : LinOp) : Bool → List Descr → List Descr → List Piece → Type 0 where
   no_mark : {ds : List Descr} {part : List Piece} → marks_in part ≡ [] →
@@ -203,7 +203,7 @@ pub record IsPartOf (m : Lin) (ds left : List Descr) (i : Line) (next : List Lin
   pub slots : (tries : List ℕ) → Traps m (i ∷ next) tries →
       CarriesSlots (frame_of m) (length tries) i part
   pub mark : IsMarked i.op (passes_frame i.op) ds left part
-  -- what stands after the branch of a bound test leaves the part for good
+  -- what is after the branch of a bound test leaves the part for good
   pub raises : RaisesBehind i.op part
 
 -- ---- whole

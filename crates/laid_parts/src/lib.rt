@@ -52,7 +52,7 @@ pub fn pieces_are_laid_out()
 
 /// Law: the instructions of a piece, in whatever form and wherever it and its target lie, name as sources that they
 /// have not set before exactly the registers that the piece names as sources, and as targets exactly those that it
-/// names as targets, reserved registers aside. A known instruction stands alone, and those of other pieces load and
+/// names as targets, reserved registers aside. A known instruction is alone, and those of other pieces load and
 /// store nothing. So what pieces name is what the words name that are laid out of them: where their numbers fit, the
 /// words decode to these instructions.
 pub fn words_name_registers()

@@ -1,4 +1,4 @@
--- The functions of an image: each stands at its entry, and together they fill the code.
+-- The functions of an image: each is at its entry, and together they fill the code.
 use Rattle.std.proofs.Common.{◌≡◌, ℕ, zero, suc, ◌+◌, ◌*◌, ◌^◌, ◌<◌, ◌≤◌, List, [], ◌∷◌, ◌++◌, length, Some, refl, subst, length-append, append_assoc, arith}
 use Rattle.std.specs.Prelude.{slice_get}
 use Rattle.std.specs.List.{AllByRecursion}
@@ -40,7 +40,7 @@ names_lead file entries at ps fs (SymbolAddress r name) = tt
 names_lead file entries at ps fs (ExternalNumber r row) = tt
 names_lead file entries at ps fs (Descriptor d) = tt
 
--- A function, its forms, and its row where it stands.
+-- A function, its forms, and its row where it is.
 pub record Found (file : FileTree) (entries starts code : List ℕ) (forms : List (List Form)) (k : ℕ) (p : Pieces) (row : Func) : Type 0 where
   pub of : List Form
   pub are : AreForms p.code of
@@ -137,7 +137,7 @@ row_there (f ∷ fs) (q ∷ ps) (g ∷ forms) at zero p same are is = (_, refl)
 row_there (f ∷ fs) (q ∷ ps) (g ∷ forms) at (suc k) p same are is =
     row_there fs ps forms (at + total_words q.code g) k p (omega (arith, same)) are.1 is
 
--- Each function stands in the image, where its code keeps its limit.
+-- Each function is in the image, where its code keeps its limit.
 pub stands : (file : FileTree) (ps : List Pieces) (forms : List (List Form)) (k : ℕ) (p : Pieces) → CanBeLaid file ps → AreAllForms ps forms →
     4 * length (laid_out file ps forms).code ≤ code_limit → slice_get ps k ≡ Some p →
     Stands file (entries_from stub_words ps forms) (laid_out file ps forms) k p

@@ -1,4 +1,4 @@
--- The words of pieces stand in the code where they are laid.
+-- The words of pieces lie in the code where they are laid.
 use Rattle.std.proofs.Common.{◌≡◌, ℕ, ◌+◌, ◌*◌, ◌%◌, ◌^◌, ◌<◌, ◌≤◌, List, [], ◌∷◌, ◌++◌, length, map, Some, refl, sym, ap, ◌∙◌, subst, length-append, append_assoc, arith}
 use Rattle.std.specs.Prelude.{slice_get}
 use Rattle.std.specs.List.{AllByRecursion}
@@ -66,7 +66,7 @@ code_fits at to (SymbolAddress r name) f fits a h leads = ((number-below r, omeg
 code_fits at to (ExternalNumber r row) f fits a h leads = ((number-below r, omega arith), ((number-below r, number-below r, omega arith), tt))
 code_fits at to (Descriptor d) f fits a h leads = tt
 
--- ---- where they stand
+-- ---- where they are
 
 here : (pre : List ℕ) (w : ℕ) (post : List ℕ) → slice_get (pre ++ w ∷ post) (length pre) ≡ Some w
 here pre w post =
@@ -84,7 +84,7 @@ code_stands (i ∷ is) pre post at e fits =
     let first : slice_get (pre ++ w ∷ rest) at ≡ Some w = ap (slice_get (pre ++ w ∷ rest)) e ∙ here pre w rest in
     (first, fits.0, later')
 
--- Pieces stand where their words are laid, after `pre`.
+-- Pieces are where their words are laid, after `pre`.
 pub pieces_stand : (n : Named) (ps : List Piece) (fs : List Form) (pre post : List ℕ) (at : ℕ) → at ≡ length pre → length fs ≡ length ps →
     address_of_place (at + total_words ps fs) + 4 < 2 ^ 32 → AllByRecursion PieceFits ps → ((p : Piece) → LeadsTo (target_of n p) p) →
     HasPieces (pre ++ (words_from n (address_of_place at) ps fs ++ post)) n at ps fs

@@ -21,7 +21,7 @@ use Rattle.rv_pieces.specs.declared.piece.Pieces.{Pieces}
 
 -- ---- pieces
 
--- a branch and a jump lead to where an instruction may stand
+-- a branch and a jump lead to where an instruction may be
 abbrev pub LeadsTo : ℕ → Piece → Type 0
 LeadsTo to (piece.Branch c a b l) = to % 4 ≡ 0
 LeadsTo to (piece.Jump l) = to % 4 ≡ 0
@@ -32,7 +32,7 @@ AllLead targets [] = ⊤
 AllLead [] (p ∷ ps) = ⊥
 AllLead (to ∷ targets) (p ∷ ps) = LeadsTo to p × AllLead targets ps
 
--- what a piece names stands: its label once among the pieces, its symbol and its external call in the
+-- what a piece names is there: its label once among the pieces, its symbol and its external call in the
 -- file
 pub record IsNamed (file : FileTree) (ps : List Piece) (p : Piece) : Type 0 where
   pub label : (l : ℕ) → label_named p ≡ Some l → count_by (is_label l) ps ≡ 1
@@ -57,7 +57,7 @@ AreDescriptors behind (piece.Descriptor d ∷ ps) =
 AreDescriptors behind (piece.Label l ∷ ps) = AreDescriptors behind ps
 AreDescriptors behind (_ ∷ ps) = AreDescriptors true ps
 
--- The pieces of a function: at least one instruction, whose numbers fit; all that is named stands; its
+-- The pieces of a function: at least one instruction, whose numbers fit; all that is named is there; its
 -- frame and its descriptors keep the rules of images.
 pub record IsFunctionLaid (file : FileTree) (p : Pieces) : Type 0 where
   pub nonempty : 0 < count_by has_words p.code
@@ -90,7 +90,7 @@ pub record IsExternalLaid (e : External) : Type 0 where
   pub params : AllByRecursion IsArgument e.params
   pub result : IsExtResult e.result
 
--- What each file keeps that was accepted: its names and types may stand in an image, no symbol is
+-- What each file keeps that was accepted: its names and types may be in an image, no symbol is
 -- defined twice, its data has no fault, and it is no longer than a text. A root cell lies at a multiple
 -- of 8: that is a rule of data, but for integers out of range, which no file has that was accepted.
 pub record IsFileLaid (file : FileTree) : Type 0 where

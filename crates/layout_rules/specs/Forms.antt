@@ -1,4 +1,4 @@
--- In which forms the pieces of a function stand: how many words each takes, where its labels lie, and
+-- In which forms the pieces of a function are laid: how many words each takes, where its labels lie, and
 -- the least forms in which each branch and jump reaches its label.
 --
 -- Places are numbers of words from the entry of the function.
@@ -47,7 +47,7 @@ abbrev pub is_label : ℕ → Piece → Bool
 is_label l (Label k) = k == l
 is_label l _ = false
 
--- the place of a label, where the first of the pieces stands at `at`
+-- the place of a label, where the first of the pieces is at `at`
 abbrev pub label_from : ℕ → ℕ → List Piece → List Form → Option ℕ
 label_from l at [] forms = None
 label_from l at (p ∷ ps) [] = None
@@ -91,7 +91,7 @@ rank Near = 0
 rank Middle = 1
 rank Far = 2
 
--- each piece stands in a form that reaches, where the first stands at `at`: in the shortest one that
+-- each piece is in a form that reaches, where the first is at `at`: in the shortest one that
 -- does or in a longer one
 abbrev pub ReachFrom : (places : ℕ → ℕ) → (at : ℕ) → List Piece → List Form → Type 0
 ReachFrom places at [] [] = ⊤

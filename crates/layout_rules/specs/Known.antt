@@ -1,4 +1,4 @@
--- Words of crates below, named once more for what stands above.
+-- Words of crates below, named again for the crates above.
 pub use Rattle.emit_rules.specs.Emitted.{part_of}
 pub use Rattle.emit_rules.specs.Entry.{Frame}
 pub use Rattle.emit_rules.specs.Named.{IsExternalOf}

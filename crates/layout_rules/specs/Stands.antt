@@ -1,4 +1,4 @@
--- How the pieces of a function stand in the code of an image.
+-- How the pieces of a function lie in the code of an image.
 use Rattle.std.specs.Prelude.{◌≡◌, ℕ, ◌+◌, ◌*◌, ◌≤◌, List, [], ◌∷◌, length, Some, slice_get, ⊤}
 use Rattle.cmm_tree.specs.Tree.{FileTree}
 use Rattle.image_form.specs.Tables.{Tables, Func}
@@ -11,13 +11,13 @@ use Rattle.rv_isa.specs.declared.instr.Instr.{Instr}
 use Rattle.rv_pieces.specs.declared.piece.Piece.{Piece}
 use Rattle.rv_pieces.specs.declared.piece.Pieces.{Pieces}
 
--- instructions stand in the code from this word on, and their numbers fit their fields
+-- instructions are in the code from this word on, and their numbers fit their fields
 abbrev pub HasCode : List ℕ → (at : ℕ) → List Instr → Type 0
 HasCode code at [] = ⊤
 HasCode code at (i ∷ is) =
     (slice_get code at ≡ Some (encoded i)) × InstrFits i × HasCode code (at + 1) is
 
--- pieces stand in the code from this word on, each in its form
+-- pieces are in the code from this word on, each in its form
 abbrev pub HasPieces : List ℕ → Named → (at : ℕ) → List Piece → List Form → Type 0
 HasPieces code n at [] [] = ⊤
 HasPieces code n at [] (f ∷ forms) = ⊥
@@ -26,7 +26,7 @@ HasPieces code n at (p ∷ ps) (f ∷ forms) =
     HasCode code at (code_of n (address_of_place at) p f)
     × HasPieces code n (at + words_of p f) ps forms
 
--- A function stands in the code from this word on, and this is its row, where the functions of the file
+-- A function is in the code from this word on, and this is its row, where the functions of the file
 -- have these entries.
 pub record StandsAt (file : FileTree) (entries code : List ℕ) (place : ℕ) (p : Pieces) (forms : List Form)
     (row : Func) : Type 0 where
@@ -37,7 +37,7 @@ pub record StandsAt (file : FileTree) (entries code : List ℕ) (place : ℕ) (p
   pub within : place + total_words p.code forms ≤ length code
   pub has : HasPieces code (names_at file entries place p.code forms) place p.code forms
 
--- Function k of the file stands in the image: what a run of its pieces needs to know of the code.
+-- Function k of the file is in the image: what a run of its pieces needs to know of the code.
 pub record Stands (file : FileTree) (entries : List ℕ) (t : Tables) (k : ℕ) (p : Pieces) : Type 0 where
   pub forms : List Form
   pub are : AreForms p.code forms

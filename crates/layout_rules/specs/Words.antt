@@ -100,7 +100,7 @@ address_into rd at to =
     instr.Auipc rd (upper (distance at to))
     ∷ instr.OpImm Addi rd rd (lower (distance at to)) ∷ []
 
--- the instructions of a piece that stands at an address, where its name stands for `to`
+-- the instructions of a piece that is at an address, where its name stands for `to`
 abbrev pub code_to : (at to : ℕ) → Piece → Form → List Instr
 code_to at to (Known i) form = i ∷ []
 code_to at to (Label l) form = []
@@ -117,7 +117,7 @@ code_to at to (Descriptor d) form = []
 abbrev pub code_of : Named → (at : ℕ) → Piece → Form → List Instr
 code_of n at p form = code_to at (target_of n p) p form
 
--- the words of pieces, the first of which stands at an address
+-- the words of pieces, the first of which is at an address
 abbrev pub words_from : Named → (at : ℕ) → List Piece → List Form → List ℕ
 words_from n at [] forms = []
 words_from n at (p ∷ ps) [] = []

@@ -3,7 +3,7 @@
 /// How far what leads to a label reaches, the shortest form first.
 ///
 /// A branch has all three. A jump has the first, a jal, and the last. What always takes the same
-/// words stands in the first.
+/// words is in the first.
 #[derive(Copy, Clone, PartialEq, Eq, Debug)]
 pub enum Form {
     /// One instruction, with the offset in its own field.

@@ -34,7 +34,7 @@ fn own_label(op: &LinOp) -> Option<Label>
     }
 }
 
-/// The place after each label, of a label that stands twice after the first.
+/// The place after each label, of a label that occurs twice after the first.
 #[derive(Drop)]
 pub struct Labels {
     places: BTreeMap<u32, u32>,

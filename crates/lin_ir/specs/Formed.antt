@@ -96,7 +96,7 @@ Locates m spots = All (λ (s : Spot). IsLocation m s.loc) spots
 abbrev pub AreLocated : Lin → Type 0
 AreLocated m = All (λ (i : Line). Locates m i.args × Locates m i.results) m.code
 
--- what may stand between a write of t0 and its read: what reads registers alone, loads and stores
+-- what may be between a write of t0 and its read: what reads registers alone, loads and stores
 pub data IsQuiet : LinOp → Type 0 where
   quiet_pure : {f : _} → IsQuiet (lin.Op (op.Pure f))
   quiet_load : {k : _} {offset : ℕ} → IsQuiet (lin.Op (op.Access (access.Load k offset)))
@@ -109,7 +109,7 @@ pub data IsCopy : LinOp → Type 0 where
 abbrev pub Sets : Line → Loc → Type 0
 Sets i l = (t : Comp) × Contains i.results (record { loc = l; comp = t })
 
--- T0 stands in moves, spills and reloads alone, and each walk that reads it has written it before,
+-- T0 is in moves, spills and reloads alone, and each walk that reads it has written it before,
 -- with only quiet lines between.
 pub record SpareIsPassing (m : Lin) : Type 0 where
   pub copies : (i : Line) → Contains m.code i → (t : Comp) →
@@ -128,13 +128,13 @@ abbrev pub lin_operand_seats : LinOp → Seats
 lin_operand_seats (lin.Op f) = operand_seats f
 lin_operand_seats (lin.Flow f) = Anywhere
 
--- a handler takes the raised value from where a result stands
+-- a handler takes the raised value from where a result is
 abbrev pub lin_result_seats : LinOp → Seats
 lin_result_seats (lin.Op f) = result_seats f
 lin_result_seats (lin.Flow flow.EnterTrap) = InOrder result_places
 lin_result_seats (lin.Flow _) = Anywhere
 
--- Parameters, and operands and results that the conventions put at fixed places, stand there.
+-- Parameters, and operands and results that the conventions put at fixed places, are there.
 pub record Seated (m : Lin) : Type 0 where
   pub params : AreSeated (InOrder argument_places) (places_of m.params)
   pub operands : (i : Line) → Contains m.code i →
@@ -157,7 +157,7 @@ pub data NamesLabel (l : ℕ) (f : LinOp) : Type 0 where
   goes_to : OneOf (At l) (targets f) → NamesLabel l f
   pushes : f ≡ lin.Flow (flow.PushTrap l) → NamesLabel l f
 
--- right after the label of a handler its entry stands
+-- right after the label of a handler comes its entry
 pub data EntersAt (l : ℕ) : List Line → Type 0 where
   enters_here : {i j : Line} {is : List Line} → i.op ≡ lin.Flow (flow.Label l) →
       j.op ≡ lin.Flow flow.EnterTrap → EntersAt l (i ∷ j ∷ is)
@@ -194,7 +194,7 @@ pub record WellFormed (m : Lin) : Type 0 where
   pub params : All (λ (s : Spot). IsHome m s.loc) m.params
   pub locations : AreLocated m
   pub spare : SpareIsPassing m
-  -- each label that is named stands once
+  -- each label that is named occurs once
   pub labels : AllPairs (λ k l. k ≢ l) (labels_in m.code)
   pub named : (i : Line) → Contains m.code i → (l : ℕ) → NamesLabel l i.op →
       Contains (labels_in m.code) l

@@ -210,6 +210,6 @@ abbrev pub begun : Lin → Memory → Option Locations → Option State
 begun m memory None = None
 begun m memory (Some f) = Some (record { rest = m.code; file = f; around = entered memory })
 
--- its arguments stand in its parameters; where they do not fit it does not begin
+-- its arguments are in its parameters; where they do not fit it does not begin
 abbrev pub start : Place → Lin → List Value → Memory → Option State
 start c m arguments memory = begun m memory (put_all c.setting.end m.params arguments (λ l. None))

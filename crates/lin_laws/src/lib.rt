@@ -1,4 +1,4 @@
-//! Laws of Linear functions on which frame tables stand.
+//! Laws of Linear functions that frame tables rest on.
 //!
 //! The flow graph of a Linear function, over places with the traps that are pushed there, has
 //! exactly the walks of its definition. What is live at a frame point is what is live before one

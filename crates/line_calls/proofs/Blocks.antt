@@ -55,7 +55,7 @@ abbrev pub AreNew : List NewBlock → Type 0
 AreNew [] = Unit {0}
 AreNew (b ∷ bs) = IsNew b × AreNew bs
 
--- ---- addresses that stand wherever the other blocks lie
+-- ---- what holds of addresses wherever the other blocks lie
 
 pub record StandsAnywhere (s : Fixed) (young : List Placed) (count w : ℕ) (x : Value) : Type 0 where
   pub by : (table : List Placed) → count ≡ length (table ++ reverse young) → StandsFor s (table ++ reverse young) w x
@@ -76,7 +76,7 @@ module _ (s : Fixed) (table young : List Placed) (p : Placed) where
   length_one_more : length (table ++ reverse (p ∷ young)) ≡ suc (length (table ++ reverse young))
   length_one_more = let e = length-append (table ++ reverse young) (p ∷ []) in ap length (placed_more table young p) ∙ omega (arith, e)
 
--- what stood stands with one block more
+-- what held holds with one block more
 pub anywhere_more : (s : Fixed) (young : List Placed) (p : Placed) (count w : ℕ) (x : Value) → StandsAnywhere s young count w x →
     StandsAnywhere s (p ∷ young) (suc count) w x
 anywhere_more s young p count w x st = record {
@@ -108,7 +108,7 @@ pub record AllMade (s : Fixed) (laid : Laid) (v : View) (held : Locations) (c : 
   pub new : List Placed
   pub within : Within s laid v new 0 held (around_made bs a) c
   pub stand : AllStand s new (length (around_made bs a).memory.blocks) (slice_index v.registers 26) bs (values_made bs a)
-  -- what stood before stands
+  -- what held before holds
   pub keeps : (w : ℕ) (x : Value) → StandsAnywhere s young (length a.memory.blocks) w x →
       StandsAnywhere s new (length (around_made bs a).memory.blocks) w x
 

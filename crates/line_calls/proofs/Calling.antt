@@ -104,7 +104,7 @@ module _ (s : Fixed) (laid : Laid) (live : List Line → Type 0) (entry : ℕ �
 
   -- ---- after the call
 
-  -- what stands after a call: no register but a result
+  -- what is after a call: no register but a result
   clear_same : (l : Loc) → clear Everything (poisoned (named (length next)) held) l ≡ clear Everything (poisoned (named (length next)) file) l
   clear_same (loc.Machine r) = refl
   clear_same (loc.Slot j) = poisoned_same (named (length next)) held file (loc.Slot j) (agrees.others (loc.Slot j) (λ e. absurd (cc)))

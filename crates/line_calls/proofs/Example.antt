@@ -1,4 +1,4 @@
--- A function of two lines, which calls itself and returns: what is asked of its lines holds where its words stand.
+-- A function of two lines, which calls itself and returns: what is asked of its lines holds where its words are.
 use Rattle.std.proofs.Common.{◌≡◌, ℕ, ◌+◌, ◌-◌, ◌*◌, ◌^◌, ◌<◌, Bool, true, cond, nat_eq, List, [], ◌∷◌, length, Some, None, refl, ap, subst, arith}
 use Rattle.std.proofs.lemmas.List.Elements.{All-cons, All-contains, All-nil, Contains-get_or}
 use Rattle.bs_words.specs.Fits.{data_start}

@@ -1,4 +1,4 @@
--- A part with a descriptor in it: what stands before it and what stands after it.
+-- A part with a descriptor in it: what is before it and what is after it.
 use Rattle.std.proofs.Common.{◌≡◌, ℕ, ◌+◌, ◌<◌, List, [], ◌∷◌, ◌++◌, append_assoc, length, Some, arith, subst}
 use Rattle.layout_rules.specs.declared.form.Form.{Form}
 use Rattle.layout_rules.specs.Forms.{ReachFrom, total_words, words_of}
@@ -54,7 +54,7 @@ module _ (s : Fixed) (n : Named) where
       AreMarked s at (xs ++ Descriptor d ∷ ys) p.forms → Marked at to xs d ys
   marked at to xs ys d p marks = marked_by xs ys d p.forms at to p.has p.reach p.past marks
 
-  -- where what stands after the descriptor is written last
+  -- where what is after the descriptor is written last
   pub marked_between : (at to : ℕ) (xs ys : List Piece) (d : Descr) (p : PartStands s n at to (xs ++ Descriptor d ∷ [] ++ ys)) →
       AreMarked s at (xs ++ Descriptor d ∷ [] ++ ys) p.forms → Marked at to xs d ys
   marked_between at to xs ys d p marks =

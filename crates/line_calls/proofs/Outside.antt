@@ -1,4 +1,4 @@
--- The service of an external call, and where the machine stands after it.
+-- The service of an external call, and where the machine is after it.
 use Rattle.std.proofs.Common.{◌≡◌, ◌≢◌, ℕ, ◌+◌, ◌^◌, ◌<◌, ◌≤◌, inl, inr, Bool, true, false, cond, List, [], ◌∷◌, ◌++◌, Some, None, slice_get, slice_index, refl, ap, arith, ◌∙◌, sym, subst, get_or-set_same}
 use Rattle.std.specs.List.{AllByRecursion}
 use Rattle.bs_words.specs.Memory.{Memory}
@@ -129,7 +129,7 @@ cleared_lost held q x i h = let e = (lost q i).temporary in absurd (none (is_tem
 
 -- ---- the registers after it
 
--- the answer stands in a0, where one is wanted
+-- the answer is in a0, where one is wanted
 abbrev pub behind : Ret → ℕ → List ℕ → List ℕ
 behind ret.Unit x registers = filled destroyed registers
 behind (ret.Comp t) x registers = with_register 10 x (filled destroyed registers)
@@ -147,7 +147,7 @@ behind_others (ret.Comp t) x registers q none =
 pub behind_result : (t : _) (x : ℕ) (registers : List ℕ) → AreRegisters registers → slice_index (behind (ret.Comp t) x registers) 10 ≡ x
 behind_result t x registers are = let n = (filled_are destroyed registers are).count in get_or-set_same (filled destroyed registers) 10 x 0 (omega (arith, n))
 
--- the function stands after it with what is not destroyed
+-- the function is after it with what is not destroyed
 pub within_behind :
     (s : Fixed) (laid : Laid) (v : View) (young : List Placed) (held : Locations) (a : Around) (c : Below) → Within s laid v young 0 held a c →
     a.raised ≡ None →

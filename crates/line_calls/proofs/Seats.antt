@@ -1,4 +1,4 @@
--- Arguments stand one after the other from a0 on.
+-- Arguments come one after the other from a0 on.
 use Rattle.std.proofs.Common.{◌≡◌, ℕ, zero, suc, ◌+◌, ◌<◌, Bool, true, false, cond, List, [], ◌∷◌, ◌++◌, length, map, Option, Some, None, slice_get, refl, ap, arith, ◌∙◌, sym, subst}
 use Rattle.bs_words.specs.Fits.{fits, type_of_comp}
 use Rattle.bs_words.specs.declared.types.Comp.{Comp}
@@ -83,7 +83,7 @@ read_from end file (p ∷ ps) xs j (r ∷ rs) more e up h (suc k) x g =
     let there : suc j + k ≡ j + suc k = omega arith in
     (omega (arith, l), record { spot = o.spot; there = o.there; fit = o.fit; held = subst (λ q. file (loc.Machine q) ≡ Some x) there o.held })
 
--- the arguments of a call stand from a0 on
+-- the arguments of a call are from a0 on
 pub arguments_read :
     (end : ℕ) (file : Locations) (ps : List Spot) (xs : List Value) → AreSeated (InOrder argument_places) (places_of ps) → values end file ps ≡ Some xs →
     (k : ℕ) (x : Value) → slice_get xs k ≡ Some x → (k < 16) × IsOperand end file ps 10 k x
@@ -145,7 +145,7 @@ parameters_put end ps xs f (in_order more e) h = record {
 
 -- ---- one place
 
--- the one operand or result that there may be stands in a0
+-- the one operand or result that there may be is in a0
 pub first_seated : (p : Spot) (ps : List Spot) → AreSeated (InOrder result_places) (places_of (p ∷ ps)) → (p.loc ≡ loc.Machine 10) × (ps ≡ [])
 first_seated p ps (in_order more e) = let at = same_place p.loc 10 (places_of ps ++ more) [] e in (at.0, none ps at.1)
   where

@@ -42,7 +42,7 @@ use Rattle.line_calls.proofs.Reaching.{arrived, reaches_as, reaches_more, reache
 
 -- ---- places of the code
 
--- an instruction stands below the data
+-- an instruction is below the data
 pub place_near : (s : Fixed) (p : ℕ) (i : Instr) → IsCode s p i → code_start + 4 * p < 2 ^ 28
 place_near s p i c =
     let l = slice_get_within s.image.code p (encoded i) c.there in

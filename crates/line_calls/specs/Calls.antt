@@ -22,7 +22,7 @@ IsInTable image (Function f) = f < length image.funcs
 -- where the function has so many bytes of the stack in use
 module _ (n : ℕ) (s : Fixed) (laid : Laid) (live : List Line → Type 0) (entry : ℕ → ℕ)
     (c : Below) (v : View) (used : ℕ) where
-  -- A callee stands below all that its caller has in use. What is shown to the outside is known.
+  -- A callee is below all that its caller has in use. What is shown to the outside is known.
   abbrev pub IsCalled : (call : Asked) (go : Doing → Step State) (callee : Callee) →
       FollowsAsked n s laid live entry c v call go callee → Type 0
   IsCalled call go (Inside f) follows = follows.below.top + used ≡ c.top

@@ -25,9 +25,9 @@ use Rattle.line_calls.specs.Points.{IsReadyFor, IsTurn, PointStands, before_serv
 abbrev pub frame_in : Laid → Frame
 frame_in laid = record { bytes = laid.frame; saves = laid.saves }
 
--- A line of one of these kinds, whose part stands in the image from its place on, is followed in at
+-- A line of one of these kinds, whose part is in the image from its place on, is followed in at
 -- most as many instructions as the part has words, the service of an external call not counted. Its
--- calls stand below what it has in use.
+-- calls are below what it has in use.
 abbrev pub LineFollows : (List Line → Type 0) → Type 0
 LineFollows live =
     (s : Fixed) (n : Named) (laid : Laid) (entries : ℕ → ℕ) (c : Below) (place : Place)
@@ -58,7 +58,7 @@ EveryLineFollows live =
     (laid.frame + 16 * length a.tries)
     (step place named m (record { rest = i ∷ next; file = file; around = a }))
 
--- Where a function is entered whose entry stands in the image, it comes to its first line with its
+-- Where a function is entered whose entry is in the image, it comes to its first line with its
 -- arguments in its parameters, or the stack is passed.
 abbrev pub EntryFollows : (List Line → Type 0) → Type 0
 EntryFollows live =

@@ -42,7 +42,7 @@ IsMarked s at (Descriptor d) =
     × (at < length s.image.code)
 IsMarked s at _ = Unit {0}
 
--- so is each one among the pieces, the first of which stands at this place
+-- so is each one among the pieces, the first of which is at this place
 abbrev pub AreMarked : Fixed → (at : ℕ) → List Piece → List Form → Type 0
 AreMarked s at [] forms = Unit {0}
 AreMarked s at (p ∷ ps) [] = Unit {0}
@@ -73,10 +73,10 @@ pub record PointStands (s : Fixed) (laid : Laid) (m : Lin) (c : Setting) (named 
   -- no register is named over a call
   pub unnamed : (e : Descr) → d ≡ Some e → (whom : Callee) (result : Ret) →
       i.op ≡ lin.Op (op.Calling (calling.Call whom result)) → names_register e.entries ≡ false
-  -- t0 stands in copies alone
+  -- t0 is in copies alone
   pub spared : passes_frame i.op ≡ true → is_named spare (named (length next)) ≡ false
   pub unwritten : (t : Comp) → Contains i.results (record { loc = spare; comp = t }) → ⊥
-  -- a handler stands in the code, or at its end where it has no words
+  -- a handler is in the code, or at its end where it has no words
   pub pushes : (l : ℕ) → i.op ≡ lin.Flow (flow.PushTrap l) →
       laid.part (length (after_label l m.code)) ≤ length s.image.code
 
@@ -99,7 +99,7 @@ pub data IsTurn : LinOp → Type 0 where
   it_pops : IsTurn (lin.Flow flow.PopTrap)
   it_enters : IsTurn (lin.Flow flow.EnterTrap)
 
--- the last word of an external call is the instruction that serves it; these stand before it
+-- the last word of an external call is the instruction that serves it; these are before it
 abbrev pub before_service : LinOp → ℕ → ℕ
 before_service (lin.Flow g) words = words
 before_service (lin.Op (op.Calling (calling.External row frame))) words = words - 1

@@ -14,14 +14,14 @@ use Rattle.linear_machine.specs.View.{Fixed, HasCode, IsCode}
 use Rattle.line_stands.specs.Parts.{PartStands, label_place}
 
 module _ (s : Fixed) (n : Named) where
-  -- instructions that stand in the image's code
+  -- instructions that are in the image's code
   pub code_stands : (at : ℕ) (is : List Instr) → layout.HasCode s.image.code at is → HasCode s at is
   code_stands at [] h = tt
   code_stands at (i ∷ is) h = (record { there = h.0; fits = h.1 }, code_stands (at + 1) is h.2)
 
   -- ---- one part after another
 
-  -- the first pieces stand up to a place, and the others from it on
+  -- the first pieces are up to a place, and the others from it on
   pub record Splits (at to : ℕ) (xs ys : List Piece) : Type 0 where
     pub middle : ℕ
     pub first : PartStands s n at middle xs
@@ -54,7 +54,7 @@ module _ (s : Fixed) (n : Named) where
 
   -- ---- one piece
 
-  -- the first piece stands in a form that reaches, and the others after it
+  -- the first piece is in a form that reaches, and the others after it
   pub record Begins (at to : ℕ) (x : Piece) (ys : List Piece) : Type 0 where
     pub form : Form
     pub code : HasCode s at (code_of n (address_of_place at) x form)

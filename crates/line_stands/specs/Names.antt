@@ -24,7 +24,7 @@ pub record IsRowAt (s : Fixed) (row : External) (number : ℕ) : Type 0 where
 
 -- Labels of the function, symbols of the file round it, and the external calls of its lines.
 pub record NamesStand (s : Fixed) (laid : Laid) (n : Named) (m : Lin) (c : Setting) : Type 0 where
-  -- the place of the part that stands after the label
+  -- the place of the part that is after the label
   pub label : (l : ℕ) → Contains (labels_in m.code) l →
       n.label l ≡ address_of_place (laid.part (length (after_label l m.code)))
   pub within : (l : ℕ) → Contains (labels_in m.code) l →

@@ -1,4 +1,4 @@
--- How the pieces of a part stand in the image.
+-- How the pieces of a part lie in the image.
 use Rattle.std.specs.Prelude.{◌≡◌, ℕ, ◌+◌, ◌-◌, ◌/◌, List}
 use Rattle.rv_machine.specs.Memory.{code_start}
 use Rattle.rv_pieces.specs.declared.piece.Piece.{Piece}
@@ -8,11 +8,11 @@ use Rattle.layout_rules.specs.Stands.{HasPieces}
 use Rattle.layout_rules.specs.Words.{Named}
 use Rattle.linear_machine.specs.View.{Fixed}
 
--- how many words of the code stand before a label
+-- how many words of the code are before a label
 abbrev pub label_place : Named → ℕ → ℕ
 label_place n l = (n.label l - code_start) / 4
 
--- The words of these pieces stand from one place of the code to another, each piece in a form that
+-- The words of these pieces are from one place of the code to another, each piece in a form that
 -- reaches.
 pub record PartStands (s : Fixed) (n : Named) (at to : ℕ) (ps : List Piece) : Type 0 where
   pub forms : List Form

@@ -1,4 +1,4 @@
-//! How the part of a Linear line stands in an image: its pieces in their forms, what the function's names
+//! How the part of a Linear line lies in an image: its pieces in their forms, what the function's names
 //! stand for, and what is known of the line itself.
 //!
 //! The crate holds definitions and laws alone.

@@ -184,7 +184,7 @@ module _ (s : Fixed) (placed : List Placed) (blocks : AreBlocks placed) (sizes :
     small_x : x < 2 ^ 63
     small_x = near_small start p x low high fp nx
 
-    -- addresses near one block stand in the order of their offsets
+    -- addresses near one block are in the order of their offsets
     pub order_unsigned : (f : CmpOp) → signed_holds f o p ≡ unsigned_holds f w x
     order_unsigned compare.Eq = near_same start o p w x fo fp high (omega (arith, low)) nw nx
     order_unsigned compare.Ne = ap not (near_same start o p w x fo fp high (omega (arith, low)) nw nx)

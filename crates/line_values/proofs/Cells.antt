@@ -70,7 +70,7 @@ pub record Reached (s : Fixed) (placed : List Placed) (m : List Region) (a : Aro
   pub no_limit : at ≢ 0x20000000
   pub below : at < 0x38010000
   pub lies : Lies placed a at cell
-  -- what stands there once it has been written
+  -- what is there once it has been written
   pub is : is_among cell a.unwritten ≡ false → StandsFor s placed (held_word m at) (value_in a.memory cell)
 
 module _ (s : Fixed) (placed : List Placed) (m : List Region) (regions : HasRegions (extents s.image s.heap s.base) m) (a : Around)

@@ -189,7 +189,7 @@ module _ (s : Fixed) (n : Named) (laid : Laid) (m : Lin) (slots : m.slots ≡ la
     (passes : live next → before)
     (handlers : (l : ℕ) (rest : List ℕ) → a.tries ≡ l ∷ rest → laid.handler l ≡ address_of_place (laid.part (length (after_label l m.code))))
     (dead : (l : ℕ) (rest : List ℕ) → a.tries ≡ l ∷ rest → live (after_label l m.code) → ⊥) where
-  -- where both operands stand in their registers
+  -- where both operands are in their registers
   module _ (r : Right) (args : List Spot) (left right : Register) (k1 k2 : ℕ) (sum : k ≡ k1 + k2) (bound index : ℕ)
       (part : PartStands s n (v.place + k1) (v.place + k1 + k2) (skip condition.Bltu right left 28 ∷ raise_bound_error))
       (comes : Comes s v k1 (λ u. Within s laid u young 0 held a c × StandsFor s (all_of u young) (reg u.registers (number left)) (Word bound)
@@ -248,7 +248,7 @@ module _ (s : Fixed) (n : Named) (laid : Laid) (m : Lin) (slots : m.slots ≡ la
       no_scratch = (λ t. omega (arith, t), λ t. omega (arith, t));
     }
 
-    -- or the error stands in a0
+    -- or the error is in a0
     record Ready (w : View) : Type 0 where
       pub stands : Within s laid w young 0 (dropped 10 held) a c
       pub error : StandsFor s (all_of w young) (slice_index w.registers 10) (Word 0x10000000)

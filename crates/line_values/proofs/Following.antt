@@ -297,7 +297,7 @@ module _ (s : Fixed) (laid : Laid) (n : Named) (m : Lin) (place : Place) (named 
       exit_line s n laid m live entry c place named next v young held file a during.within (live (record { op = o; args = []; results = [] } ∷ next)) agrees
       (words o [] [] a st) l (lies o [] [] a st l this) (part_at o [] [] a st v during.place) (passes_to o [] [] a st (At l) this refl)
 
-  -- operands that are read where they stand
+  -- operands that are read where they are
   all_read : (before : Type 0) (xs : List Spot) → AllByRecursion (λ (p : Spot). IsLocation m p.loc) xs → ((p : Spot) → Contains xs p → Reads before p.loc) →
       AllByRecursion (λ (p : Spot). IsLocation m p.loc × Reads before p.loc) xs
   all_read before [] all h = tt

@@ -118,7 +118,7 @@ scan_same h =
     bool_same _ _ (λ e. let l = ltb-true (h % 2 ^ 8) 251 e in le-leb (h % 256) 250 (omega (arith, l)))
     (λ e. let l = leb-true (h % 256) 250 e in lt-ltb (h % 2 ^ 8) 251 (omega (arith, l)))
 
--- ---- what stands where a word is written
+-- ---- what is where a word is written
 
 fits_by : (s : Fixed) (count end : ℕ) (t : Bool) (v : Value) → end ≤ data_start + length s.image.bytes → IsKnown s.image count v →
     fits end (cond t ty.Val ty.Int) v ≡ true → FitsCell s.image count t v

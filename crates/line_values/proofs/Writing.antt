@@ -76,7 +76,7 @@ module _ (s : Fixed) (n : Named) (laid : Laid) (m : Lin) (slots : m.slots ≡ la
     (ch : Chunk) (offset : ℕ) (fits_64 : offset < 2 ^ 64) (p q : Spot) (at_p : IsLocation m p.loc) (at_q : IsLocation m q.loc) (reads_p : Reads before p.loc)
     (reads_q : Reads before q.loc)
     (part_is : PartStands s n v.place (v.place + k) (store_part (length a.tries) ch offset (p ∷ q ∷ []))) where
-  -- the address and the value stand in registers
+  -- the address and the value are in registers
   record Ready (r : ℕ) (from : Register) (x y : Value) (u : View) : Type 0 where
     pub stands : Within s laid u young 0 held a c
     pub address : add_word (slice_index u.registers (suc r)) (imm_i (address_offset offset % 4096)) ≡ value_word s.image (all_of u young) (moved_by offset x)

@@ -38,7 +38,7 @@ pub data IsPlain : LinOp → Type 0 where
   plain_branch : {t : Test} {l : ℕ} → IsPlain (lin.Flow (flow.Branch t l))
   plain_switch : {labels : List ℕ} → IsPlain (lin.Flow (flow.Switch labels))
 
--- From wherever the function stands before the line, the machine does what the line does, in at
+-- From wherever the function is before the line, the machine does what the line does, in at
 -- most the words of its part.
 abbrev pub Followed : Fixed → Laid → Named → Lin → Place → NamedAt → (List Line → Type 0) →
     (ℕ → ℕ) → Below → Frame → Option Descr → Line → List Line → Type 0

@@ -8,7 +8,7 @@ ghost use Rattle.line_values.specs.Followed.{BranchesAreFollowed, PlainLinesAreF
 ghost use Rattle.line_stands.specs.Lines.{Nowhere};
 
 /// The machine follows each plain line, wherever its operands and its result are, whatever its numbers
-/// are and in whatever form its branches and jumps stand.
+/// are and in whatever form its branches and jumps are.
 pub fn plain_lines_are_followed()
     ensures { PlainLinesAreFollowed Nowhere }
 {}

@@ -36,7 +36,7 @@ module _ (s : Fixed) (laid : Laid) (live : List Line → Type 0) (entry : ℕ �
     pub leads : Leads s n v view
     pub holds : P view
 
-  -- ---- returns: the value, if there is one, stands in a0
+  -- ---- returns: the value, if there is one, is in a0
 
   pub return_nothing : (n : ℕ) → (is_complete a ≡ true → Leading n (λ w. AtReturn s w young None a.memory c)) →
       FollowsStep n s laid live entry c v (step place named code (record {

@@ -104,7 +104,7 @@ waits_above image placed ds base m m' first a p (x ∷ xs) (f ∷ fs) same c w =
       waits_above image placed ds base m m' false (word m (p + (f.desc.size - 8))) (p + f.desc.size) xs fs (λ y l h. same y (omega (arith, l)) h) c.5 w.1,
     )
 
--- what waits stands as long as what lies from the frame's end on stays
+-- what waits stays as long as what lies from the frame's end on stays
 pub waits_kept :
     (s : Fixed) (placed : List Placed) (m m' : List Region) (c : Below) →
     ((y : ℕ) → c.top ≤ y → y + 8 ≤ stack_end → word m' y ≡ word m y) →

@@ -100,7 +100,7 @@ pub then_changes :
     ((w : View) → IsPast n rs m v w → P w → Changes s w k rs m' Q) → Changes s v (n + k) rs m' Q
 then_changes s v n k rs m m' P Q first next = then_here s v n k rs m m' P Q first (next first.view first.past first.holds)
 
--- the code stands further on, too
+-- the code is further on, too
 pub code_past : (s : Fixed) (n : ℕ) (rs : List ℕ) (m : List Region) (v w : View) (i : Instr) → IsPast n rs m v w → IsCode s (v.place + n) i → IsCode s w.place i
 code_past s n rs m v w i p c = subst (λ q. IsCode s q i) (sym p.place) c
 

@@ -1,4 +1,4 @@
--- Cells of static data by their addresses, and the words that they stand in.
+-- Cells of static data by their addresses, and the words that they are in.
 use Rattle.std.proofs.Common.{◌≡◌, ℕ, suc, ◌+◌, ◌-◌, ◌/◌, ◌%◌, ◌^◌, ◌<◌, ◌≤◌, Bool, true, false, cond, ◌&&◌, ◌==◌, nat_le, List, [], ◌∷◌, length, Some, None, refl, ap, arith, ◌∙◌, sym, subst}
 use Rattle.std.proofs.lemmas.Bool.{and_from, and_parts, cond-true, eq-eqb, eqb-true, le-leb, leb-true}
 use Rattle.bs_words.specs.Fits.{data_start}

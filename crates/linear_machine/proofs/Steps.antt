@@ -151,7 +151,7 @@ passes_test s rd value base e (inr above) = and_right _ _ (le-ltb value base (om
 next_pc : (pc place : ℕ) → pc ≡ code_start + 4 * place → pc + 4 ≡ code_start + 4 * (place + 1)
 next_pc pc place e = omega arith
 
--- The effect of an instruction, on every machine that stands so, is to set a register and to go to
+-- The effect of an instruction, on every machine in such a state, is to set a register and to go to
 -- a place.
 pub record SetsTo (s : Fixed) (v : View) (i : Instr) (rd value place : ℕ) : Type 0 where
   pub effect : (a : Machine) → Stands s a v → executed i a.hart ≡ sets rd value (code_start + 4 * place) a.hart

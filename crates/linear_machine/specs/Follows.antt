@@ -21,7 +21,7 @@ pub record Agrees (live : Type 0) (held file : Locations) : Type 0 where
   pub others : (l : Loc) → (l ≡ spare → ⊥) → held l ≡ file l
   pub spare_too : live → held spare ≡ file spare
 
--- the function stands between two lines; t0 is live in this code and in that
+-- the function is between two lines; t0 is live in this code and in that
 abbrev pub IsAt : Fixed → Laid → (List Line → Type 0) → Below → State → View → Type 0
 IsAt s laid live c u w =
     (young : List Placed) × (held : Locations) × Agrees (live u.rest) held u.file

@@ -11,7 +11,7 @@ use Rattle.moving_laws.specs.Waiting.{TrapsFrom}
 use Rattle.linear_machine.specs.Relation.{Below, HeapStands, IsUsable, OwnRegisters, StandsFor, TrapsStand, Waits, all_of, traps_of}
 use Rattle.linear_machine.specs.View.{Fixed, View}
 
--- Its arguments stand in a0 to a7 and s2 to s9, which are x10 to x25, and ra says where it is to
+-- Its arguments are in a0 to a7 and s2 to s9, which are x10 to x25, and ra says where it is to
 -- come back to.
 pub record AtEntry (s : Fixed) (v : View) (young : List Placed) (entry : ℕ) (arguments : List Value)
     (memory : Memory) (c : Below) : Type 0 where
@@ -26,7 +26,7 @@ pub record AtEntry (s : Fixed) (v : View) (young : List Placed) (entry : ℕ) (a
   pub traps : TrapsStand s v.memory (slice_index v.registers s1) [] c
   pub heap : HeapStands s (all_of v young) v.memory (entered memory)
 
--- Its value, if there is one, stands in a0.
+-- Its value, if there is one, is in a0.
 pub record AtReturn (s : Fixed) (v : View) (young : List Placed) (value : Option Value)
     (memory : Memory) (c : Below) : Type 0 where
   pub place : code_start + 4 * v.place ≡ c.back
@@ -46,7 +46,7 @@ IsThrown m base place at trap (t ∷ ts) =
     (code_start + 4 * place ≡ t.1) × (at ≡ t.0 + 16) × TrapsFrom base m trap ts stack_bottom
 
 -- The function does not catch what was raised: it has come to the innermost handler of those that
--- wait, and stands in a0.
+-- wait, and is in a0.
 pub record AtThrow (s : Fixed) (v : View) (young : List Placed) (x : Value) (memory : Memory)
     (c : Below) : Type 0 where
   pub own : OwnRegisters v.registers young 0

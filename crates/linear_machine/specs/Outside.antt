@@ -1,4 +1,4 @@
--- The machine stands before an ECALL that asks for an external call.
+-- The machine is before an ECALL that asks for an external call.
 use Rattle.std.specs.Prelude.{◌≡◌, ℕ, zero, suc, ◌+◌, Bool, true, false, cond, List, [], ◌∷◌, ◌++◌, map, Option, Some, None, slice_get, slice_index, ◌⊎◌}
 use Rattle.bs_words.specs.External.{External}
 use Rattle.bs_words.specs.Memory.{Memory}

@@ -1,4 +1,4 @@
--- How the state of a Linear function stands in the machine.
+-- How the machine holds the state of a Linear function.
 use Rattle.std.specs.Prelude.{◌≡◌, ◌≢◌, ℕ, ◌+◌, ◌-◌, ◌*◌, ◌%◌, ◌<◌, ◌≤◌, Bool, true, false, cond, List, [], ◌∷◌, ◌++◌, length, map, reverse, Option, Some, None, slice_get, slice_index}
 use Rattle.std.specs.List.{AllByRecursion}
 use Rattle.bs_words.specs.Memory.{HeapBlock}
@@ -130,7 +130,7 @@ RegistersHold s placed registers file =
     (r : ℕ) (v : Value) → file (loc.Machine r) ≡ Some v →
     IsLocation r × StandsFor s placed (slice_index registers r) v
 
--- Between a raise and the entry of its handler the raised value stands in a0, and registers hold
+-- Between a raise and the entry of its handler the raised value is in a0, and registers hold
 -- nothing else.
 abbrev pub AreCarried : Fixed → List Placed → List ℕ → (Loc → Option Value) → Option Value → Type 0
 AreCarried s placed registers file None = RegistersHold s placed registers file

@@ -1,4 +1,4 @@
--- Some instructions that stand one after the other change some registers, and the memory in one
+-- Some instructions that come one after the other change some registers, and the memory in one
 -- way.
 use Rattle.std.specs.Prelude.{◌≡◌, ℕ, ◌+◌, List, slice_index}
 use Rattle.rv_machine.specs.Memory.{Region}

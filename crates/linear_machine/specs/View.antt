@@ -32,7 +32,7 @@ pub record Fixed : Type 0 where
 
 -- The limit word is left out of what is seen: asks set it at any time. It may be known that one has.
 pub record View : Type 0 where
-  -- how many instruction words stand before the next one
+  -- how many instruction words are before the next one
   pub place : ℕ
   pub registers : List ℕ
   pub memory : List Region
@@ -58,7 +58,7 @@ abbrev pub KnownLimit : Bool → List Region → Type 0
 KnownLimit true m = word m domain_start ≡ limit_asked
 KnownLimit false m = IsLimit m
 
--- The machine stands so.
+-- The machine is in this state.
 pub record Stands (s : Fixed) (machine : Machine) (v : View) : Type 0 where
   pub image : machine.hart.image ≡ s.image
   pub pc : machine.hart.pc ≡ code_start + 4 * v.place
@@ -87,7 +87,7 @@ pub record Ends (s : Fixed) (n : ℕ) (v : View) (end : End) : Type 0 where
   pub by : (a : Machine) → Stands s a v → (j k : ℕ) → j ≡ n + k →
       guarded_after s.schedule j (Going a) ≡ guarded_after s.schedule k (Over v.calls end)
 
--- the instruction stands at this place of the code
+-- the instruction is at this place of the code
 pub record IsCode (s : Fixed) (place : ℕ) (i : Instr) : Type 0 where
   pub there : slice_get s.image.code place ≡ Some (encoded i)
   pub fits : InstrFits i

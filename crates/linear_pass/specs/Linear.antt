@@ -25,7 +25,7 @@ use Rattle.tidy_rules.specs.Tidied.{IsTidied}
 
 -- ---- slots
 
--- a parameter, an operand or a result of the function stands in the slot
+-- a parameter, an operand or a result of the function is in the slot
 abbrev pub IsSlotOf : Mach → ℕ → Type 0
 IsSlotOf p k = (r : Reg) × (Contains p.params r ⊎ InCode r p.code) × (r.loc ≡ loc.Slot k)
 
@@ -66,7 +66,7 @@ pub record IsLinearOf (p : Mach) (r : Lin) : Type 0 where
   -- every walk reaches a place with the same pushed traps.
   pub regular : IsRegular r
   pub slots : OneForEach p r.slots
-  -- The labels of the Mach function stand in it, and at most one more for each instruction: where
+  -- The labels of the Mach function are in it, and at most one more for each instruction: where
   -- loops are turned round there are others.
   pub labels : (l : ℕ) → Contains (mach_formed.labels_in p.code) l → Contains (labels_in r.code) l
   pub labels_few : length (labels_in r.code) ≤

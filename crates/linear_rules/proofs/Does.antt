@@ -317,7 +317,7 @@ module _ (c : Place) (number : ℕ → ℕ) (slots : ℕ) (p : Mach) (well : Wel
           let ri : IsRegister p r = is_in_code (args_in_code ending inside) in
           (rel r ri x (read (in_among inside)) (walks.read (contains_of (in_spots number inside))) u, (typed r ri x u).1))
 
-      -- what is live after a write, and not written, stands in no destroyed register
+      -- what is live after a write, and not written, is in no destroyed register
       colour_free : (t : Target) → OneOf t (targets i.op) → (k : Reg) → IsRegister p k → Live p k.number (code_at p.code next t) → (Among k.number (killed p i) → ⊥) →
           ((r : Reg) → IsIn r i.results → home number r.loc ≡ home number k.loc → ⊥) → is_destroyed (destroyed_by i.op) k.loc ≡ true → ⊥
       colour_free t o k ki v unkilled nowhere e = by (placed k ki)
@@ -569,7 +569,7 @@ module _ (c : Place) (number : ℕ → ℕ) (slots : ℕ) (p : Mach) (well : Wel
     abbrev bare_instr : MachOp → Instr
     bare_instr g = instr g [] []
 
-    -- what is owed of an instruction from where its lines stand
+    -- what is owed of an instruction from where its lines are
     abbrev Owes : Instr → Type 0
     Owes i =
         (next : List Instr) (a : File) (b : Locations) (around : Around) → Ending (i ∷ next) p.code → around.tries ≡ tries_at (i ∷ next) → walks.Reached Q (L (i ∷ next)) around.tries →

@@ -1,4 +1,4 @@
--- Writes and reads of registers, and of the places where they stand.
+-- Writes and reads of registers, and of the places where they are.
 use Rattle.std.proofs.Common.{◌≡◌, ℕ, Bool, true, false, cond, not, ◌&&◌, ◌||◌, ⊎_elim, List, [], ◌∷◌, Option, Some, None, nat_eq, refl, sym, ap, ◌∙◌, subst, map}
 use Rattle.std.proofs.lemmas.Bool.{true≢false, eq-eqb, eqb-true, and_parts}
 use Rattle.std.specs.List.{Contains}

@@ -50,7 +50,7 @@ module _ (p : Mach) (well : WellFormed p) (full : FullyPlaced p) where
       let z : IsIn r.loc (map loc.Machine colours) = subst (IsIn r.loc) full.well.colours.each (in_map (λ (r : Reg). r.loc) (in_of r p.colours c)) in
       let y = colour_machine colours z in absurd (not_slot y.0 k (sym y.1 ∙ e))
 
-  -- registers whose homes are the same stand at one place
+  -- registers whose homes are the same are at one place
   homes_apart : (r k : Reg) → IsRegister p r → IsRegister p k → home (slot_number p) r.loc ≡ home (slot_number p) k.loc → r.loc ≡ k.loc
   homes_apart r k ri ki same = by (full.places r ri) (full.places k ki)
     where

@@ -1,4 +1,4 @@
--- The marks of a Mach function, and where their labels stand in its lines.
+-- The marks of a Mach function, and where their labels are in its lines.
 use Rattle.std.proofs.Common.{◌≡◌, ◌≢◌, ℕ, zero, suc, Bool, true, false, cond, ◌⊎◌, inl, inr, ⊎_elim, List, [], ◌∷◌, nat_eq, All, AllPairs, refl, sym, ap, ◌∙◌, subst}
 use Rattle.std.proofs.lemmas.Bool.{true≢false, eqb-true, and_parts}
 use Rattle.std.proofs.lemmas.List.Elements.{All-head, All-tail}
@@ -297,7 +297,7 @@ module _ (number : ℕ → ℕ) where
           ⊎_elim (λ s. absurd (true≢false (sym s ∙ w))) (λ h. go h ∙ ap (λ t. L (cond t is (after_label l is))) (sym w)) h
       self false e h go = by i.op i.args i.results once h go
 
-  -- where a handler's label stands its entry comes next
+  -- where a handler's label is, its entry comes next
   pub record EntryOf (h : ℕ) (code : List Instr) : Type 0 where
     pub entry : Instr
     pub next : List Instr

@@ -1,4 +1,4 @@
--- Places of the lowered lines: the place of the Mach code for which each stands, and the traps that are pushed there.
+-- Places of the lowered lines: the place of the Mach code that each stands for, and the traps that are pushed there.
 use Rattle.std.proofs.Common.{◌≡◌, ℕ, zero, suc, ◌+◌, ◌-◌, ◌<◌, ◌≤◌, Bool, true, false, cond, ⊎_elim, List, [], ◌∷◌, length, nat_le, refl, sym, ap, ◌∙◌, subst, arith}
 use Rattle.std.proofs.lemmas.Bool.Decides.{leb_tells}
 use Rattle.mach_ir.specs.Acts.{drop_tries}

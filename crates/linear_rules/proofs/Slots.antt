@@ -123,7 +123,7 @@ code_has k r (i ∷ is) (in_results c) e = regs_pass k i.args (slots_of_regs i.r
 code_has k r (i ∷ is) (further c) e = regs_pass k i.args (slots_of_regs i.results (slots_of_code is)) (regs_pass k i.results (slots_of_code is) (code_has k r is c e))
 code_has k r [] c e = elim c [ ]
 
--- a register of these stands in the slot
+-- a register of these is in the slot
 record FromSlot (k : ℕ) (rs : List Reg) : Type 0 where
   reg : Reg
   among : Contains rs reg

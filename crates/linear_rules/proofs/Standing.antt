@@ -72,7 +72,7 @@ module _ (number : ℕ → ℕ) (slots : ℕ) (p : Mach) (well : WellFormed p) w
   at_target e On o = refl
   at_target e (At l) o = label_q l (label_of e l o)
 
-  -- the handlers of tries that are round a place stand after it
+  -- the handlers of tries that are round a place are after it
   pub handler_round : (h : ℕ) (rest : List Instr) → Ending rest p.code → IsIn h (tries_at rest) → HasHandler h rest
   handler_round h [] e z = elim z [ ]
   handler_round h (i ∷ is) e z = by i.op i.args i.results e z (λ z. handler_round h is (ending_next e) z)

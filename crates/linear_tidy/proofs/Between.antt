@@ -1,4 +1,4 @@
--- Labels that stand between two places.
+-- Labels that are between two places.
 use Rattle.std.proofs.Common.{◌≡◌, ℕ, ◌+◌, ◌<◌, ◌≤◌, List, ◌∷◌, length, drop, get_or, refl, sym, ap, ◌∙◌, subst, arith}
 use Rattle.std.proofs.lemmas.List.{drop_more, length-drop}
 use Rattle.lin_ir.specs.declared.lin.Flow.TheVariants as flow

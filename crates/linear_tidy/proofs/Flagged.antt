@@ -103,7 +103,7 @@ kept_without (b ∷ flags) (i ∷ next) len =
     by true = refl
     by false = refl
 
--- ---- where a line stands
+-- ---- where a line is
 
 record Standing (i : Line) (next code : List Line) : Type 0 where
   at : ℕ

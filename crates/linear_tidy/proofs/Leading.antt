@@ -113,11 +113,11 @@ followed_out m n k l last le h = let none : n - k ≡ 0 = omega (arith, le) in s
 
 -- ---- the table
 
--- it stands at none of the first k lines
+-- it is at none of the first k lines
 abbrev StandsNot : Lin → ℕ → ℕ → Type 0
 StandsNot m k l = (p : ℕ) (d : Line) → p < k → p < length m.code → has_label l (slice_index_or m.code p d).op ≡ false
 
--- each label has what it is to have, or stands at none of the first k lines and has what it has at first
+-- each label has what it is to have, or is at none of the first k lines and has what it has at first
 pub record HasSoFar {X : Type 0} (m : Lin) (k : ℕ) (now all first : ℕ → X) : Type 0 where
   pub each : (l : ℕ) → (now l ≡ all l) ⊎ ((now l ≡ first l) × StandsNot m k l)
 
@@ -139,7 +139,7 @@ has_more m old new all first k i at made h = record { each = λ l. by l (has_lab
             let same : p ≡ k = omega (arith, lt, le) in
             ap (λ (j : Line). has_label l j.op) (get_or_default m.code p d i in_code ∙ ap (λ p. get_or m.code p i) same ∙ sym at) ∙ s
 
--- a label that stands nowhere leads nowhere
+-- a label that is nowhere leads nowhere
 stands_nowhere : (l : ℕ) (code : List Line) → ((p : ℕ) (d : Line) → p < length code → has_label l (slice_index_or code p d).op ≡ false) →
     after_label l code ≡ []
 stands_nowhere l [] none = refl

@@ -169,7 +169,7 @@ module _ (m : Lin) (goes : ℕ → Bool) (each : (i : Line) (next : List Line) �
           live = live_left y.live (subst (Reached m next) (g.tries y.tries) (by_step y.reached (walks.goes On g.on)));
         }
 
--- ---- a line that is left, where it stood
+-- ---- a line that is left, where it was
 
 pub record Was (goes : ℕ → Bool) (j : Line) (js code : List Line) : Type 0 where
   pub next : List Line

@@ -287,7 +287,7 @@ changed_all opens all turns made yielded h = sym (append-nil made) ∙ h ∙ ap 
 
 -- ---- locations
 
--- what holds of all operands, and of none, holds of those of a branch that stands again
+-- what holds of all operands, and of none, holds of those of a branch that is repeated
 module _ (P : List Spot → Type 0) (none : P []) where
   abbrev Args : Line → Type 0
   Args i = P i.args

@@ -191,7 +191,7 @@ pub fn own_label(op: &LinOp) -> Option<Label>
     }
 }
 
-/// Whether it is a jump or an exit: control does not come to what stands right after it.
+/// Whether it is a jump or an exit: control does not come to what is right after it.
 pub fn goes_away(op: &LinOp) -> bool
     ensures { result ≡ goes_away op.now }
 {

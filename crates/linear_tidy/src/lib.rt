@@ -1,6 +1,6 @@
 //! Linear functions made tidy: lines that no walk reaches are left out, and jumps to where control
 //! comes anyway, and moves of a location to itself that nothing reads; jumps go at once where others
-//! lead, and the test of a loop stands again at its end. OCaml does some of this as it linearises
+//! lead, and the test of a loop is repeated at its end. OCaml does some of this as it linearises
 //! (`asmcomp/linearize.ml`: `get_label`, `local_exit`, and code after a jump is dropped).
 //!
 //! What is reached and what is read is searched over the walks of the function. A line that goes may

@@ -76,7 +76,7 @@ fn last_exit(lin: &Lin, labels: &Labels, label: Label) -> Option<Label>
 struct Way {
     /// By labels and jumps alone.
     label: Label,
-    /// By an exit that stands there, and labels and jumps again.
+    /// By an exit that is there, and labels and jumps again.
     exit: Option<Label>,
 }
 

@@ -11,7 +11,7 @@ use crate::use_of_lines::{useless_lines, useless_lines_left};
 use lin_ir::Lin;
 use std::alloc::{AllocError, Global};
 
-/// The function made tidy: its jumps go at once where others lead, a branch stands again right after
+/// The function made tidy: its jumps go at once where others lead, a branch is repeated right after
 /// each exit that leads to it, each line that is left is reached by some walk, each move of a location
 /// to itself is read later, and no jump leads to where control comes without it. Labels and the
 /// entries of handlers stay.

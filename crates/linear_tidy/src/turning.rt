@@ -70,7 +70,7 @@ struct Head {
     on: Label,
 }
 
-/// What an exit to a branch becomes: it goes to a label right after it, where the test stands
+/// What an exit to a branch becomes: it goes to a label right after it, where the test is
 /// again.
 #[derive(Drop)]
 struct Turn {
@@ -121,7 +121,7 @@ fn lines_after(lin: &Lin, place: u32) -> u32
     lin.code.len() as u32 - place - 1
 }
 
-/// The branch at the place, if one stands there.
+/// The branch at the place, if one is there.
 fn head_at(lin: &Lin, free: u32, place: u32) -> Result<Option<Head>, AllocError>
     requires { free + 2 * length lin.now.code < 2 ^ 32 }
     ensures { IfOk result (λ head.
@@ -147,7 +147,7 @@ fn comes_first(label: Label, code: &[Line], place: u32) -> bool
     }
 }
 
-/// Whether the label comes first at the place, or after a jump or an exit that stands there.
+/// Whether the label comes first at the place, or after a jump or an exit that is there.
 fn stands_first(label: Label, code: &[Line], place: u32) -> bool
     requires { length code.now < 2 ^ 32 }
     ensures { result ≡ stands_first label (drop place code.now) }
@@ -161,7 +161,7 @@ fn stands_first(label: Label, code: &[Line], place: u32) -> bool
     comes_first(label, code, place)
 }
 
-/// The branch to which the line at the place leads, if it is an exit to one that does not stand
+/// The branch to which the line at the place leads, if it is an exit to one that is not
 /// there already.
 fn exit_head(lin: &Lin, labels: &Labels, free: u32, place: u32) -> Result<Option<Head>, AllocError>
     requires place { place < length lin.now.code }
@@ -184,7 +184,7 @@ fn exit_head(lin: &Lin, labels: &Labels, free: u32, place: u32) -> Result<Option
 }
 
 /// What the line at the place becomes, if it is an exit to a branch. The label of the branch is
-/// kept where it stands before the exit.
+/// kept where it is before the exit.
 fn line_turn(lin: &Lin, labels: &Labels, free: u32, place: u32) -> Result<Option<Turn>, AllocError>
     requires place { place < length lin.now.code }
     requires room { free + 2 * length lin.now.code < 2 ^ 32 }
@@ -230,7 +230,7 @@ impl Changes {
         })
     }
 
-    /// Marks the label of the branch whose test stands again.
+    /// Marks the label of the branch whose test is repeated.
     fn open(&mut self, turn: &Option<Turn>) -> Result<(), AllocError>
         ensures turns { IfOk result (λ _. self.new.turns ≡ self.old.turns) }
         ensures opened { IfOk result (λ _. (l : ℕ) → is_opened self.new l ≡
@@ -391,8 +391,8 @@ fn push_turned(
 }
 
 /// The function in which each exit that leads to a branch goes to a label right after it, where
-/// that branch stands again. So a turn of a loop ends with its test, and not with a jump to it.
-/// An exit that stands right before its branch is left as it is.
+/// that branch is repeated. So a turn of a loop ends with its test, and not with a jump to it.
+/// An exit that is right before its branch is left as it is.
 ///
 /// There have to be two labels for each line that are free. The only error is want of memory.
 pub fn turn_loops(alloc: Global, lin: Lin) -> Result<Lin, AllocError>

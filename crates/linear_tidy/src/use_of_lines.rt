@@ -16,7 +16,7 @@ use lin_flow::{Labels, LiveWalks, Walks, live_walks, search_walks};
 use lin_ir::{Lin, Line};
 use std::alloc::{AllocError, Global};
 
-/// Whether only labels stand from the one place to the other.
+/// Whether only labels are from the one place to the other.
 fn labels_between(code: &[Line], from: usize, to: usize) -> bool
     requires { to ≤ length code.now }
     ensures { from ≤ length code.now →

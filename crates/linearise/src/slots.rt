@@ -7,7 +7,7 @@ use bs_words::Loc;
 use mach_ir::{Mach, Reg};
 use std::alloc::{AllocError, Global};
 
-/// Adds the numbers of the slots in which registers stand, in order.
+/// Adds the numbers of the slots in which registers are, in order.
 fn gather_regs(regs: &[Reg], slots: &mut Vec<u32>) -> Result<(), AllocError>
     ensures { IfOk result (λ _. slots.new.items ≡ slots.old.items ++ slots_of_regs regs.now []) }
 {

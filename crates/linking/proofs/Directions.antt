@@ -135,7 +135,7 @@ module _ (X : Type 0) (turn : X → X) (see : X → Seen) (stack heap most words
     no_room n y (no_stack lt e calls) = record { calls = calls; end = subst (Accounted run stack heap (see y)) (sym e) (n, lt) }
     no_room n y (no_heap lt e calls) = record { calls = calls; end = subst (Accounted run stack heap (see y)) (sym e) (n, lt) }
 
-    -- a state that is over, and what stands before or after it
+    -- a state that is over, and what is before or after it
     around : (m count n : ℕ) → ((see (moments turn count x)).end ≡ Running → m ≤ count) → Explained n (see (moments turn count x)) →
         (m < count) ⊎ (count ≤ m) → Explained n (see (moments turn m x))
     around m count n early known (inl lt) = by (later X turn see orderly m count x (omega (arith, lt)))

@@ -88,7 +88,7 @@ module _ (S : Type 0) (p : Program S) (pace : Words S) (file : FileTree) (layout
     (At : Below → ℕ → ℕ → S → Outer → X → Type 0)
     (Entry : Below → ℕ → ℕ → List Value → Memory → Outer → X → Type 0)
     (Back : Below → Doing → Outer → X → Type 0) (most words : ℕ) (IsGiven : List Value → Memory → Type 0) where
-  -- where nothing is handed in for a call, the machine stands at the entry of its callee, or at the external call
+  -- where nothing is handed in for a call, the machine is at the entry of its callee, or at the external call
   abbrev pub AskedAt : ℕ → Outer → X → Asked → Callee → Type 0
   AskedAt spare o x call (Inside callee) = (b : Below) × Entry b callee call.below call.arguments call.memory o x
   AskedAt spare o x call (Outside row frame) =
@@ -96,14 +96,14 @@ module _ (S : Type 0) (p : Program S) (pace : Words S) (file : FileTree) (layout
       outside (data_end file) layout row frame call.arguments v ≡ Stops (NoAnswer made) u →
       Comes X turn see stack heap 0 (heap_need u.memory) u.made (Near 0 spare (λ y. see y ≡ record { calls = u.made; end = machine.Asks made })) x
 
-  -- how a machine stands where a function ends so
+  -- how a machine is where a function ends so
   abbrev pub EndAt : ℕ → Below → (f below : ℕ) → Outer → X → Run S → Type 0
   EndAt spare a f below o x (Running s t) = At a f below s o x
   EndAt spare a f below o x (Asking call t) = AskedAt spare o x call call.callee
   EndAt spare a f below o x (Ended d t) = Back a d o x
   EndAt spare a f below o x Wrong = Unit {0}
 
-  -- the units that may be owed where a run of the function stands
+  -- the units that may be owed where a run of the function is
   abbrev pub due : (f : ℕ) → Run S → ℕ
   due f (Running s t) = pace.owed f s
   due f (Asking call t) = 0
@@ -659,7 +659,7 @@ module _ (S : Type 0) (p : Program S) (pace : Words S) (file : FileTree) (layout
     stands s asked units need ahead x (next {c = came} {calls = calls} o fewer fit did onto rest) same at = absurd
         (no_longer asked (asked_by came) (map asked_by calls) same)
 
-    -- What a function does by the list of what its calls did, the machine does where it stands before it.
+    -- What a function does by the list of what its calls did, the machine does where it is before it.
     pub link : (k : ℕ) → LinkOf k
     link zero s w last calls asked units need x between given same m reached fits at = stands s asked units need (pace.ahead f s) x between same at
     link (suc k) s w last calls asked units need x between given same m reached fits at =

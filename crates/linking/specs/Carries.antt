@@ -55,7 +55,7 @@ module _ (S : Type 0) (p : Program S) (w : Words S) (file : FileTree) (layout : 
     (X : Type 0) (next : X → X) (see : X → Seen) (stack heap : ℕ)
     -- what lies below a function on the stack
     (Below : Type 0)
-    -- a function, by its number and on so many stack bytes, stands before a step
+    -- a function, by its number and on so many stack bytes, is before a step
     (At : Below → ℕ → ℕ → S → Outer → X → Type 0)
     -- it is about to begin
     (Entry : Below → ℕ → ℕ → List Value → Memory → Outer → X → Type 0)

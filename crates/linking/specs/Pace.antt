@@ -7,7 +7,7 @@ use Rattle.cmm_meaning.specs.State.{Doing, Asked, Callee, Inside, Outside}
 use Rattle.mach_ir.specs.Runs.{Place, Step, Continues, Pays, Deepens, Waits, FinishesBy, Finishes, FinishesRaising, IsStuck}
 use Rattle.linking.specs.Program.{Program}
 
--- How many instructions are taken where a function stands, by its number.
+-- How many instructions are taken where a function is, by its number.
 pub record Words (S : Type 0) : Type 0 where
   -- at most so many by its step; an external call's own is one of them
   pub cost : ℕ → S → ℕ

@@ -26,7 +26,7 @@ setting_in file =
       parameters = map comps_of (functions file);
     }
 
--- what stands round a function of a file, on so many stack bytes
+-- what is round a function of a file, on so many stack bytes
 abbrev pub place_in : FileTree → Layout → (f below : ℕ) → Place
 place_in file layout f below =
     record { setting = setting_in file; below = below; frame = slice_index layout.frames f }

@@ -44,7 +44,7 @@ use Rattle.line_calls.specs.Calls.{IsInTable}
 use Rattle.linking_machine.specs.Emitted.{IsEmitted}
 use Rattle.linking_machine.specs.Standing.{Shows, fixed_of, At, Entry, Back}
 
--- ---- what stands where a call is asked
+-- ---- what is where a call is asked
 
 abbrev pub AskedSo : Place → ℕ → Around → Step State → Type 0
 AskedSo c n a (Waits call go) = call.below ≡ bytes_below call.callee false c a
@@ -207,7 +207,7 @@ module _ (file : FileTree) (image : Tables) (lins : ℕ → Lin) (named : ℕ �
       let fr = emitted.frames f in
       omega (arith, e, short, m, fr)
 
-  -- it comes to where the function stands
+  -- it comes to where the function is
   pub stands_there : {least n : ℕ} {Q : View → Type 0} (most f below : ℕ) (c : Below) (u : State) (o : Outer) (x : Now) → n ≤ most →
       c.top + below ≡ stack_bottom → (sh : Shows fixed o Q x) →
       ArrivesIn least n fixed (needs_of (laid f) c u) sh.view (IsAt fixed (laid f) (live f) c u) →

@@ -158,7 +158,7 @@ module _ (file : FileTree) (image : Tables) (lins : ℕ → Lin) (named : ℕ �
         (none, comes_free file image lins named w laid entry live has bases emitted run most o y (omega (arith, few)) sh follow (λ z at. at))
     carried IsStuck few none asks follow called = tt
 
-  -- An exit that has no words: no instruction is taken, and the branch where control stands owes the unit.
+  -- An exit that has no words: no instruction is taken, and the branch where control is owes the unit.
   module _ (run : Setup) (f below : ℕ) (c : Below) (u : State) (o : Outer) (y : Now)
       (sh : Shows (fixed file image lins named w laid entry live has bases emitted run) o
       (IsAt (fixed file image lins named w laid entry live has bases emitted run) (laid f) (live f) c u) y) (e : c.top + below ≡ stack_bottom)

@@ -62,7 +62,7 @@ pub record FollowsLine (owed most : ℕ) (s : Fixed) (laid : Laid) (live : List 
   pub so : FollowsSo words s laid live entry c v used x
   pub takes : (owed ≡ 0) ⊎ FollowsBranch words s laid live c v x
 
--- The code begins with an exit that has no words: the machine stands already where that leads.
+-- The code begins with an exit that has no words: the machine is already where that leads.
 pub record BeginsFree (laid : Laid) (m : Lin) (live : List Line → Type 0) (code : List Line)
     : Type 0 where
   pub line : Line
@@ -73,7 +73,7 @@ pub record BeginsFree (laid : Laid) (m : Lin) (live : List Line → Type 0) (cod
 
 -- ---- an image
 
--- Entries lie where the rows say, and take their arguments in registers; the data stands in the
+-- Entries lie where the rows say, and take their arguments in registers; the data is in the
 -- first memory of a run.
 pub record AreEntries (file : FileTree) (image : Tables) (entry : ℕ → ℕ) : Type 0 where
   pub places : (f : ℕ) (row : Func) → slice_get image.funcs f ≡ Some row →

@@ -1,4 +1,4 @@
--- How the Linear program stands in the machine while an image runs.
+-- How the machine holds the state of the Linear program while an image runs.
 use Rattle.std.specs.Prelude.{◌≡◌, ℕ, ◌+◌, ◌-◌, List}
 use Rattle.bs_words.specs.Memory.{Memory}
 use Rattle.bs_words.specs.declared.values.Value.{Value}
@@ -18,7 +18,7 @@ use Rattle.linear_machine.specs.View.{Fixed, View, Stands}
 use Rattle.linking.specs.Assembled.{Setup}
 use Rattle.linking.specs.Carries.{Outer}
 
--- The run stands at a view of which this holds; its answers that are left are words.
+-- The run is at a view of which this holds; its answers that are left are words.
 pub record Shows (s : Fixed) (o : Outer) (P : View → Type 0) (x : Now) : Type 0 where
   pub machine : Machine
   pub is : x ≡ Going machine
@@ -46,7 +46,7 @@ module _ (image : Tables) (has : HasFunctions image)
       }
 
   module _ (laid : ℕ → Laid) (entry : ℕ → ℕ) (live : ℕ → List Line → Type 0) where
-    -- the function of a number stands between two lines, on so many stack bytes
+    -- the function of a number is between two lines, on so many stack bytes
     abbrev pub At : Setup → Below → ℕ → ℕ → State → Outer → Now → Type 0
     At run c f below u o x =
         Shows (fixed_of run) o (IsAt (fixed_of run) (laid f) (live f) c u) x

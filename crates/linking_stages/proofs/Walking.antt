@@ -1,4 +1,4 @@
--- Runs of Linear keep to its walks: where a run stands, some walk comes with the tries that are pushed there.
+-- Runs of Linear keep to its walks: where a run is, some walk comes with the tries that are pushed there.
 use Rattle.std.proofs.Common.{◌≡◌, ℕ, zero, suc, Bool, true, false, cond, ◌||◌, not, List, [], ◌∷◌, ◌++◌, Option, Some, None, Result, Ok, Err, length, map, refl, sym, subst}
 use Rattle.std.specs.Prelude.{slice_get, nat_eq}
 use Rattle.bs_words.specs.Memory.{Memory, Cell, InHeader, InBlock, InStatic, stored, value_in}

@@ -37,7 +37,7 @@ numbers_below bound [] h = no_items (λ n. n < bound)
 numbers_below bound (r ∷ rs) h =
     one_more (λ n. n < bound) r.number (numbers rs) (h r (first_in r rs)) (numbers_below bound rs (λ q c. h q (later_in r q rs c)))
 
--- ---- what an operation destroys stands at a colour
+-- ---- what an operation destroys is at a colour
 
 among_killed : (cs : List Reg) (d : Destroyed) (rs : List Reg) (r : Reg) → Contains (killed_among cs d rs) r → Contains cs r
 among_killed [] d rs r c = c

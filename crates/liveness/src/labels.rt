@@ -79,7 +79,7 @@ fn own_handler(op: &MachOp) -> Option<Label>
 }
 
 /// The place after the mark of each label, and that of the mark of each handler. Of a label that
-/// stands twice it is the first.
+/// occurs twice it is the first.
 #[derive(Drop)]
 pub struct Labels {
     places: BTreeMap<u32, u32>,

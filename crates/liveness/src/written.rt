@@ -27,7 +27,7 @@ fn register_is_destroyed(op: &MachOp, register: u8) -> bool
     }
 }
 
-/// Whether the operation destroys what stands at the place.
+/// Whether the operation destroys what is at the place.
 fn is_destroyed(op: &MachOp, place: Loc) -> bool
     ensures { result ≡ is_destroyed (destroyed_by op.now) place }
 {
@@ -81,7 +81,7 @@ fn destroys_nothing(op: &MachOp) -> bool
 }
 
 /// Adds the numbers of those that the operation destroys: among the registers that stand for the
-/// colours, those where no result stands.
+/// colours, those where no result is.
 fn push_killed(
     found: &mut Vec<u32>,
     colours: &[Reg],

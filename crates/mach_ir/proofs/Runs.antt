@@ -1,10 +1,10 @@
--- More steps tell the same once a run is over.
+-- More steps show the same once a run is over.
 use Rattle.std.proofs.Common.{◌≡◌, ℕ, zero, suc, ◌+◌, List, [], ◌∷◌, refl, ap, ◌∙◌, subst, arith}
 use Rattle.cmm_meaning.specs.State.{Doing, Asked}
 use Rattle.mach_ir.specs.Runs.{Step, Continues, Pays, Deepens, Waits, FinishesBy, Finishes, FinishesRaising, IsStuck, Tally, Run, Running, Asking, Ended, Wrong, paid, came_back, kept_of, handed, onward, runs}
 
 module _ {S : Type 0} (step : S → Step S) where
-  -- so many more steps from where a run stands
+  -- so many more steps from where a run is
   abbrev pub goes_on : ℕ → Run S → Run S
   goes_on n (Running s t) = runs step n s t
   goes_on n (Asking call t) = Asking call t

@@ -74,12 +74,12 @@ labels_in (i ∷ is) = labels_from i.op (labels_in is)
 abbrev pub LeadsTo : MachOp → ℕ → Type 0
 LeadsTo f l = OneOf (At l) (targets f)
 
--- the place of a label stands in this code
+-- the place of a label is in this code
 pub data HasPlace (l : ℕ) : List Instr → Type 0 where
   place_here : {i : Instr} {is : List Instr} → has_label l i.op ≡ true → HasPlace l (i ∷ is)
   place_below : {i : Instr} {is : List Instr} → HasPlace l is → HasPlace l (i ∷ is)
 
--- the mark of a handler stands in this code
+-- the mark of a handler is in this code
 pub data HasHandler (l : ℕ) : List Instr → Type 0 where
   handler_here : {i : Instr} {is : List Instr} → is_handler_of l i.op ≡ true →
       HasHandler l (i ∷ is)
@@ -126,7 +126,7 @@ pub record IsNested (m : Mach) : Type 0 where
   -- also where nothing in the body of the try can raise
   pub at_own_handler : (i : Instr) (next : List Instr) → Stands i next m.code → (l : ℕ) →
       i.op ≡ mach.Mark (mark.Try l) → tries_at (from_handler l m.code) ≡ tries_at (i ∷ next)
-  -- an exit ends no more tries than stand round it
+  -- an exit ends no more tries than are round it
   pub at_exit : (i : Instr) (next : List Instr) → Stands i next m.code → (l n : ℕ) →
       i.op ≡ mach.Mark (mark.Exit l n) → n ≤ length (tries_at (i ∷ next))
   -- a function is left outside its tries
@@ -165,7 +165,7 @@ pub record WellFormed (m : Mach) : Type 0 where
   -- a return gives what the function is written with
   pub returns : (i : Instr) → Contains m.code i → i.op ≡ mach.Op (op.Leaving leaving.Return) →
       comps i.args ≡ results_of m.result
-  -- each label stands once
+  -- each label occurs once
   pub labels_once : AllPairs (λ k l. k ≢ l) (labels_in m.code)
   pub labels_below : All (λ l. l < m.labels) (labels_in m.code)
   pub labels : LabelsStand m

@@ -133,7 +133,7 @@ pub record HasOrigin (m : Mach) (origin : ℕ) : Type 0 where
   pub loose : IsLoose register
   pub same : register.origin ≡ origin
 
--- some register of this origin stands in this slot
+-- some register of this origin is in this slot
 pub record HasSlot (m : Mach) (slot origin : ℕ) : Type 0 where
   pub register : Reg
   pub among : IsRegister m register
@@ -167,7 +167,7 @@ pub record Keeps (p q : Mach) : Type 0 where
   pub result : q.result ≡ p.result
   -- calls, memories, blocks, tries, end and units are the same wherever the first is not stuck
   pub does : Does p q
-  -- no new origin among the registers that are open or stand in slots
+  -- no new origin among the registers that are open or are in slots
   pub origins : (r : Reg) → IsRegister q r → IsLoose r → HasOrigin p r.origin
   -- A new slot is numbered as its register's origin; so is one that the first has for other origins
   -- alone.

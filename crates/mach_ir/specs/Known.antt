@@ -1,4 +1,4 @@
--- Words of crates below, named once more for what stands above.
+-- Words of crates below, named again for the crates above.
 pub use Rattle.cmm_meaning.specs.Setting.{Setting}
 pub use Rattle.cmm_meaning.specs.State.{Doing, Asked, Callee, Gave, Inside, Outside, Threw}
 pub use Rattle.cmm_meaning.specs.Evaluation.{bound_error}

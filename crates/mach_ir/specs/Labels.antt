@@ -7,7 +7,7 @@ abbrev pub is_that_label : Option ℕ → ℕ → Bool
 is_that_label None l = false
 is_that_label (Some k) l = nat_eq k l
 
--- where what stands at this place goes on, by the table
+-- where what is at this place goes on, by the table
 abbrev pub place_to : (ℕ → ℕ) → ℕ → Target → ℕ
 place_to places p On = suc p
 place_to places p (At l) = places l

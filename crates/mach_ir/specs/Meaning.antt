@@ -117,8 +117,8 @@ abbrev pub is_at_one_of : Loc → List Reg → Bool
 is_at_one_of l [] = false
 is_at_one_of l (r ∷ rs) = same_colour l r.loc || is_at_one_of l rs
 
--- Those among the registers of the colours that stand at a destroyed one, but where a result
--- stands. A function's list of them has each colour once (`HasColours`).
+-- Those among the registers of the colours that are at a destroyed one, but where a result
+-- is. A function's list of them has each colour once (`HasColours`).
 abbrev pub killed_among : List Reg → Destroyed → List Reg → List Reg
 killed_among [] d results = []
 killed_among (r ∷ rs) d results =
@@ -265,6 +265,6 @@ abbrev pub begun : Mach → Memory → Option File → Option State
 begun m memory None = None
 begun m memory (Some f) = Some (record { rest = m.code; file = f; around = entered memory })
 
--- its arguments stand in its parameters; where they do not fit it does not begin
+-- its arguments are in its parameters; where they do not fit it does not begin
 abbrev pub start : Place → Mach → List Value → Memory → Option State
 start c m arguments memory = begun m memory (put_all c.setting.end m.params arguments (λ n. None))

@@ -18,7 +18,7 @@ colours =
     10 ∷ 11 ∷ 12 ∷ 13 ∷ 14 ∷ 15 ∷ 16 ∷ 17 ∷ 18 ∷ 19 ∷ 20 ∷ 21 ∷ 22 ∷ 23 ∷ 24 ∷ 25 ∷
     28 ∷ 29 ∷ 30 ∷ 31 ∷ 8 ∷ []
 
--- a register stands in a colour, or in the slot that has its origin's number
+-- a register is in a colour, or in the slot that has its origin's number
 pub data IsPlaced (r : Reg) : Type 0 where
   in_colour : (n : ℕ) → Contains colours n → r.loc ≡ loc.Machine n → IsPlaced r
   in_slot : r.loc ≡ loc.Slot r.origin → IsPlaced r
@@ -30,12 +30,12 @@ pub record HasColours (m : Mach) : Type 0 where
       r.number ≤ q.number
 
 -- Two registers of one function may have one place where the graph joins them only if they are of
--- one origin and stand in its slot.
+-- one origin and are in its slot.
 abbrev pub MayShare : Reg → Reg → Type 0
 MayShare r q = (r.origin ≡ q.origin) × (r.loc ≡ loc.Slot r.origin)
 
 -- Of registers, and of which of them are joined, by number: each fixed place is a colour or the
--- slot of the origin, and joined registers with fixed places stand apart.
+-- slot of the origin, and joined registers with fixed places are apart.
 pub record PlacesAgree (IsOne : Reg → Type 0) (AreJoined : ℕ → ℕ → Type 0) : Type 0 where
   pub places : (r : Reg) → IsOne r → (r.loc ≡ loc.Unset) ⊎ IsPlaced r
   pub apart : (r q : Reg) → IsOne r → IsOne q → AreJoined r.number q.number →
@@ -60,7 +60,7 @@ abbrev pub placed_by : Colouring → Reg → Reg
 placed_by place r = record r { loc = place r.number }
 
 -- Of registers, and of which of them are joined: fixed places stay, each place is a colour or the
--- slot of the origin, and joined registers stand apart.
+-- slot of the origin, and joined registers are apart.
 pub record IsColouring (IsOne : Reg → Type 0) (AreJoined : ℕ → ℕ → Type 0) (place : Colouring) :
     Type 0 where
   pub fixed : (r : Reg) → IsOne r → (r.loc ≡ loc.Unset) ⊎ (place r.number ≡ r.loc)
@@ -78,7 +78,7 @@ pub record NoNeedlessSlot (IsOne : Reg → Type 0) (AreJoined : ℕ → ℕ → 
 
 -- ---- straight runs
 
--- what may stand within a straight run: no mark, no call, nothing that may raise or leave
+-- what may be within a straight run: no mark, no call, nothing that may raise or leave
 abbrev pub is_straight : MachOp → Bool
 is_straight (mach.Op (op.Pure f)) = true
 is_straight (mach.Op (op.Access f)) = true

@@ -9,7 +9,7 @@ use Rattle.cmm_meaning.specs.State.{Doing, Gave, Threw, Asked, Callee, Inside, O
 use Rattle.cmm_meaning.specs.Setting.{Setting}
 use Rattle.mach_ir.specs.Acts.{Around}
 
--- What stands round a function.
+-- What is round a function.
 pub record Place : Type 0 where
   pub setting : Setting
   -- the stack bytes below it, and those of its frame

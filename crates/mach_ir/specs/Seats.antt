@@ -1,4 +1,4 @@
--- Where operands and results stand by the conventions of calls, in both languages.
+-- Where operands and results are by the conventions of calls, in both languages.
 use Rattle.std.specs.Prelude.{◌≡◌, List, [], ◌∷◌, ◌++◌, map, Contains}
 use Rattle.bs_words.specs.declared.types.Loc.{Loc}
 use Rattle.bs_words.specs.declared.types.Loc.TheVariants as loc
@@ -24,7 +24,7 @@ argument_places =
 abbrev pub result_places : List Loc
 result_places = loc.Machine 10 ∷ []
 
--- where a list of operands or results stands
+-- where a list of operands or results is
 pub data Seats : Type 0 where
   Anywhere : Seats
   -- at the first of these places, in order
@@ -64,7 +64,7 @@ pub data AreSeated : Seats → List Loc → Type 0 where
 abbrev pub places_of : List Reg → List Loc
 places_of rs = map (λ (r : Reg). r.loc) rs
 
--- a handler takes the raised value from where a result stands
+-- a handler takes the raised value from where a result is
 abbrev pub mach_result_seats : MachOp → Seats
 mach_result_seats (mach.Op f) = result_seats f
 mach_result_seats (mach.Mark (mark.Handler l)) = InOrder result_places
@@ -74,7 +74,7 @@ abbrev pub mach_operand_seats : MachOp → Seats
 mach_operand_seats (mach.Op f) = operand_seats f
 mach_operand_seats (mach.Mark f) = Anywhere
 
--- Parameters, and operands and results that the conventions put at fixed places, stand there.
+-- Parameters, and operands and results that the conventions put at fixed places, are there.
 pub record Seated (m : Mach) : Type 0 where
   pub params : AreSeated (InOrder argument_places) (places_of m.params)
   pub operands : (i : Instr) → Contains m.code i →

@@ -19,13 +19,13 @@ pub struct Node {
     /// The numbers of the registers that the graph joins it with, rising.
     pub neighbours: Seq<u32>,
     /// The numbers of the registers that a move takes it from or to: one for each move, in the order of
-    /// the text. They had better stand at one place, so that the move has no words.
+    /// the text. They had better be at one place, so that the move has no words.
     pub moves: Seq<u32>,
     /// How often the code reads or writes it: what a slot would cost.
     pub uses: u32,
 }
 
-/// The registers of a function, and which of them must stand apart: one is written while the other
+/// The registers of a function, and which of them must be apart: one is written while the other
 /// is live.
 #[derive(Clone, Drop)]
 pub struct Graph {

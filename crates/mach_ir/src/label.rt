@@ -2,7 +2,7 @@
 
 use std::marker::Model;
 
-/// The number of a place that control goes to. Where it stands, and how often, is said by
+/// The number of a place that control goes to. Where it is, and how often, is said by
 /// `WellFormed`. Contracts see the number.
 #[derive(Clone, Copy, PartialEq, Eq, PartialOrd, Ord, Debug)]
 pub struct Label(pub u32);

@@ -22,7 +22,7 @@ pub enum Turn {
     Stays,
     /// What comes after is a level deeper.
     Opens,
-    /// It begins another part of the structure that it stands in, and has the level of that.
+    /// It begins another part of the structure that it is in, and has the level of that.
     Parts,
     /// It ends the structure.
     Closes,

@@ -1,6 +1,6 @@
 //! The operations that Mach and Linear have in common, by families.
 //!
-//! Operands and results stand in the instruction. What an operation holds itself is what it is
+//! Operands and results are in the instruction. What an operation holds itself is what it is
 //! known by beside them: a constant, a symbol, a chunk, an offset, a row.
 
 use crate::blocks::Blocks;

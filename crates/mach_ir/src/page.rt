@@ -106,7 +106,7 @@ impl Page {
         self.put(b"]")
     }
 
-    /// The component of what stands before it.
+    /// The component of what is before it.
     pub fn put_comp(&mut self, comp: Comp) -> Result<(), AllocError>
         ensures { IfOk result (λ _. Adds self.old self.new (codes ":" ++ comp_letter comp)) }
     {

@@ -43,7 +43,7 @@ asked_same c callee vs tail x y seen =
 
 module _ (c : Place) (p q : Mach) (f : ℕ → Instr → List Instr) (keeps : KeepsMarks f) (is_code : q.code ≡ expand f p.code)
     (Suit : Around → Around → Type 0) (Rel : List Instr → Around → Around → File → File → Type 0) where
-  -- the second stands at the code for what the first stands at
+  -- the second is at the code for what the first is at
   pub data Related : State → State → Type 0 where
     related : {rest : List Instr} {x y : Around} {a b : File} → Ending rest p.code → Rel rest x y a b →
         Related (at rest a x) (at (expand f rest) b y)
@@ -84,7 +84,7 @@ module _ (c : Place) (p q : Mach) (f : ℕ → Instr → List Instr) (keeps : Ke
       later agree known
       (subst (Coming ws (written q i) x) (sym e) (passes_on further given (λ w. more (given w)) go))
 
-  -- the same where the second stands before the straight code
+  -- the same where the second is before the straight code
   begins_on : {Given : Type 0} {y : Around} {xs next : List Instr} {b e : File} {ws : List Reg} {x : Step State} →
       Passes Given y xs next b e → (ArrivesWell p ws x → Given) → Answers c p q Suit Related ws (at next e y) x →
       ((us : List Reg) → (ArrivesWell p ws x → Agrees q us (at next e y)) → Coming ws us x (Continues (at next e y))) →

@@ -121,7 +121,7 @@ pub ending_short : {rest code : List Instr} → Ending rest code → length rest
 ending_short all = omega arith
 ending_short (more e) = let le = ending_short e in omega (arith, le)
 
--- a code that another ends with stands in it
+-- a code that another ends with is in it
 pub stands_of : {i : Instr} {next code : List Instr} → Ending (i ∷ next) code → Stands i next code
 stands_of all = here
 stands_of (more e) = below (stands_of e)

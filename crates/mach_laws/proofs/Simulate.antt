@@ -68,7 +68,7 @@ module _ (c : Place) (p q : Mach) (Suit : Around → Around → Type 0) (R : Sta
     later : {xs : List Reg} {x : Step State} {t : State} → (ArrivesWell p ws x → Agrees q xs t) → ValsWritten q t →
         Arrives ws (wrote_at q t.rest) x (step c q t) → Arrives ws xs x (Continues t)
 
-  -- The same where the second stands at this state: it waits, or begins with a step.
+  -- The same where the second is at this state: it waits, or begins with a step.
   pub data Answers (ws : List Reg) (t : State) : Step State → Type 0 where
     stays : {s : State} → (Agrees p ws s → R s t) → Answers ws t (Continues s)
     stuck : Answers ws t IsStuck

@@ -35,7 +35,7 @@ pub data NoBound : List Instr → Type 0 where
   not_bound : {i : Instr} {is : List Instr} → bounds_try i.op ≡ false → NoBound is →
       NoBound (i ∷ is)
 
--- For a mark with a label, and for one that bounds a try, stands that mark alone, for a handler it
+-- For a mark with a label, and for one that bounds a try, there is that mark alone, for a handler it
 -- comes first, and nothing else becomes one.
 pub record KeepsMarks (f : ℕ → Instr → List Instr) : Type 0 where
   pub mark : (l n : ℕ) (i : Instr) → has_label l i.op ≡ true →

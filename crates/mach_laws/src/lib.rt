@@ -1,4 +1,4 @@
-//! Laws of Mach functions on which every pass over them stands.
+//! Laws of Mach functions that every pass over them uses.
 //!
 //! A step is reads, then an operation on values, then writes, then where control goes. So a pass
 //! that puts straight code round an instruction speaks of registers alone, and one relation between

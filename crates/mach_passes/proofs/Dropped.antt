@@ -1,4 +1,4 @@
--- Dropping what only computes and is not used carries: no word, frame point or exit is new, and tries stand where they did.
+-- Dropping what only computes and is not used carries: no word, frame point or exit is new, and tries are where they were.
 use Rattle.std.proofs.Common.{◌≡◌, ℕ, suc, ◌≤◌, Bool, true, false, cond, List, [], ◌∷◌, length, sym, ap, ◌∙◌, subst, arith}
 use Rattle.std.specs.List.{Contains}
 use Rattle.std.specs.Prelude.{slice_index_or}

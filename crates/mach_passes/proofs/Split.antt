@@ -36,7 +36,7 @@ use Rattle.mach_passes.proofs.Replaced.{Replaces, replaced_carried}
 module _ (names : Naming) where
   -- ---- measures
 
-  -- A place has the same components and stands where it stood.
+  -- A place has the same components and is where it was.
   spot_same : (f g : ℕ → ℕ) (args results : List Reg) → same_spot (all_numbered f args) (all_numbered g results) ≡ same_spot args results
   spot_same f g [] results = refl
   spot_same f g (r ∷ []) [] = refl

@@ -1,4 +1,4 @@
--- What stands between the passes before register allocation.
+-- What is between the passes before register allocation.
 use Rattle.combine_rules.specs.Combined.{combined}
 use Rattle.copy_rules.specs.Propagated.{IsPropagated}
 use Rattle.dead_rules.specs.Dropped.{IsDropped}

@@ -1,2 +1,2 @@
--- That the passes over Mach make one function, named once more for what stands above.
+-- That the passes over Mach make one function, named again for the crates above.
 pub use Rattle.mach_passes.proofs.Whole.{one_prepared}

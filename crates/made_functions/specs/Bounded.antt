@@ -8,7 +8,7 @@ use Rattle.lin_ir.specs.declared.descr.Descr.{Descr}
 use Rattle.rv_pieces.specs.declared.piece.Pieces.{Pieces}
 
 pub record IsBoundedBy (tree : FunctionTree) (ds : List Descr) (pieces : Pieces) : Type 0 where
-  -- bytes of the frame, and 16 for each try that may stand on top
+  -- bytes of the frame, and 16 for each try that may be on top
   pub frame : pieces.frame + 16 * tries tree ≤ 16 * tree.tokens + 32
   -- words of its code, each branch in its longest form
   pub words : words_at_most pieces.code ≤ most_words tree

@@ -1,4 +1,4 @@
--- What is made of a function, named once more for what stands above.
+-- What is made of a function, named again for the crates above.
 pub use Rattle.made_functions.specs.Bounded.{IsBoundedBy}
 pub use Rattle.made_functions.specs.Chained.{IsChained}
 pub use Rattle.made_functions.specs.Files.{IsFunctionMade}

@@ -99,7 +99,7 @@ pub outside_spends : (end : ℕ) (layout : Layout) (row : External) (frame : Boo
 outside_spends end layout row frame arguments w =
     spends_as frame end row.result (record { name = row.name; shown = map (observed layout) arguments }) w.answers w
 
--- what stands round an expression where activations nest at most so deep
+-- what is round an expression where activations nest at most so deep
 abbrev around : FileTree → Layout → ℕ → Surroundings
 around file layout depth =
     record {

@@ -1,4 +1,4 @@
--- What stands round an expression in the run of a whole file. How deep calls may nest is not asked: a depth
+-- What is round an expression in the run of a whole file. How deep calls may nest is not asked: a depth
 -- past the units that are left is as good as any.
 use Rattle.std.specs.Prelude.{suc, map}
 use Rattle.cmm_meaning.specs.Known.{data_end, value_of_symbol}

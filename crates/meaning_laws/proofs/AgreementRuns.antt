@@ -41,7 +41,7 @@ function_plays s spending turns frame f arguments below w enough =
     let here : Here = record { names = bound (map scoped_parameter f.params) arguments []; below = below; frame = frame; tries = 0 } in
     does_plays s spending turns f.body true here (deepened (below + frame) w) enough Ends ∙ follow_ends s (evaluated s f.body true here (deepened (below + frame) w))
 
--- what stands round an expression where activations nest at most so deep
+-- what is round an expression where activations nest at most so deep
 abbrev pub nested : FileTree → Layout → ℕ → Surroundings
 nested file layout depth =
     record {

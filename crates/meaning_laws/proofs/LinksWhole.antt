@@ -26,7 +26,7 @@ use Rattle.meaning_laws.proofs.LinksOutside.{outside_answers, outside_continues}
 use Rattle.meaning_laws.proofs.Units.{Onward-same, Later-same, played_later, played_fits}
 use Rattle.meaning_laws.proofs.UnitsContinued.{onward_left, played_continues}
 
--- ---- the built-in symbol stands in the data
+-- ---- the built-in symbol is in the data
 
 items_grow : (address : ℕ) (items : List DataItemTree) → address ≤ end_of_items address items
 items_grow address [] = omega arith

@@ -1,4 +1,4 @@
--- What holds of all that functions do: the arguments of their calls fit, each call stands on the bytes of its caller,
+-- What holds of all that functions do: the arguments of their calls fit, each call is on the bytes of its caller,
 -- after a tail call a function only tests, what they raise fits val, what they give fits their result, and the memory
 -- only grows.
 use Rattle.std.specs.Prelude.{◌≡◌, ℕ, ◌+◌, ◌*◌, Bool, true, cond, List, ◌++◌, Option, Some, None, slice_get}
@@ -64,7 +64,7 @@ pub record FitsCallee (c : Setting) (f : ℕ) (arguments : List Value) : Type 0 
   pub callee : slice_get c.parameters f ≡ Some parameters
   pub fit : fit_parameters c.end parameters arguments ≡ true
 
--- A call that a function makes: its arguments fit; it stands on the bytes of its caller with the caller's frame and 16
+-- A call that a function makes: its arguments fit; it is on the bytes of its caller with the caller's frame and 16
 -- for each try that the caller has entered; but a tail call, which is never within a try, on those below its caller.
 pub record CallStands (a : Activation) (call : Called) : Type 0 where
   pub fits : FitsCallee a.setting call.function call.arguments
@@ -81,7 +81,7 @@ pub data OnlyTests (result : Ret) : Doing → Does → Type 0 where
   fails : {v : Option Value} {memory : Memory} {kind : Kind}
       → OnlyTests result (Gave v memory) (Fails memory kind)
 
--- What a function does from a memory on: each of its memories extends the one before it, its calls stand as calls do,
+-- What a function does from a memory on: each of its memories extends the one before it, its calls are as calls do,
 -- what it raises fits val and what it gives fits its result, if all that holds of what its calls do.
 pub data Lawful (a : Activation) : Memory → Does → Type 0 where
   gives : {before memory : Memory} {v : Option Value} {h : Here}

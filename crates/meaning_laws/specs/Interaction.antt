@@ -1,4 +1,4 @@
--- The meaning of a function once more, as an interaction, in continuation style. It stands beside the evaluation of
+-- The meaning of a function once more, as an interaction, in continuation style. It is beside the evaluation of
 -- an expression form by form, and has its words; of the world it knows the memory alone, so that it says what a
 -- function does whatever calls do, and however many units are left.
 use Rattle.std.specs.Prelude.{ℕ, zero, suc, ◌+◌, Bool, true, false, cond, nat_lt, List, [], ◌∷◌, Option, Some, None, Result, Ok, Err, length, map, slice_get}
@@ -205,7 +205,7 @@ node c e h m part k = Pays m (typed c.end (type_of (scope h) e) part k)
 
 abbrev mutual
   -- what a function does where it evaluates an expression, if a catch may be left for so many times; `tail` says
-  -- whether the expression stands in tail position
+  -- whether the expression is in tail position
   pub does : Setting → ℕ → Expression → Bool → Here → Memory → Part (Option Value)
   does c turns (Integer at n) tail h m = node c (Integer at n) h m (gives (Some (value.Word n)) h m)
   does c turns (Pointer at n) tail h m = node c (Pointer at n) h m (gives (Some (value.Word n)) h m)
@@ -329,7 +329,7 @@ abbrev mutual
       record { label = label; params = params; body = λ h m. does c turns body tail h m } ∷ readied c turns rest tail
 
 -- what a function does on these arguments, in this memory, on so many stack bytes: its frame counts, and its
--- body stands in tail position
+-- body is in tail position
 abbrev pub function_does : Setting → ℕ → ℕ → FunctionTree → List Value → ℕ → Memory → Does
 function_does c turns frame f arguments below m =
     let here : Here = record {

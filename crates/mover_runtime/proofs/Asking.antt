@@ -19,7 +19,7 @@ pub among-any : (numbers : List ℕ) (k : ℕ) → list_any (λ n. n == k) numbe
 among-any [] k = refl
 among-any (n ∷ ns) k = ap (λ b. (n == k) || b) (among-any ns k)
 
--- a word of the generator that stands there, and the one after it
+-- a word of the generator that is there, and the one after it
 seeded-asks : (seed k : ℕ) (words : Lcg) (r : Bool) → words ≡ generator seed k → r ≡ ((pcg32 words).0 % 64 == 0) → r ≡ (word seed k % 64 == 0)
 unfolding word
 seeded-asks seed k words r at e = e ∙ ap (λ (g : Lcg). (pcg32 g).0 % 64 == 0) at

@@ -1,4 +1,4 @@
--- The run of a machine that stands at the entry of a function is the run of that function.
+-- The run of a machine that is at the entry of a function is the run of that function.
 use Rattle.std.proofs.Common.{◌≡◌, ℕ, ◌+◌, ◌<◌, Bool, true, false, cond, List, [], ◌∷◌, Some, ap, arith, ◌∙◌, subst, eq-eqb}
 use Rattle.std.specs.Prelude.{find, ◌==◌}
 use Rattle.std.specs.Str.{bytes_eq}

@@ -16,7 +16,7 @@ use Rattle.mover_runtime.specs.declared.outcome.RunEnd.TheVariants.{Returned, Ra
 use Rattle.mover_runtime.specs.declared.schedule.Schedule.{Schedule}
 use Rattle.mover_runtime.specs.Schedules.{schedule_of}
 
--- what is reported of how a run stands
+-- what is reported of whether a run goes on or how it ended
 abbrev pub end_reported : End → RunEnd
 end_reported ends.Running = More
 end_reported (ends.Returned value) = Returned value
@@ -46,7 +46,7 @@ before h result answers taken = calling_none h result (drop taken answers)
 abbrev pub asked_if : Bool → Hart → Hart
 asked_if asks h = cond asks (asked h) h
 
--- the run of a machine from the state where it stands, after so many instructions
+-- the run of a machine from the state where it is, after so many instructions
 abbrev pub run_of : Hart → List ℕ → Schedule → ℕ → Seen
 run_of h answers schedule limit =
     seen (after (schedule_of schedule) limit (Going (calling_none h (entry_result h) answers)))

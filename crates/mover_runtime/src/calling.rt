@@ -23,7 +23,7 @@ use image_form::ExtRow;
 use rv_isa::Register;
 use rv_machine::{Cause, Machine};
 
-/// Makes the external call before which the machine stands, or ends the run where there is no such call
+/// Makes the external call before which the machine is, or ends the run where there is no such call
 /// or no answer for it.
 pub fn call<K: Sink>(
     machine: &mut Machine<'_>,

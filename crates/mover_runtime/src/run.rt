@@ -100,7 +100,7 @@ fn ask_if(machine: &mut Machine<'_>, asks: bool)
     }
 }
 
-// The type of what the function returns at whose entry the machine stands.
+// The type of what the function returns at whose entry the machine is.
 fn entry_result(machine: &Machine<'_>) -> Ret
     ensures { result ≡ entry_result machine.now }
 {

@@ -31,7 +31,7 @@ module _ (image : Tables) (functions : HasFunctions image) (bytes : AllByRecursi
   abbrev first : Hart
   first = start image entry [] stack heap
 
-  -- t0 has the bytes, which are taken off s10, and the return address stands in the frame
+  -- t0 has the bytes, which are taken off s10, and the return address is in the frame
   abbrev pub asking : Hart
   asking = record (start image entry [] stack heap) {
     pc = code_start + 4 * place;

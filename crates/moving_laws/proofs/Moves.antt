@@ -186,7 +186,7 @@ module _ (f : ℕ → ℕ) (old : List Region) where
   redirected_readable m [] x r = r
   redirected_readable m (a ∷ ps) x r = redirected_readable (write m a (f (word old a))) ps x (readable_write m a x (f (word old a)) r)
 
-  -- a word that stands as it is to stand goes on so
+  -- a word that is as it is to be goes on so
   pub redirected_settled : (m : List Region) (ps : List ℕ) (x : ℕ) → IsFormed m → IsReadable m x → f (word old x) < 2 ^ 64 → word m x ≡ f (word old x) →
       word (redirected f old m ps) x ≡ f (word old x)
   redirected_settled m [] x fm r small e = e

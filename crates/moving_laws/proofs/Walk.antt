@@ -1,4 +1,4 @@
--- The walk finds the frames that stand on the stack, and a move keeps them.
+-- The walk finds the frames that are on the stack, and a move keeps them.
 use Rattle.std.proofs.Common.{◌≡◌, ℕ, zero, suc, ◌+◌, ◌*◌, ◌-◌, ◌%◌, ◌^◌, ◌<◌, ◌≤◌, ◌⊎◌, inl, inr, Bool, true, false, cond, not, ◌||◌, ◌==◌, List, [], ◌∷◌, ◌++◌, length, Option, Some, option_map, option_and_then, refl, ap, arith, ◌∙◌, sym, subst, ⊎_elim, mod-eq_of_lt}
 use Rattle.std.specs.List.{list_all}
 use Rattle.std.proofs.lemmas.Bool.{eq-eqb, ne_eqb, eqb-true, le-leb, and_from, or_left, or_right, cond-true, cond-false}

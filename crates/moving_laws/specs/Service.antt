@@ -31,7 +31,7 @@ pub record Contents : Type 0 where
   pub blocks : Blocks
   pub static : ℕ → Option Value
 
--- The machine stands before a service, or after it, which returns to an address. The blocks lie
+-- The machine is before a service, or after it, which returns to an address. The blocks lie
 -- so, those of the young area among them. The running function's own frame is the first of the
 -- frames, and it is the first activation: what may not be read after the service is none in it
 -- already.

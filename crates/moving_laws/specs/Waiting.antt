@@ -42,7 +42,7 @@ Chain ds base m first a p (f ∷ fs) =
     × (word m (p + (f.desc.size - 8)) ≤ 0x10000000)
     × Chain ds base m false (word m (p + (f.desc.size - 8))) (p + f.desc.size) fs
 
--- Its frame has what the activation has: a slot holds its value, a pointer stands only where the
+-- Its frame has what the activation has: a slot holds its value, a pointer is only where the
 -- descriptor names it, and what is named fits val.
 pub record IsWaiting (image : Tables) (placed : List Placed) (m : List Region) (x : Activation)
     (f : Frame) : Type 0 where

@@ -20,7 +20,7 @@ moved-there m held place apart = cond-false _ _ _ (same_place-apart place m.to a
 -- ---- what a walk leaves
 
 -- The moves of the first list are all made, those of the second or left, and what is left can still
--- be made from where things stand.
+-- be made from where things are.
 pub record Effect {A : Type 0} (held : Loc → A) (walk pending : Moves) (w : Made) : Type 0 where
   pub walk_done : (m : Move) → In m walk → after w.made held m.to ≡ held m.from
   pub done : (m : Move) → In m pending → In m w.left ⊎ (NotTo m.to w.left × (after w.made held m.to ≡ held m.from))

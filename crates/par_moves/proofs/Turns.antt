@@ -43,7 +43,7 @@ walked-none : (n : ℕ) (root : Move) (path pending : Moves) → first_reader (t
 unfolding walked
 walked-none n root path pending e = ap (turned (walked n) root path pending) e
 
--- where a walk stands: the definition from here gives what the whole gives
+-- where a walk is: the definition from here gives what the whole gives
 pub record Standing (root : Move) (path : Moves) (index : BTreeMap ℕ (Vec Move)) (made before : Moves) (whole : Made) : Type 0 where
   pub pending : Moves
   pub turns : ℕ

@@ -13,7 +13,7 @@ use Rattle.mach_ir.specs.declared.reg.Reg.{Reg}
 use Rattle.pass_rules.specs.Measures.{code_words, code_points, exits, other_operands}
 use Rattle.places_rules.specs.Places.{ColoursLow}
 
--- no more than so many tries stand round each place of the code
+-- no more than so many tries are round each place of the code
 abbrev pub TriesAtMost : Mach → ℕ → Type 0
 TriesAtMost m most =
     (i : Instr) (next : List Instr) → Stands i next m.code → length (tries_at (i ∷ next)) ≤ most

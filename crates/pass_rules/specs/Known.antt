@@ -1,2 +1,2 @@
--- Words of crates below, named once more for what stands above.
+-- Words of crates below, named again for the crates above.
 pub use Rattle.linear_rules.specs.Lowered.{same_spot}

@@ -18,14 +18,14 @@ use Rattle.places_rules.specs.Places.{SlotsGrow}
 use Rattle.selection_rules.specs.Select.{selected}
 
 pub record IsPlacedFor (tree : FunctionTree) (q : Mach) : Type 0 where
-  -- it does what is selected of the text's function, each register has a place, and joined ones stand
+  -- it does what is selected of the text's function, each register has a place, and joined ones are
   -- apart
   pub keeps : Keeps (selected tree) q
   pub formed : WellFormed q
   pub placed : FullyPlaced q
   pub seated : Seated q
   pub no_addr : NoAddrLive q
-  -- no more tries stand round a place than stand round one of the text
+  -- no more tries are round a place than are round one of the text
   pub tries : TriesAtMost q (tries tree)
   pub offsets : All (λ (i : Instr). OffsetFits i.op) q.code
   pub ends : EndsInReturn q.code

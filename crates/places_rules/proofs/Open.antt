@@ -1,4 +1,4 @@
--- What stands at one place stands at no other.
+-- What is at one place is at no other.
 use Rattle.std.proofs.Common.{◌≡◌, ℕ}
 use Rattle.bs_words.specs.declared.types.Loc.{Loc}
 use Rattle.bs_words.specs.declared.types.Loc.TheVariants as loc

@@ -85,7 +85,7 @@ module _ (m : Mach) (formed : WellFormed m) (well : WellPlaced m) where
   pub rest_keeps : Keeps m (rest_in_slots m)
   rest_keeps = placed_keeps m last_resort formed well (rest_placing m well)
 
-  -- Each register has a place, and joined ones stand apart.
+  -- Each register has a place, and joined ones are apart.
   pub rest_placed : FullyPlaced (rest_in_slots m)
   rest_placed =
       placed_fully m last_resort formed well (rest_placing m well) (λ r i. is_at m well r i (rested r))

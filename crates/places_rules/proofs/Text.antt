@@ -1,5 +1,5 @@
 -- The text of a function whose registers have been placed: its labels, tries and forms are as they were, wherever the
--- registers stand.
+-- registers are.
 use Rattle.std.proofs.Common.{◌≡◌, ◌≢◌, ℕ, ◌<◌, ◌≤◌, Bool, true, false, cond, List, [], ◌∷◌, ◌++◌, length, refl, sym, ap, ◌∙◌, subst}
 use Rattle.std.specs.List.{All, AllPairs}
 use Rattle.std.proofs.lemmas.List.Elements.{All-map}
@@ -236,7 +236,7 @@ module _ (place : Placing) where
               (λ i c labels k. h (placed_instr place i) (mapped (placed_instr place) m.code i c) labels k);
         }
 
-    -- A well-formed function is so wherever its registers stand.
+    -- A well-formed function is so wherever its registers are.
     pub placed_formed : WellFormed (with_places place m)
     placed_formed =
         record {

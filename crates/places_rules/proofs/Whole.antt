@@ -113,7 +113,7 @@ module _ (m : Mach) (place : Placing) where
       ∙ ap (λ n. length i.args + n + operand_count (placed_code place is)) (length-map i.results (placed place))
       ∙ ap (λ n. length i.args + length i.results + n) (same_count is)
 
-  -- It is as large as it was, wherever its registers stand.
+  -- It is as large as it was, wherever its registers are.
   pub placed_size : (s : Size) → HasSize m s → HasSize (with_places place m) s
   placed_size s h =
       record {
@@ -205,7 +205,7 @@ module _ (m : Mach) (place : Placing) where
         (is.apart w.register v.register w.among v.among before (λ o. fixed_one (sym (loc_same w.register w.same) ∙ o))
         (loc_same w.register w.same ∙ e ∙ sym (loc_same v.register v.same))))
 
-    -- Joined registers with places stand apart, where none is put at a colour that has a number below that of the register of the
+    -- Joined registers with places are apart, where none is put at a colour that has a number below that of the register of the
     -- colour.
     pub placed_well : ((r k : Reg) → Contains m.colours r → IsRegister m k → place k ≡ r.loc → r.number ≤ k.number) →
         WellPlaced (with_places place m)
@@ -255,7 +255,7 @@ module _ (m : Mach) (place : Placing) where
         after_first more
         (ap (λ ls. ls ++ more) (same_places rs more (λ k c. i k (later_in r k rs c)) (subst AreRegisters (sym e) f)) ∙ e)
 
-    -- What the conventions put at fixed places stands there.
+    -- What the conventions put at fixed places is there.
     pub placed_seated : Seated m → Seated (with_places place m)
     placed_seated seated =
         record {

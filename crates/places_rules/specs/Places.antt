@@ -27,7 +27,7 @@ placed_instr place i =
 abbrev pub placed_code : Placing → List Instr → List Instr
 placed_code place code = map (placed_instr place) code
 
--- Each register stands where it is placed. All else is as it was.
+-- Each register is where it is placed. All else is as it was.
 abbrev pub with_places : Placing → Mach → Mach
 with_places place m =
     record m {
@@ -37,7 +37,7 @@ with_places place m =
     }
 
 -- Fixed places stay, each place is a colour or the slot of the origin, or stays open, and joined
--- registers that have places stand apart.
+-- registers that have places are apart.
 pub record IsPlacing (m : Mach) (place : Placing) : Type 0 where
   pub fixed : (r : Reg) → IsRegister m r → (r.loc ≡ loc.Unset) ⊎ (place r ≡ r.loc)
   pub places : (r : Reg) → IsRegister m r → (place r ≡ loc.Unset) ⊎ IsPlaced (placed place r)
@@ -74,7 +74,7 @@ rest_in_slots m = with_places last_resort m
 
 -- ---- how many slots there are
 
--- some register of the function stands in this slot
+-- some register of the function is in this slot
 pub record IsSlot (m : Mach) (slot : ℕ) : Type 0 where
   pub register : Reg
   pub among : IsRegister m register

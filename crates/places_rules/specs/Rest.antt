@@ -13,7 +13,7 @@ pub record IsKept (p q : Mach) : Type 0 where
   -- it does what the first does
   pub keeps : Keeps p q
   pub formed : WellFormed q
-  -- each register has a place, and joined ones stand apart
+  -- each register has a place, and joined ones are apart
   pub placed : FullyPlaced q
   pub seated : Seated p → Seated q
   pub no_addr : NoAddrLive p → NoAddrLive q

@@ -1,8 +1,8 @@
 //! Mach functions whose registers are put at places, and what such a function keeps.
 //!
-//! What a function does is by the numbers and components of its registers. Places tell only which of
-//! them an operation destroys: those at colours, but where a result stands. So where open registers get
-//! places, fixed ones stay, and joined ones stand apart, an operation destroys at most what it did, and
+//! What a function does is by the numbers and components of its registers. Places say only which of
+//! them an operation destroys: those at colours, but where a result is. So where open registers get
+//! places, fixed ones stay, and joined ones are apart, an operation destroys at most what it did, and
 //! nothing that is live is the difference: the function does what it did, step for step. A colouring is
 //! one such placing, and the last resort, each open register in the slot of its origin, is another.
 //!
@@ -21,7 +21,7 @@ pub fn the_rest_is_kept()
     ensures { (m : Mach) → WellFormed m → WellPlaced m → IsKept m (rest_in_slots m) }
 {}
 
-/// Law: so is one whose registers stand where a colouring has them.
+/// Law: so is one whose registers are where a colouring has them.
 pub fn a_colouring_is_kept()
     ensures { (m : Mach) (place : Colouring) → WellFormed m → WellPlaced m → ColoursLow m →
         IsColouring (IsRegister m) (Joined m) place → IsKept m (recoloured place m) }

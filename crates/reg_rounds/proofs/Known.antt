@@ -1,2 +1,2 @@
--- Laws and words of crates below, named once more for what stands above.
+-- Laws and words of crates below, named again for the crates above.
 pub use Rattle.rounds_rules.proofs.Once.{allocated_once}

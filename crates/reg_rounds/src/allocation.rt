@@ -26,12 +26,12 @@ pub struct Allocated {
     pub mach: Mach,
     /// How many rounds of colouring there were.
     pub rounds: u32,
-    /// Whether it gave up: the function as it stood before the first round then has a slot for each register
+    /// Whether it gave up: the function as it was before the first round then has a slot for each register
     /// whose place is open.
     pub rest: bool,
 }
 
-/// One round: the graph of what must stand apart, its colouring, and the copies for what that
+/// One round: the graph of what must be apart, its colouring, and the copies for what that
 /// put into slots. The answer says whether another round is asked for. Registers numbered `fresh` or above
 /// were made by earlier rounds.
 fn round(alloc: Global, mach: Mach, fresh: u32) -> Result<(Mach, bool), AllocError>

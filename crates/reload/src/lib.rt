@@ -1,4 +1,4 @@
-//! Reloading (OCaml's `asmcomp/reloadgen.ml`): after a colouring, each operand or result that stands in a
+//! Reloading (OCaml's `asmcomp/reloadgen.ml`): after a colouring, each operand or result that is in a
 //! slot, of an operation other than a move, a spill or a reload, gets a fresh register, which is reloaded
 //! before or spilled after it, and another round of colouring is asked for.
 #![tactic(auto)]

@@ -24,7 +24,7 @@ fn is_copy(op: &Op) -> bool
     }
 }
 
-/// Whether the operands may not stand in slots.
+/// Whether the operands may not be in slots.
 pub(crate) fn reads_registers(op: &MachOp) -> bool
     ensures { result ≡ reads_registers op.now }
 {
@@ -44,7 +44,7 @@ pub(crate) fn reads_registers(op: &MachOp) -> bool
     }
 }
 
-/// Whether the results may not stand in slots.
+/// Whether the results may not be in slots.
 pub(crate) fn writes_registers(op: &MachOp) -> bool
     ensures { result ≡ writes_registers op.now }
 {

@@ -18,7 +18,7 @@ use liveness::first_free;
 use mach_ir::{Colours, Instr, Mach, Seq};
 use std::alloc::{AllocError, Global};
 
-/// Whether an operand or a result stands in a slot and may not.
+/// Whether an operand or a result is in a slot and may not.
 fn needs_registers(instr: &Instr) -> bool
     ensures { result ≡ needs_registers instr.now }
 {

@@ -140,7 +140,7 @@ module _ (s : ℕ → ℕ) where
       let both = operands_append (reloaded_instr (s (length is)) i) (expand (laid_instr s) is) in
       omega (arith, here, rest, both)
 
--- ---- wherever registers stand
+-- ---- wherever registers are
 
 same_with : (f : MachOp) (args results us rs : List Reg) → length us ≡ length args → length rs ≡ length results →
     operands_with f us rs ≡ operands_with f args results

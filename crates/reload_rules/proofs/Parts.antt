@@ -1,4 +1,4 @@
--- What stands in a function with its reloads and spills: copies, and the instructions that it had, over fresh registers.
+-- What is in a function with its reloads and spills: copies, and the instructions that it had, over fresh registers.
 use Rattle.std.proofs.Common.{◌≡◌, ℕ, suc, Bool, true, false, cond, ◌⊎◌, inl, inr, ⊎_elim, List, [], ◌∷◌, ◌++◌, length, refl, sym, ap, ◌∙◌, subst, append_assoc}
 use Rattle.std.specs.List.{All, Contains}
 use Rattle.std.specs.Prelude.{slice_index_or}
@@ -57,7 +57,7 @@ module _ (m : Mach) (s : ℕ → ℕ) (free top : ℕ) (formed : WellFormed m) (
       f (length next) i ++ zs ≡ reloads_for i next ++ (main_for i next ∷ (spills_for i next ++ zs))
   laid_out i next zs = append_assoc (reloads_for i next) (main_for i next ∷ spills_for i next) zs
 
-  -- ---- what stands where
+  -- ---- what is where
 
   pub data Part (j : Instr) (ys : List Instr) : Type 0 where
     part_reload : (i : Instr) (next : List Instr) (n : ℕ) (r : Reg) → Stands i next m.code → Operand i next n r →

@@ -1,4 +1,4 @@
--- A function whose registers stand where a colouring has slots for them, the others as they were.
+-- A function whose registers are where a colouring has slots for them, the others as they were.
 use Rattle.std.proofs.Common.{◌≡◌, ◌≢◌, ℕ, ◌<◌, ◌≤◌, Bool, true, false, ◌⊎◌, inl, inr, ⊎_elim, List, [], ◌∷◌, refl, sym, ap, ◌∙◌, subst}
 use Rattle.std.specs.List.{Contains}
 use Rattle.std.specs.Prelude.{◌||◌}
@@ -32,7 +32,7 @@ put_of place r = by (place r.number) refl
 
 module _ (m : Mach) (place : Colouring) (formed : WellFormed m) (well : WellPlaced m)
     (colouring : IsColouring (IsRegister m) (Joined m) place) where
-  -- one that is not open stands where the colouring has it
+  -- one that is not open is where the colouring has it
   place_same : (r : Reg) → IsRegister m r → to_slots place r ≢ loc.Unset → place r.number ≡ to_slots place r
   place_same r i ne = by (put_of place r)
     where

@@ -1,4 +1,4 @@
--- The text of a function with its reloads and spills: labels, handlers and tries stand where they did.
+-- The text of a function with its reloads and spills: labels, handlers and tries are where they were.
 use Rattle.std.proofs.Common.{◌≡◌, ℕ, suc, Bool, true, false, cond, List, [], ◌∷◌, ◌++◌, refl, ap, ◌∙◌, subst}
 use Rattle.std.proofs.lemmas.Bool.{false≢true}
 use Rattle.mach_ir.specs.Meaning.{has_label, is_handler_of}

@@ -26,7 +26,7 @@ pub record IsKept (m q : Mach) (asks : Bool) : Type 0 where
   pub seated : Seated m → Seated q
   pub colours_low : ColoursLow q
   pub no_addr : NoAddrLive m → NoAddrLive q
-  -- no operand or result of an operation other than a copy stands in a slot
+  -- no operand or result of an operation other than a copy is in a slot
   pub in_registers : any_needs q.code ≡ false
   -- at most a copy and a register for each operand and result of another instruction than a copy
   pub size : (s : Size) → HasSize m s → HasSize q (with_copies (other_operands m.code) s)

@@ -1,4 +1,4 @@
--- Mach functions in which what stands in slots is reloaded before it is read and spilled after it is
+-- Mach functions in which what is in slots is reloaded before it is read and spilled after it is
 -- written, but by copies.
 use Rattle.std.specs.Prelude.{◌≡◌, ℕ, suc, ◌<◌, ◌≤◌, Bool, true, false, cond, ◌&&◌, ◌||◌, not, List, [], ◌∷◌, ◌++◌}
 use Rattle.bs_words.specs.declared.types.Loc.{Loc}
@@ -25,7 +25,7 @@ abbrev pub is_copy : Op → Bool
 is_copy (op.Pure (pure.Copy kind)) = true
 is_copy _ = false
 
--- Whether the operands may not stand in slots: those of all operations but copies, and of tests. Other
+-- Whether the operands may not be in slots: those of all operations but copies, and of tests. Other
 -- marks have none.
 abbrev pub reads_registers : MachOp → Bool
 reads_registers (mach.Op f) = not (is_copy f)
@@ -134,7 +134,7 @@ slot_or own (loc.Slot k) = loc.Slot k
 slot_or own (loc.Machine n) = own
 slot_or own loc.Unset = own
 
--- Each register that the colouring puts into a slot stands there. The others stay as they are.
+-- Each register that the colouring puts into a slot is there. The others stay as they are.
 abbrev pub to_slots : Colouring → Placing
 to_slots place r = slot_or r.loc (place r.number)
 

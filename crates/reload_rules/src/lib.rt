@@ -1,4 +1,4 @@
-//! Mach functions in which what stands in slots is reloaded before it is read and spilled after it is
+//! Mach functions in which what is in slots is reloaded before it is read and spilled after it is
 //! written, which of a function reloading makes by a colouring, and what such a function keeps.
 //!
 //! A fresh register holds what its register holds, and only round the instruction for which it is made.

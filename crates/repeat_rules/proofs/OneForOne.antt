@@ -42,7 +42,7 @@ in_front (x ∷ xs) ys y c =
     ⊎_elim (λ e. subst (Contains (x ∷ (xs ++ ys))) e (first_in x (xs ++ ys)))
     (λ d. later_in x y (xs ++ ys) (in_front xs ys y d)) (in_cons x y xs c)
 
--- ---- what stands in code
+-- ---- what is in code
 
 pub in_code_stands : {r : Reg} (code : List Instr) → InCode r code →
     (j : Instr) × (zs : List Instr) × Stands j zs code × (Contains j.args r ⊎ Contains j.results r)

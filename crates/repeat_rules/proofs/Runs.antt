@@ -1,4 +1,4 @@
--- Straight runs: how the code before a place is taken apart, and that what stands within a run alone stands nowhere that control
+-- Straight runs: how the code before a place is taken apart, and that what is within a run alone is nowhere that control
 -- comes to from elsewhere.
 use Rattle.std.proofs.Common.{◌≡◌, ℕ, Bool, true, false, cond, List, [], ◌∷◌, ◌++◌, refl, sym, ap, ◌∙◌, subst, append_assoc}
 use Rattle.std.proofs.lemmas.List.{same_from_push}
@@ -15,7 +15,7 @@ use Rattle.bs_words.proofs.Lists.{head_same, tail_same, none_there}
 
 -- ---- the code before a place
 
--- one of a list is its last, or stands before that
+-- one of a list is its last, or is before that
 pub data Last (made : List Instr) (x : Instr) (others : List Instr) (j : Instr) (run : List Instr) : Type 0 where
   it_is : x ≡ j → Last made x others j run
   in_run : (ys : List Instr) → run ≡ ys ++ x ∷ [] → made ≡ others ++ j ∷ ys → Last made x others j run
@@ -65,7 +65,7 @@ label_crooked : (l : ℕ) (g : MachOp) → has_label l g ≡ true → is_straigh
 label_crooked l (mach.Op g) e = absurd (both_ways false refl e)
 label_crooked l (mach.Mark g) e = refl
 
--- the code after a label is nothing, or stands after the mark that has it
+-- the code after a label is nothing, or is after the mark that has it
 data Labelled (l : ℕ) (code : List Instr) : Type 0 where
   nowhere : after_label l code ≡ [] → Labelled l code
   marked : (i : Instr) → Ending (i ∷ after_label l code) code → has_label l i.op ≡ true → Labelled l code
@@ -81,7 +81,7 @@ labelled l (i ∷ is) = by (has_label l i.op) refl (labelled l is)
         marked j (subst (λ b. Ending (j ∷ cond b is (after_label l is)) (i ∷ is)) (sym e) (more s)) h
 
 module _ (m : Mach) (Stands : List Instr → Type 0) where
-  -- what stands within a run: not past what ends one, and neither at a handler nor where no code is left
+  -- what is within a run: not past what ends one, and neither at a handler nor where no code is left
   pub record IsWithin : Type 0 where
     pub nothing : Stands [] → ⊥
     pub past : (i : Instr) (next : List Instr) → Ending (i ∷ next) m.code → is_straight i.op ≡ false → Stands next → ⊥

@@ -1,5 +1,5 @@
 -- The copies that reloading has left before and after an instruction, over all rounds. In the copies for one operand each register but
--- the last stands in its slot, so only the last copy has words.
+-- the last is in its slot, so only the last copy has words.
 use Rattle.std.proofs.Common.{◌≡◌, ◌≢◌, ℕ, suc, ◌+◌, ◌*◌, ◌≤◌, Bool, true, false, cond, ◌&&◌, List, [], ◌∷◌, ◌++◌, length, map, refl, sym, ap, ◌∙◌, subst, arith}
 use Rattle.std.proofs.lemmas.Bool.{eq-eqb}
 use Rattle.bs_words.specs.declared.types.Loc.{Loc}
@@ -170,7 +170,7 @@ module _ (place : Placing) (sound : IsSound place) where
 
 -- ---- one more copy
 
--- a register that stands in the slot of its origin, in place of which there is another
+-- a register that is in the slot of its origin, in place of which there is another
 home_of : (l : Loc) (origin : ℕ) → is_in_slot l ≡ true → ((k : ℕ) → l ≡ loc.Slot k → k ≡ origin) → l ≡ loc.Slot origin
 home_of (loc.Slot k) origin e h = ap loc.Slot (h k refl)
 home_of (loc.Machine n) origin e h = cc

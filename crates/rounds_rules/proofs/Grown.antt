@@ -1,4 +1,4 @@
--- A function over the rounds: each copy of the first stands alone, and each other instruction among the copies for its operands and
+-- A function over the rounds: each copy of the first is alone, and each other instruction among the copies for its operands and
 -- results.
 use Rattle.std.proofs.Common.{◌≡◌, ℕ, suc, ◌+◌, ◌*◌, ◌≤◌, Bool, true, false, cond, not, ◌&&◌, nat_eq, List, [], ◌∷◌, ◌++◌, length, refl, sym, ap, ◌∙◌, subst, arith}
 use Rattle.std.proofs.lemmas.List.{length-map}
@@ -92,7 +92,7 @@ module _ (place : Placing) (sound : IsSound place) where
 
 -- ---- reloaded
 
--- each register of a code that stands in a slot stands in that of its origin
+-- each register of a code that is in a slot is in that of its origin
 pub data HomedCode : List Instr → Type 0 where
   no_code : HomedCode []
   homed_then : {i : Instr} {is : List Instr} → AreHomed i.args → AreHomed i.results → HomedCode is → HomedCode (i ∷ is)
@@ -328,7 +328,7 @@ copy_fits (mach.Op (op.Calling f)) e = cc
 copy_fits (mach.Op (op.Leaving f)) e = cc
 copy_fits (mach.Mark f) e = cc
 
--- what stands at each place of a code after some copies
+-- what is at each place of a code after some copies
 module _ (k : ℕ) where
   abbrev pub Shallow : List Instr → Type 0
   Shallow [] = Unit {0}

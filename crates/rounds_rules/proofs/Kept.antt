@@ -216,7 +216,7 @@ nothing_returned (i ∷ is) all = (return_results (All-head IsFormed i is all), 
 
 -- ---- rounds
 
--- what stands after so many rounds that each asked for another
+-- what is after so many rounds that each asked for another
 record Standing (first : Mach) (rounds : ℕ) (m : Mach) : Type 0 where
   keeps : Keeps first m
   formed : WellFormed m

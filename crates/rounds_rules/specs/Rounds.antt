@@ -22,7 +22,7 @@ pub record IsRound (fresh : ℕ) (m q : Mach) (asks : Bool) : Type 0 where
   pub graph : Graph
   pub of_function : IsGraph m graph
   pub colours : Colours
-  -- neighbours differ, and none stands in a slot for which a colour is left
+  -- neighbours differ, and none is in a slot for which a colour is left
   pub fine : ColoursGraph graph colours
   pub chosen : IsColouredBy fresh graph colours
   pub reloaded : IsReloadedBy m (place_in colours) q asks
@@ -38,7 +38,7 @@ abbrev pub most_rounds : ℕ
 most_rounds = 50
 
 -- How large a function is at most after all rounds: a round adds at most a copy and a register for each
--- operand or result, where it stands in a slot, and no copy asks for another.
+-- operand or result, where it is in a slot, and no copy asks for another.
 abbrev pub allocated_size : Size → Size
 allocated_size s = with_copies (most_rounds * s.operands) s
 
@@ -66,7 +66,7 @@ pub record IsKept (m q : Mach) : Type 0 where
   -- it does what the first does
   pub keeps : Keeps m q
   pub formed : WellFormed q
-  -- each register has a place, and joined ones stand apart
+  -- each register has a place, and joined ones are apart
   pub placed : FullyPlaced q
   pub seated : Seated m → Seated q
   -- of the copies that reloading makes for an operand only one has words

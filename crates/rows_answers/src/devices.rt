@@ -2,7 +2,7 @@
 //! the first number at which nothing changes.
 //!
 //! A row has the words of a command, with the most bytes of one read or write before them, a bar, and what the command
-//! reads (`rows_lines` has the form). For it stands a line with the status and how many bytes go to out, and with what goes
+//! reads (`rows_lines` has the form). For it comes a line with the status and how many bytes go to out, and with what goes
 //! to err; and then, where the words do not begin with `once`, one for each trial: which read fails, or which write of out
 //! or err fails or takes nothing, and what is answered then, or `as without`. The bytes that out holds after a trial are
 //! the front of what it holds without, or the line says that they are not.

@@ -1,4 +1,4 @@
-//! What is shown of the answers of `cmmc`, by the table that a row stands in.
+//! What is shown of the answers of `cmmc`, by the table that a row is in.
 #![tactic(auto)]
 
 pub mod devices;

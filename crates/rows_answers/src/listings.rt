@@ -2,7 +2,7 @@
 //!
 //! A row has the word of a stage, what of its text is shown, a bar, and a Cmm text, or `same` for the one before. Shown is
 //! the `whole` text; its `first` line; the instruction on `top`, which is the line after that; its lines without their
-//! address (`sizes`); how many different `slots` stand in it; or the instructions of one operation, as `alloc`.
+//! address (`sizes`); how many different `slots` are in it; or the instructions of one operation, as `alloc`.
 //! Instructions are shown with `_` for each register's name and `L_` for each label (`shown`).
 //!
 //! The answers were made by hand, from what the passes promise: names of registers (but the one that a descriptor names,

@@ -33,7 +33,7 @@ fn top_of(alloc: Global, text: &str) -> Result<Vec<u8>, AllocError> {
     Ok(top)
 }
 
-/// How many different slots stand in the text.
+/// How many different slots are in the text.
 fn slots_of(alloc: Global, text: &str) -> Result<Vec<u8>, AllocError> {
     let mut slots: Vec<&str> = Vec::new(alloc);
     for word in text.split(' ') {

@@ -1,6 +1,6 @@
 //! What the words of each line of standard input are: a command with all its values, or which mistake.
 //!
-//! Words stand between single spaces, so a word may be empty; a line with nothing has no word. The lines in `stdout` were not
+//! Words are between single spaces, so a word may be empty; a line with nothing has no word. The lines in `stdout` were not
 //! written by this program: a script wrote them from the grammar alone.
 #![tactic(auto)]
 

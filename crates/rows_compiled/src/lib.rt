@@ -1,4 +1,4 @@
-//! Texts that are compiled and run: what is shown of these, by the table that a row stands in.
+//! Texts that are compiled and run: what is shown of these, by the table that a row is in.
 #![tactic(auto)]
 
 pub mod compiled;

@@ -1,4 +1,4 @@
-//! From the pieces of a function to the forms in which they stand, and to its words.
+//! From the pieces of a function to the forms in which they are laid, and to its words.
 ghost use Rattle.std.specs.Prelude.{IsTrue};
 ghost use Rattle.layout_rules.specs.Conditions.{LeadsTo};
 ghost use Rattle.rv_isa.specs.Encoding.{InstrFits};
@@ -136,7 +136,7 @@ fn instr_fits(instr: Instr) -> bool
     }
 }
 
-/// Whether its numbers fit, and it leads to where an instruction may stand.
+/// Whether its numbers fit, and it leads to where an instruction may be.
 fn is_settled(piece: &Piece, to: u32) -> bool
     ensures { IsTrue result → PieceFits piece.now × LeadsTo to piece.now }
 {
@@ -160,7 +160,7 @@ fn is_settled(piece: &Piece, to: u32) -> bool
     }
 }
 
-/// Puts the words of a piece at an address, none where it cannot stand there.
+/// Puts the words of a piece at an address, none where it cannot be there.
 fn put_words_at(words: &mut Vec<u32>, piece: &Piece, form: Form, at: u64, to: u32) -> Result<()> {
     if is_settled(piece, to) && at % 4 == 0 && at < 0xFFFF_0000 {
         put_piece(words, piece, form, at, to)?;
@@ -168,7 +168,7 @@ fn put_words_at(words: &mut Vec<u32>, piece: &Piece, form: Form, at: u64, to: u3
     Ok(())
 }
 
-/// The words of pieces, whose first stands at this address.
+/// The words of pieces, whose first is at this address.
 fn words(
     alloc: Global,
     code: &[Piece],
@@ -187,7 +187,7 @@ fn words(
     Ok(words)
 }
 
-/// Puts the words of pieces, whose first stands at this address, in a line.
+/// Puts the words of pieces, whose first is at this address, in a line.
 pub(crate) fn put_code<W: Write>(
     alloc: Global,
     out: &mut W,
@@ -237,7 +237,7 @@ fn put_line<W: Write>(
     Ok(())
 }
 
-/// Puts a line for each piece but labels and fillings, where the first piece stands at this address.
+/// Puts a line for each piece but labels and fillings, where the first piece is at this address.
 pub(crate) fn put_forms<W: Write>(
     alloc: Global,
     out: &mut W,

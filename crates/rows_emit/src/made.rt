@@ -3,7 +3,7 @@
 //! The rows are functions: `lin SLOTS`, an instruction a line in the form that `rows_meanings` has too, and `end ENTRY`, the
 //! address of the function's first word. A symbol's name is its address in decimal digits, an external call's name its
 //! number. Shown are for each function its words, of which none are the program's: a script has written assembly for each
-//! line from the machine's rules, and GNU's assembler and linker have made words of it. The last 71 functions stand with
+//! line from the machine's rules, and GNU's assembler and linker have made words of it. The last 71 functions come with
 //! these words in the table `images` of `rows_commands` too, which runs them.
 ghost use Rattle.lin_ir.specs.Formed.{AreLocated};
 

@@ -1,4 +1,4 @@
-//! In which forms the pieces of functions made by hand stand, at which words, and what their words are.
+//! In which forms the pieces of functions made by hand are laid, at which words, and what their words are.
 //!
 //! A row is a piece: a label, a jump, a row of a table of jumps or a label's address, as `label 1` or `address a0 1`; a
 //! condition, two registers and a label, as `beq a0 a1 1`; `call 65536`, `tail 65536` and `symbol a0 65536`, which lead to
@@ -14,7 +14,7 @@ use rv_isa::{AluImmOp, Condition, Instr, Register};
 use rv_pieces::Piece;
 use std::alloc::Global;
 
-/// What stands between pieces that tell something.
+/// What is between pieces that tell something.
 const FILLING: Instr = Instr::OpImm {
     op: AluImmOp::Addi,
     rd: 0,

@@ -28,7 +28,7 @@ pub data ArePoints : ℕ → List Piece → Type 0 where
       → IsShort d
       → ArePoints (suc n) ((code ++ piece.Known j ∷ []) ++ piece.Descriptor d ∷ [])
 
--- pieces that may stand in an image of any file
+-- pieces that may be in an image of any file
 pub record CanStand (p : Pieces) : Type 0 where
   pub laid : (file : FileTree) → IsFunctionLaid file p
   pub few : weight_of p.code < 2 ^ 48

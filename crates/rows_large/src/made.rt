@@ -11,7 +11,7 @@ use std::alloc::{AllocError, Global};
 /// The most descriptors of a function, and the most entries of one.
 const MOST: u32 = 1 << 20;
 
-/// What stands before each descriptor.
+/// What is before each descriptor.
 const FILLING: Instr = Instr::OpImm {
     op: AluImmOp::Addi,
     rd: 0,

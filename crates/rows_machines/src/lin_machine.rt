@@ -130,7 +130,7 @@ pub struct Machine<'a, 'b> {
     function: &'b Lin,
     /// What each frame point names, in the order of the text.
     named: &'b [Vec<Loc>],
-    /// What stands round it.
+    /// What is round it.
     pub world: World<'a>,
     locations: Locations,
     place: usize,
@@ -178,7 +178,7 @@ impl<'a, 'b> Machine<'a, 'b> {
         Ok(Some(values))
     }
 
-    /// What the frame point at this place names: how many frame points stand before it shows which.
+    /// What the frame point at this place names: how many frame points are before it shows which.
     fn named_here(&self) -> &'b [Loc] {
         let mut before: usize = 0;
         for (place, line) in self.function.code.as_slice().iter().enumerate() {

@@ -314,7 +314,7 @@ fn live_of(alloc: Global, function: &Mach, number: u32) -> Result<Live, AllocErr
 #[derive(Drop)]
 pub struct Machine<'a, 'b> {
     function: &'b Mach,
-    /// What stands round it.
+    /// What is round it.
     pub world: World<'a>,
     registers: Registers,
     /// Every register of the function, and the places at which it is live.

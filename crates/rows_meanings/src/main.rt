@@ -1,7 +1,7 @@
 //! How functions of Mach and of Linear that are made by hand run, by a second reading of what these languages mean.
 //!
 //! `stdin` begins with a Cmm text, in one line, whose functions are called and whose symbols are named. Then come
-//! functions: `mach NAME PARAMETERS`, with `; COLOURS` where registers stand at places that operations destroy, or
+//! functions: `mach NAME PARAMETERS`, with `; COLOURS` where registers are at places that operations destroy, or
 //! `lin NAME PARAMETERS`, an instruction a line, and a line for each run: `run ARGUMENTS`, then after bars what each call
 //! does, as `gives 5` or `raises 7`. A frame point of Linear is followed by a line `names LOCATIONS`. What is printed of
 //! each run, its calls, its end and its units, was written by hand from the rules.

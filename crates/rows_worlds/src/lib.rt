@@ -1,4 +1,4 @@
-//! What stands round a function of Mach or of Linear as it runs: the memory, which parts of new blocks are written, the
+//! What is round a function of Mach or of Linear as it runs: the memory, which parts of new blocks are written, the
 //! pushed tries, and what calls do; and what an operation of both languages does to it.
 //!
 //! This is a second reading of what these languages mean, by a machine that changes, for the rows alone.

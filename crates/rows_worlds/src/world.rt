@@ -19,7 +19,7 @@ struct Part {
     word: u64,
 }
 
-/// What stands round a function as it runs.
+/// What is round a function as it runs.
 #[derive(Drop)]
 pub struct World<'a> {
     /// Where memory comes from.
@@ -46,7 +46,7 @@ pub struct World<'a> {
 const STUCK: Next = Next::Over(End::Stuck);
 
 impl<'a> World<'a> {
-    /// What stands round a run, where the text's data has no fault and its items have numbers.
+    /// What is round a run, where the text's data has no fault and its items have numbers.
     pub fn of(
         alloc: Global,
         file: &'a File,

@@ -22,7 +22,7 @@ fn is_word_32(word: u64) -> bool
     word < 0x8000_0000 || 0xFFFF_FFFF_8000_0000 <= word
 }
 
-/// What stands above the lowest 12 bits, rounded.
+/// What is above the lowest 12 bits, rounded.
 pub fn above_12(word: u64) -> u64
     ensures { result ≡ above_12 word }
 {

@@ -56,7 +56,7 @@ impl Output {
         self.addi(Register::Sp, Register::Sp, 16)
     }
 
-    /// The entry of a handler: the raised value stands in a0.
+    /// The entry of a handler: the raised value is in a0.
     pub fn enter_part(&mut self, traps: u32, results: &[Spot]) -> Result<(), AllocError>
         ensures { IfOk result (λ _. Adds self.old self.new (enter_part traps results.now)) }
     {

@@ -58,7 +58,7 @@ no_zeros : decoded 0 ≡ None
 unfolding decoded
 no_zeros = refl
 
--- ---- branches and jumps: where the bits of the offset stand
+-- ---- branches and jumps: where the bits of the offset are
 
 -- beq a0, a1, -4
 back_by_one : decoded 0xFEB50EE3 ≡ Some (Branch Beq 10 11 0x1FFC)

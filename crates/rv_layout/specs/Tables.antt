@@ -16,7 +16,7 @@ abbrev pub or_else : Option ℕ → Option ℕ → Option ℕ
 or_else None later = later
 or_else (Some place) later = Some place
 
--- the table with the place of a label that stands here, where it had none
+-- the table with the place of a label that is here, where it had none
 abbrev pub noted : List (Option ℕ) → Piece → (at : ℕ) → List (Option ℕ)
 noted places (Label l) at = slice_set places l (or_else (place_in places l) (Some at))
 noted places _ at = places
@@ -29,7 +29,7 @@ places_of table l = place_or_entry (place_in table.places.items l)
 pub record IsTableOf (ps : List Piece) (forms : List Form) (table : Labels) : Type 0 where
   pub each : (l : ℕ) → place_in table.places.items l ≡ label_from l 0 ps forms
 
--- a label that stands here is below this number
+-- a label that is here is below this number
 abbrev pub LabelBelow : ℕ → Piece → Type 0
 LabelBelow bound (Label l) = l < bound
 LabelBelow bound _ = ⊤

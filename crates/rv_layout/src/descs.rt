@@ -13,7 +13,7 @@ use lin_ir::Descr;
 use rv_pieces::Piece;
 use std::alloc::{AllocError, Global};
 
-/// The row of a descriptor whose mark stands at this word of the code: there the call returns.
+/// The row of a descriptor whose mark is at this word of the code: there the call returns.
 fn row(alloc: Global, descr: &Descr, at: u64) -> Result<DescRow, AllocError>
     requires { 4 * at < 2 ^ 32 }
     ensures { IfOk result (λ row. desc row ≡ desc_at at descr.now) }
@@ -26,7 +26,7 @@ fn row(alloc: Global, descr: &Descr, at: u64) -> Result<DescRow, AllocError>
     })
 }
 
-/// Puts the row of a descriptor that stands here, if one does.
+/// Puts the row of a descriptor that is here, if one is.
 fn put_desc(
     alloc: Global,
     rows: &mut Vec<DescRow>,
@@ -43,7 +43,7 @@ fn put_desc(
     Ok(())
 }
 
-/// Puts the rows of the descriptors among pieces, the first of which stands at this word of the code.
+/// Puts the rows of the descriptors among pieces, the first of which is at this word of the code.
 #[tactic(auto, using(crate::proofs::Steps::descs_step))]
 pub fn put_descs(
     alloc: Global,

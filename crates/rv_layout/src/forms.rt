@@ -1,4 +1,4 @@
-//! The forms in which the pieces of a function stand.
+//! The forms in which the pieces of a function are laid.
 ghost use Rattle.std.specs.Prelude.{◌≡◌, ◌*◌, ◌<◌, ◌≤◌, ◌^◌, length, IfOk};
 ghost use Rattle.layout_rules.specs.Forms.{branch_words, jump_words, words_of, branch_reaches, jal_reaches};
 ghost use Rattle.layout_rules.specs.Forms.{branch_form, jump_form, needed, rank, ranks, place_of, longer, grown_from};

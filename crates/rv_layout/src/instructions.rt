@@ -188,7 +188,7 @@ fn address_into(
     put(words, add(register, bytes))
 }
 
-/// Where a branch stands and where it leads.
+/// Where a branch is and where it leads.
 #[derive(Clone, Copy)]
 struct Ends {
     at: u64,
@@ -238,7 +238,7 @@ fn jump(words: &mut Vec<u32>, form: Form, at: u64, to: u64) -> Result<(), AllocE
     }
 }
 
-/// Puts the words of a piece that stands at an address, in its form. `to` is what its name stands for:
+/// Puts the words of a piece that is at an address, in its form. `to` is what its name stands for:
 /// an address, or the number of an external call.
 pub fn put_piece(
     words: &mut Vec<u32>,

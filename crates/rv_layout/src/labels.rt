@@ -14,7 +14,7 @@ pub struct Labels {
     places: Vec<Option<u64>>,
 }
 
-/// A number above that of the label that stands here, if one does.
+/// A number above that of the label that is here, if one is.
 fn bound_of(piece: &Piece) -> usize
     ensures { (bound : ℕ) → result ≤ bound → LabelBelow bound piece.now }
 {
@@ -33,7 +33,7 @@ fn bound_of(piece: &Piece) -> usize
     }
 }
 
-/// A number above those of all labels that stand among the pieces.
+/// A number above those of all labels that are among the pieces.
 pub fn label_bound(code: &[Piece]) -> usize
     ensures { LabelsBelow result code.now }
 {
@@ -45,7 +45,7 @@ pub fn label_bound(code: &[Piece]) -> usize
 }
 
 impl Labels {
-    /// The labels of pieces that stand in these forms. `bound` is above their numbers.
+    /// The labels of pieces that are in these forms. `bound` is above their numbers.
     pub fn of(
         alloc: Global,
         code: &[Piece],
@@ -66,7 +66,7 @@ impl Labels {
         Ok(Labels { places })
     }
 
-    /// The words before a label. One that does not stand counts as standing at the entry.
+    /// The words before a label. One that occurs nowhere counts as being at the entry.
     pub fn place(&self, label: Label) -> u64
         ensures { result ≡ places_of self.now label }
     {
@@ -77,7 +77,7 @@ impl Labels {
     }
 }
 
-/// Notes the place of a label that stands here, where it has none yet.
+/// Notes the place of a label that is here, where it has none yet.
 fn note(places: &mut Vec<Option<u64>>, piece: &Piece, at: u64)
     requires { LabelBelow (length places.old.items) piece.now }
     ensures { places.new.items ≡ noted places.old.items piece.now at }

@@ -72,7 +72,7 @@ frames_from (suc most) descs base memory first address at =
 abbrev pub most_frames : ℕ → ℕ
 most_frames base = suc ((stack_end - base) / 16)
 
--- the frames of a machine that stands at a service: the innermost one returns after the ECALL
+-- the frames of a machine that is at a service: the innermost one returns after the ECALL
 unfoldable pub frames : Hart → Option (List Frame)
 frames h =
     frames_from (most_frames h.stack_base) h.image.descs h.stack_base h.memory true (h.pc + 4)

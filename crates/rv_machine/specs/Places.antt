@@ -1,4 +1,4 @@
--- Where things lie in the machine's memory, and what stands in memory that holds nothing.
+-- Where things lie in the machine's memory, and what is in memory that holds nothing.
 use Rattle.std.specs.Prelude.{ℕ, ◌+◌, ◌*◌}
 pub use Rattle.bs_words.specs.Fits.{data_start}
 use Rattle.rv_machine.specs.Observation.{young_start, young_top}
@@ -11,7 +11,7 @@ domain_start = 0x20000000
 abbrev pub half_start : ℕ → ℕ
 half_start k = 0x30000000 + 0x04000000 * k
 
--- the bottom of the stack, where a trap frame stands that no program pushed
+-- the bottom of the stack, where a trap frame lies that no program pushed
 abbrev pub stack_bottom : ℕ
 stack_bottom = 0x3FFFFFF0
 
@@ -26,7 +26,7 @@ limit_at_rest = young_start
 abbrev pub limit_asked : ℕ
 limit_asked = young_top
 
--- what stands in memory that holds nothing, and what an external call leaves in the registers that it
+-- what is in memory that holds nothing, and what an external call leaves in the registers that it
 -- destroys
 abbrev pub filler : ℕ
 filler = 0x5A5A5A5A5A5A5A5A

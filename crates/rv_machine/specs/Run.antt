@@ -55,7 +55,7 @@ after schedule zero now = now
 after schedule (suc n) (Going m) = after schedule n (one schedule m)
 after schedule (suc n) (Over calls end) = Over calls end
 
--- What is reported of a run: the external calls so far, first to last, and how it stands.
+-- What is reported of a run: the external calls so far, first to last, and whether it goes on or how it ended.
 pub record Seen : Type 0 where
   pub calls : List Made
   pub end : End

@@ -17,7 +17,7 @@ use Rattle.rv_machine.specs.Relocation.{Serviced, Goes, NoHeap, Refused}
 use Rattle.rv_machine.specs.declared.cause.Cause.{Cause}
 use Rattle.rv_machine.specs.declared.cause.Cause.TheVariants.{BadFrame, BadService}
 
--- How a run of the machine stands.
+-- Whether a run of the machine goes on, or how it ended.
 pub data End : Type 0 where
   Running : End
   Returned : (value : Option Obs) → End

@@ -35,7 +35,7 @@ padded zero args = []
 padded (suc count) [] = 0 ∷ padded count []
 padded (suc count) (a ∷ args) = a ∷ padded count args
 
--- x0 to x31: ra is the stub's address, sp and s1 are the stack's bottom, the arguments stand in a0 to a7
+-- x0 to x31: ra is the stub's address, sp and s1 are the stack's bottom, the arguments are in a0 to a7
 -- and s2 to s9, s10 is the young area's top and s11 the domain page; the others are 0
 abbrev pub start_registers : List ℕ → List ℕ
 start_registers args =

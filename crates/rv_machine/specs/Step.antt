@@ -46,7 +46,7 @@ abbrev pub registers_after : Option ℕ → List ℕ → List ℕ
 registers_after None registers = filled destroyed registers
 registers_after (Some answer) registers = with_register a0 answer (filled destroyed registers)
 
--- a machine that stands before a service is at a word of its code
+-- a machine that is before a service is at a word of its code
 abbrev pub IsNear : StepEnd → Hart → Type 0
 IsNear Service h = h.pc < 2 ^ 32
 IsNear Retired h = Unit {0}

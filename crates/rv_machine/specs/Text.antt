@@ -51,6 +51,6 @@ end_text StackOut = codes "stack out"
 end_text HeapOut = codes "heap out"
 end_text (Stopped cause) = codes "stopped " ++ cause_text cause
 
--- a line for each external call that was answered, and one for how the run stands
+-- a line for each external call that was answered, and one for whether the run goes on or how it ended
 abbrev pub outcome_text : Seen → List ℕ
 outcome_text seen = calls_text seen.calls ++ end_text seen.end ++ codes "\n"

@@ -15,6 +15,6 @@ pub enum Cause {
     BadRequest,
     /// A stack that does not read as frames.
     BadFrame,
-    /// A root that holds neither a block nor a word that may stand there.
+    /// A root that holds neither a block nor a word that may be there.
     BadRoot,
 }

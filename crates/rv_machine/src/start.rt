@@ -22,9 +22,9 @@ pub const YOUNG_START: u64 = 0x3800_0000;
 
 /// The address right after the young area, where its first block ends.
 pub const YOUNG_TOP: u64 = 0x3801_0000;
-/// The bottom of the stack, where a trap frame stands that no program pushed.
+/// The bottom of the stack, where a trap frame lies that no program pushed.
 pub const STACK_BOTTOM: u64 = 0x3FFF_FFF0;
-/// What stands in memory that holds nothing, and in destroyed registers.
+/// What is in memory that holds nothing, and in destroyed registers.
 pub const FILLER: u64 = 0x5A5A_5A5A_5A5A_5A5A;
 
 /// A region of so many words that are all the same.

@@ -6,7 +6,7 @@ use crate::cause::Cause;
 pub enum StepEnd {
     /// The instruction has retired.
     Retired,
-    /// The instruction is an ECALL, and the machine stands before its service.
+    /// The instruction is an ECALL, and the machine is before its service.
     Service,
     /// The instruction would set the stack pointer below the stack's base.
     StackOut,

@@ -34,7 +34,7 @@ function_accepted text file is f c =
 pub front_selects : (text : List ℕ) (file : FileTree) → IsFileOf text file → (f : FunctionTree) → Contains (functions file) f → Selects f (selected f)
 front_selects text file is f c = promised (definitions file) f (function_accepted text file is f c)
 
--- And what stands round its functions is as the promise wants it.
+-- And what is round its functions is as the promise wants it.
 pub front_setting : (text : List ℕ) (file : FileTree) → IsFileOf text file → (s : Setting) → s.end ≡ data_end file → s.symbol ≡ value_of_symbol file →
     IsSetting s
 front_setting text file is s end symbol =

@@ -32,7 +32,7 @@ needs_right (select.ConstantRight i) = false
 needs_right (select.PowerRight k) = false
 needs_right _ = true
 
--- whether the right operand of a bound test stands in a register
+-- whether the right operand of a bound test is in a register
 abbrev pub is_register : Right → Bool
 is_register right.Register = true
 is_register (right.Constant w) = false

@@ -122,7 +122,7 @@ impl Backwards {
         self.on_rows(op, &all, &results)
     }
 
-    /// The call of a function whose arguments stand in their seats.
+    /// The call of a function whose arguments are in their seats.
     pub fn call(&mut self, call: Call, callee: &Expr, args: &Regs) -> Result<(), AllocError>
         ensures { OnOk result (self.new ≡ call_of call.tail call.valued call.written
             (symbol_of (expr_view callee.now)) call.register args.now call.given
@@ -135,7 +135,7 @@ impl Backwards {
         }
     }
 
-    /// An external call whose arguments stand in their seats.
+    /// An external call whose arguments are in their seats.
     pub fn external(
         &mut self,
         name: &Name,

@@ -150,7 +150,7 @@ impl Backwards {
         }
     }
 
-    /// The operator whose operands stand so, the left one in `x` and the right one in `y`.
+    /// The operator whose operands are so, the left one in `x` and the right one in `y`.
     pub fn operator_code(
         &mut self,
         shape: Shape,
@@ -180,7 +180,7 @@ impl Backwards {
         self.mark(Mark::If { test, otherwise }, args, &[])
     }
 
-    /// The test of an `if` whose operands stand so.
+    /// The test of an `if` whose operands are so.
     pub fn branch(
         &mut self,
         shape: Shape,
@@ -268,7 +268,7 @@ impl Backwards {
         self.operation(Op::Access(Access::Alloc(blocks)), &[], &[to])
     }
 
-    /// A bound test: its right operand is a constant, or stands in `index`.
+    /// A bound test: its right operand is a constant, or is in `index`.
     pub fn checkbound(&mut self, right: Right, bound: Reg, index: Reg) -> Result<(), AllocError>
         ensures { OnOk result (self.new ≡ emit.checkbound right bound index ∷ self.old) }
     {

@@ -1,4 +1,4 @@
-//! Where the operands of an operator stand, and what the machine has for a constant.
+//! Where the operands of an operator are, and what the machine has for a constant.
 ghost use Rattle.std.specs.Prelude.{◌≡◌, ◌+◌, ◌^◌, ◌≤◌, option_map};
 ghost use Rattle.cmm_tree.specs.View.{expr_view};
 ghost use Rattle.mach_ir.specs.Forms.{is_immediate, is_immediate_12, is_opposite_immediate_12};
@@ -19,7 +19,7 @@ pub struct Immediate {
     pub word: u64,
 }
 
-/// Where the operands of an operator stand: in registers both, or one of them is a constant that needs none.
+/// Where the operands of an operator are: in registers both, or one of them is a constant that needs none.
 #[derive(Clone, Copy)]
 pub enum Shape {
     InRegisters,
@@ -243,7 +243,7 @@ fn power_shape(exponent: Option<u32>) -> Shape
     }
 }
 
-/// Where the operands of the operator stand.
+/// Where the operands of the operator are.
 pub fn shape_of(op: IntOp, left: &Expr, right: &Expr) -> Shape
     ensures { shape_view result ≡ shape_of op (expr_view left.now) (expr_view right.now) }
 {
@@ -332,7 +332,7 @@ pub fn right_of_bound(index: &Expr) -> Right
     }
 }
 
-/// Whether the right operand of a bound test stands in a register.
+/// Whether the right operand of a bound test is in a register.
 pub fn is_register(right: Right) -> bool
     ensures { result ≡ is_register right }
 {

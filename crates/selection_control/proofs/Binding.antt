@@ -139,7 +139,7 @@ let-code s s1 s2 node at first base bs body place old mid new bound left type on
     ∙ ap (λ k. code k (k + width_bound (bindings_of bs)) node.ty) one
     ∙ ap (code (suc p.base) (suc p.base + width_bound (bindings_of bs))) type
 
--- the body stands in the scope of all of the names
+-- the body is in the scope of all of the names
 pub body-typed : (s s1 : Visible) (first : ℕ) (bs : List Binding) (body : Expr)
     → s1 ≡ record s { names = env_after s.names first (bindings_of bs) }
     → IsAnnotated (with_bindings (names_in s) (bindings_of bs)) body

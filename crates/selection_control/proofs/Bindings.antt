@@ -25,7 +25,7 @@ grown : {A : Type 0} (front : List A) (x : A) (rest : List A) → front ++ x ∷
 grown [] x rest = refl
 grown (y ∷ front) x rest = ap (λ l. y ∷ l) (grown front x rest)
 
--- parameters stand before the names that were there
+-- parameters are before the names that were there
 pub params-front : (ps : List Parameter) (rs : List Reg) (env : List Named) → (front : List Named) × (with_params ps rs env ≡ front ++ env)
 params-front [] rs env = ([], refl)
 params-front (p ∷ ps) [] env = ([], refl)

@@ -247,7 +247,7 @@ pub fn catch<F: Fn(&mut Scope, &mut Backwards, Place, &Expr) -> Result<(), Alloc
     code.bare(Mark::Catch)
 }
 
-/// What handles a raise: the raised value has this name, and stands in this register.
+/// What handles a raise: the raised value has this name, and is in this register.
 fn raised<F: Fn(&mut Scope, &mut Backwards, Place, &Expr) -> Result<(), AllocError>>(
     below: &Below<'_, F>,
     scope: &mut Scope,

@@ -18,7 +18,7 @@ use Rattle.selection_rules.proofs.Parts.{ending_in}
 use Rattle.selection_laws.specs.Fits.{FunctionFits}
 use Rattle.selection_laws.proofs.Nested.{kept_of, selected_kept}
 
--- where an instruction stands
+-- where an instruction is
 record Somewhere (i : Instr) (code : List Instr) : Type 0 where
   next : List Instr
   there : Stands i next code

@@ -1,4 +1,4 @@
--- Each instruction of selected code has a form of Mach, and its operands and results stand where the conventions put them.
+-- Each instruction of selected code has a form of Mach, and its operands and results are where the conventions put them.
 use Rattle.std.proofs.Common.{◌≡◌, ℕ, zero, suc, ◌+◌, ◌/◌, ◌<◌, ◌≤◌, Bool, true, false, cond, nat_le, leb-true, List, [], ◌∷◌, ◌++◌, length, drop, Option, Some, None, refl, sym, ap, ◌∙◌, subst, arith}
 use Rattle.std.specs.Prelude.{◌≢◌, ◌==◌, nat_lt, nat_eq, ◌^◌, slice_index_or}
 use Rattle.std.proofs.Math.Seq.{drop-cons}
@@ -143,7 +143,7 @@ left_suits : (f : IntOp) (e : Expression) → Suits (left_immediate f e)
 left_suits f (Integer at w) = commuted_suits (commuted f) w
 left_suits f e = no_immediate
 
--- the components of the operands of an operator, where they stand by its shape
+-- the components of the operands of an operator, where they are by its shape
 record ShapeForm (s : Shape) (f : IntOp) (x y : Reg) : Type 0 where
   left : Comp
   rest : List Comp

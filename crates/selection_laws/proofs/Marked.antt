@@ -1,4 +1,4 @@
--- Each label of selected code stands once, and is below the number of its labels. A parameter is made from no other
+-- Each label of selected code occurs once, and is below the number of its labels. A parameter is made from no other
 -- register, and no two have one number.
 use Rattle.std.proofs.Common.{◌≡◌, ℕ, suc, ◌+◌, ◌<◌, ◌≤◌, ◌⊎◌, inl, inr, List, [], ◌∷◌, ◌++◌, All, AllPairs, refl, sym, ◌∙◌, subst, arith}
 use Rattle.std.specs.Prelude.{◌≢◌, nat_eq, length}
@@ -63,7 +63,7 @@ once (cons {i = i} {is = is} apart rest) = subst (AllPairs (λ k l. k ≢ l)) (s
     by marks_none others = others
     by (marks_one {l = k} same) others = AllPairs-cons (λ k l. k ≢ l) k (labels_in is) (unmarked (apart k (same k ∙ eq-eqb k k refl))) others
 
--- Each label stands once.
+-- Each label occurs once.
 pub selected_labels_once : (f : FunctionTree) → AllPairs (λ k l. k ≢ l) (labels_in (selected f).code)
 selected_labels_once f = once (selected_once f)
 

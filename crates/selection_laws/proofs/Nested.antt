@@ -1,4 +1,4 @@
--- Labels of selected code stand where control comes to them, and its tries nest.
+-- Labels of selected code are where control comes to them, and its tries nest.
 use Rattle.std.proofs.Common.{◌≡◌, ℕ, zero, suc, ◌+◌, ◌<◌, ◌≤◌, length, Bool, true, false, not, cond, ◌⊎◌, inl, inr, List, [], ◌∷◌, ◌++◌, map, Option, Some, None, refl, sym, ap, ◌∙◌, subst, arith}
 use Rattle.std.specs.Prelude.{Contains, nat_eq}
 use Rattle.std.proofs.lemmas.Bool.{true≢false, eq-eqb, cases_lt}
@@ -40,7 +40,7 @@ use Rattle.selection_rules.proofs.Once.{Range}
 use Rattle.selection_laws.specs.Fits.{HasCase, Fits, RowFits, BindingsFit, CasesFit, HandlersFit, FunctionFits}
 use Rattle.selection_rules.proofs.Choices.{kept_when, kept_unless, kept_constant, kept_left, kept_right, kept_if, kept_ordered}
 
--- the mark of a label stands in a code, and these tries stand round the place after it
+-- the mark of a label is in a code, and these tries are round the place after it
 pub record Found (l : ℕ) (ts : List ℕ) (code : List Instr) : Type 0 where
   pub at : Instr
   pub rest : List Instr
@@ -48,7 +48,7 @@ pub record Found (l : ℕ) (ts : List ℕ) (code : List Instr) : Type 0 where
   pub has : has_label l at.op ≡ true
   pub tries : tries_at rest ≡ ts
 
--- a handler stands in a code, within these tries
+-- a handler is in a code, within these tries
 pub record Handled (l : ℕ) (ts : List ℕ) (code : List Instr) : Type 0 where
   pub at : Instr
   pub rest : List Instr
@@ -59,7 +59,7 @@ pub record Handled (l : ℕ) (ts : List ℕ) (code : List Instr) : Type 0 where
 pub found_in : {l : ℕ} {ts : List ℕ} {a b : List Instr} → Ending a b → Found l ts a → Found l ts b
 found_in e f = record { at = f.at; rest = f.rest; there = ending_in f.there e; has = f.has; tries = f.tries }
 
--- the handler of each of these tries stands in a code
+-- the handler of each of these tries is in a code
 pub data Caught (code : List Instr) : List ℕ → Type 0 where
   uncaught : Caught code []
   caught : {l : ℕ} {ts : List ℕ} → Handled l ts code → Caught code ts → Caught code (l ∷ ts)
@@ -67,14 +67,14 @@ pub data Caught (code : List Instr) : List ℕ → Type 0 where
 caught_handler : {code : List Instr} {l : ℕ} {ts : List ℕ} → Caught code (l ∷ ts) → Handled l ts code
 caught_handler (caught h c) = h
 
--- the case that a switch takes to a label stands in a code
+-- the case that a switch takes to a label is in a code
 pub record Taken (l : ℕ) (labels : List ℕ) (ts : List ℕ) (code : List Instr) : Type 0 where
   pub end : ℕ
   pub rest : List Instr
   pub there : Ending (bare (mark.Case (indexes_of l 0 labels) l end) ∷ rest) code
   pub tries : tries_at rest ≡ ts
 
--- a switch stands in a code that takes these indexes to a label
+-- a switch is in a code that takes these indexes to a label
 pub record Chosen (l : ℕ) (indexes : List ℕ) (code : List Instr) : Type 0 where
   pub labels : List ℕ
   pub index : Reg
@@ -238,7 +238,7 @@ module _ (whole : List Instr) where
 
   -- ---- labels
 
-  -- the label of a handler in scope stands in the code
+  -- the label of a handler in scope is in the code
   data FoundOne (ts : List ℕ) : Option Label → Type 0 where
     no_label : FoundOne ts None
     a_label : {t : Label} → Found t.number (drop_tries t.tries ts) whole → t.tries ≤ length ts → FoundOne ts (Some t)
@@ -296,7 +296,7 @@ module _ (whole : List Instr) where
             taken = λ indexes n stop e. absurd (true≢false (sym (ap is_choice e)));
           }
 
-  -- what a part of an expression needs where it stands
+  -- what a part of an expression needs where it is
   pub record Surrounds (ts : List ℕ) (labels : List Label) (tail : Bool) : Type 0 where
     pub catches : Caught whole ts
     pub found : AllFound ts labels
@@ -490,7 +490,7 @@ module _ (whole : List Instr) where
           subst (λ ls. Taken k ls (tries_at next) next) (same_labels others is) (subst (λ z. Taken k all_labels z next) (sym e) (marks k (one_of all_labels k (subst (λ ls. Contains ls k) (sym (same_labels others is)) in_others)))))
           (λ indexes l stop is. absurd (no_case indexes l stop is))
 
-  -- the handlers of a catch stand in the code
+  -- the handlers of a catch are in the code
   found_own : {ts : List ℕ} (env : List Named) (labels : List Label) (valued tail : Bool) (d : Reg) (end l b : ℕ) (hs : Handlers) (next : List Instr) → tries_at next ≡ ts → Ending (select_handlers env labels valued tail d end l b hs next) whole →
       AllFound ts (labels_from l hs)
   found_own env labels valued tail d end l b NoHandler next e ends = nil

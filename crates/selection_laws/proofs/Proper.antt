@@ -263,7 +263,7 @@ selected_bounded f fits = all_bounded (selected_proper f fits)
     all_bounded none = tt
     all_bounded (one x xs) = (formed_bounded x.formed, all_bounded xs)
 
--- Parameters, operands and results stand where the conventions put them.
+-- Parameters, operands and results are where the conventions put them.
 pub selected_seated : (f : FunctionTree) → FunctionFits f → Seated (selected f)
 selected_seated f fits =
     let all = selected_proper f fits in

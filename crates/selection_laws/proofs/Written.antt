@@ -80,7 +80,7 @@ killed_colour n rs Nothing results i = elim i [ ]
 killed_colour n rs Temporaries results i = killed_in n rs Temporaries results i
 killed_colour n rs Everything results i = killed_in n rs Everything results i
 
--- ---- what is read stands in the code
+-- ---- what is read is in the code
 
 reg_among : {n : ℕ} (rs : List Reg) → Among n rs → (r : Reg) × Contains rs r × (r.number ≡ n)
 reg_among [] i = elim i [ ]
@@ -88,7 +88,7 @@ reg_among (r ∷ rs) (first e) = (r, contains_head r rs, e)
 reg_among (r ∷ rs) (later i) = let x = reg_among rs i in (x.0, contains_tail r rs x.0 x.1, x.2)
 
 module _ (c : Place) (m : Mach) where
-  -- What this rests on: only parameters are live at the entry, and no register of a colour stands in the code.
+  -- What this rests on: only parameters are live at the entry, and no register of a colour is in the code.
   pub record Assigned : Type 0 where
     pub steady : Steady c m
     pub entry : (n : ℕ) → Live m n m.code → Among n m.params

@@ -75,7 +75,7 @@ fn call_numbers(row: u32, len: usize) -> CallNumbers
     }
 }
 
-/// The call of a function whose operands stand in their registers.
+/// The call of a function whose operands are in their registers.
 fn put_call(
     scope: &Scope,
     code: &mut Backwards,
@@ -155,7 +155,7 @@ pub fn app<F: Fn(&mut Scope, &mut Backwards, Place, &Expr) -> Result<(), AllocEr
     waiting(below, scope, code, row, inner, arguments)
 }
 
-/// An external call whose arguments stand in their seats.
+/// An external call whose arguments are in their seats.
 fn call_outside(
     scope: &Scope,
     code: &mut Backwards,
@@ -181,7 +181,7 @@ fn call_outside(
     )
 }
 
-/// An external call whose arguments stand in their registers.
+/// An external call whose arguments are in their registers.
 fn put_external(
     scope: &Scope,
     code: &mut Backwards,
@@ -237,7 +237,7 @@ pub fn extcall<F: Fn(&mut Scope, &mut Backwards, Place, &Expr) -> Result<(), All
     waiting(below, scope, code, row, base, arguments)
 }
 
-/// An exit to a handler, whose arguments stand in their registers.
+/// An exit to a handler, whose arguments are in their registers.
 fn put_exit(
     scope: &Scope,
     code: &mut Backwards,

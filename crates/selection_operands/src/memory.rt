@@ -25,7 +25,7 @@ use selection_scope::seats::regs_of;
 use selection_scope::width::behind;
 use std::alloc::AllocError;
 
-/// The header of a block stands 8 bytes before it.
+/// The header of a block is 8 bytes before it.
 const HEADER_OFFSET: u64 = 0xFFFF_FFFF_FFFF_FFF8;
 
 /// The address of an access: an expression, and bytes after it.
@@ -188,7 +188,7 @@ fn chunk_of_cells(header: u64) -> Chunk
     }
 }
 
-/// The cells of a new block, whose values stand in the registers from this number on.
+/// The cells of a new block, whose values are in the registers from this number on.
 fn put_cells(
     scope: &Scope,
     code: &mut Backwards,

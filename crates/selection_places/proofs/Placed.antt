@@ -18,7 +18,7 @@ use Rattle.selection_places.proofs.Soon.{found, contains_of, live_soon, soon_in,
 use Rattle.selection_places.proofs.Whole.{Whole, whole_block, others_block, params_of, HasRole, has, has_role, member_of, selected_coded, selected_numbers}
 use Rattle.mach_laws.specs.Expand.{all}
 
--- ---- where registers stand
+-- ---- where registers are
 
 pub plain_open : (f : FunctionTree) (r : Reg) → Whole f Plain r → r.loc ≡ loc.Unset
 plain_open f r i = (whole_block f).place Plain r i
@@ -31,7 +31,7 @@ stands f r (has Plain i) = inl (plain_open f r i)
 stands f r (has New i) = inl (new_open f r i)
 stands f r (has Seated i) = (whole_block f).place Seated r i
 
--- A register of selected code is open, or stands in a colour.
+-- A register of selected code is open, or is in a colour.
 pub selected_stands : (f : FunctionTree) (r : Reg) → IsRegister (selected f) r → (r.loc ≡ loc.Unset) ⊎ IsColour r.loc
 selected_stands f r x = stands f r (has_role f r x)
 

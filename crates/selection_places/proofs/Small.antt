@@ -48,7 +48,7 @@ selected_small f =
       labels = le_refl (selected f).labels;
     }
 
--- No register of selected code stands in a slot.
+-- No register of selected code is in a slot.
 pub selected_no_slot : (f : FunctionTree) (r : Reg) → IsRegister (selected f) r → (k : ℕ) → r.loc ≢ loc.Slot k
 selected_no_slot f r x k e = by (selected_stands f r x)
   where

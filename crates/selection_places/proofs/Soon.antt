@@ -229,7 +229,7 @@ pure_kills (mach.Op (op.Calling f)) rs results e = absurd (true≢false (sym e))
 pure_kills (mach.Op (op.Leaving f)) rs results e = absurd (true≢false (sym e))
 pure_kills (mach.Mark f) rs results e = absurd (true≢false (sym e))
 
--- a register that is killed is one of those, and stands where no result does
+-- a register that is killed is one of those, and is where no result is
 record Killed (r : Reg) (rs results : List Reg) : Type 0 where
   among : Member r rs
   elsewhere : is_at_one_of r.loc results ≡ false
@@ -309,7 +309,7 @@ module _ (Q : Role → Reg → Type 0) (open_plain : (r : Reg) → Q Plain r →
   colour_same : {l k : Loc} → IsColour l → k ≡ l → same_colour k l ≡ true
   colour_same {l} {k} c e = subst (λ z. same_colour k z ≡ true) e (subst (λ z. same_colour z z ≡ true) (sym (e ∙ c.is)) (eq-eqb c.colour c.colour refl))
 
-  -- what is written where it is live stands elsewhere
+  -- what is written where it is live is elsewhere
   module _ (colour : IsColour q.loc) (r : Reg) (other : IsRegister m r) (apart : r.number ≢ q.number) (same : r.loc ≡ q.loc) where
     is_other : (s : Reg) → IsRegister m s → s.number ≡ r.number → s ≡ r
     is_other s x e = numbers s r x other e

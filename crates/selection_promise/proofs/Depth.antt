@@ -1,4 +1,4 @@
--- No more tries stand round a place of selected code than stand round one of the text.
+-- No more tries are round a place of selected code than are round one of the text.
 use Rattle.std.proofs.Common.{◌≡◌, ℕ, suc, ◌+◌, ◌≤◌, max, length, Bool, true, false, not, List, [], ◌∷◌, Option, Some, None, refl, ap, ◌∙◌, arith}
 use Rattle.bs_words.specs.declared.operators.IntOp.{IntOp}
 use Rattle.bs_words.specs.declared.operators.IntOp.TheVariants as operator
@@ -37,7 +37,7 @@ no_deeper [] i next s = elim s [ ]
 no_deeper (j ∷ is) i next here = omega arith
 no_deeper (j ∷ is) i next (below s) = let le = no_deeper is i next s in omega (arith, le)
 
--- code that stands round itself alone, in at most so many tries more than stand round it
+-- code that is round itself alone, in at most so many tries more than are round it
 record Nests (n : ℕ) (code : Code) : Type 0 where
   same : (next : List Instr) → tries_at (code next) ≡ tries_at next
   deep : (next : List Instr) → deepest (code next) ≤ max (length (tries_at next) + n) (deepest next)
@@ -122,7 +122,7 @@ n_call : {n : ℕ} (tail valued : Bool) (result : Ret) (o : Option (List ℕ)) (
 n_call true valued result o f rs at d = n_op _ _ []
 n_call false valued result o f rs at d = n_then (n_op _ _ _) (n_given at result d)
 
--- a try: round its body stands one more than round it and its handler
+-- a try: round its body is one more than round it and its handler
 n_try : {n k : ℕ} {body handler : Code} (l end : ℕ) (y x : Reg) → Nests n body → Nests k handler →
     Nests (max (1 + n) k) (λ next. bare (mark.Try l) ∷ body (bare (mark.Leave l end) ∷ emit.handler l y ∷ emit.move y x ∷ handler (bare (mark.End end) ∷ next)))
 n_try {n} {k} {body} {handler} l end y x b h =
@@ -267,7 +267,7 @@ no_tries : (d : Reg) (n : ℕ) (result : Ret) → (deepest (returns d n result) 
 no_tries d n ret.Unit = (refl, refl)
 no_tries d n (ret.Comp c) = (refl, refl)
 
--- No more tries stand round a place of selected code than stand round one of the text.
+-- No more tries are round a place of selected code than are round one of the text.
 pub selected_tries : (f : FunctionTree) → TriesAtMost (selected f) (tries f)
 selected_tries f i next s =
     let d = fresh (value_at f) (body_type f) in

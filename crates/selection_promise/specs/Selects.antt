@@ -54,9 +54,9 @@ pub record Selects (f : FunctionTree) (m : Mach) : Type 0 where
   -- it does what the text's function does, wherever that is proper
   pub plays : PlaysAs f m
   pub formed : WellFormed m
-  -- arguments, results and raised values stand at the places of the conventions
+  -- arguments, results and raised values are at the places of the conventions
   pub seated : Seated m
-  -- joined registers stand apart, none stands in a slot, and none is made from another
+  -- joined registers are apart, none is in a slot, and none is made from another
   pub placed : WellPlaced m
   pub no_slot : (r : Reg) → IsRegister m r → (slot : ℕ) → r.loc ≢ loc.Slot slot
   pub origins : (r : Reg) → IsRegister m r → r.origin ≡ r.number
@@ -68,7 +68,7 @@ pub record Selects (f : FunctionTree) (m : Mach) : Type 0 where
   -- at most two open registers for each token, where a try takes a token less
   pub open_registers : OpenAtMost m (2 * (f.tokens - all_tries f.body))
   pub no_addr : NoAddrLive m
-  -- no more tries stand round a place than stand round one of the text
+  -- no more tries are round a place than are round one of the text
   pub tries : TriesAtMost m (tries f)
   -- offsets are words, and every number fits its type
   pub offsets : All (λ (i : Instr). OffsetFits i.op) m.code

@@ -63,7 +63,7 @@ module _ (c : Place) (m : Mach) (turns : ℕ) (ts : List ℕ) where
   abbrev pub whole_code : List Named → List Label → ℕ → ℕ → Expression → List Instr → List Instr
   whole_code env labels t i e = select env labels false false (fresh t (type_of (scopes env) e)) i e
 
-  -- the base of an address stands in a register
+  -- the base of an address is in a register
   abbrev pub SelectedAddress : Expression → Type 1
   SelectedAddress e =
       (B : Type 0) (env : List Named) (labels : List Label) (t b i : ℕ) (next : List Instr) (P : File → Type 0) (go : Value → Here → Memory → Part B) (k : Leaves B → Does) →

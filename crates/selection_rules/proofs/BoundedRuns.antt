@@ -24,7 +24,7 @@ record BoundedTally (t : Tally) : Type 0 where
   asked : AllAsked t.asked
   doings : BoundedDoings t.doings
 
--- where a run stands
+-- where a run is
 abbrev BoundedRun : Run State → Type 0
 BoundedRun (Running s t) = BoundedTally t
 BoundedRun (Asking call t) = BoundedAsked call × BoundedTally t

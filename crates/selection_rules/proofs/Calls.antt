@@ -353,7 +353,7 @@ module _ (c : Place) (m : Mach) (turns : ℕ) (ts : List ℕ) (low : Low m.colou
       by_symbol : {n : List ℕ} → c.setting.symbol n ≡ Some v → Called v f (Some n)
       by_register : Holds callee_reg v f → Called v f None
 
-    -- the call's instruction, where its operands stand
+    -- the call's instruction, where its operands are
     instruction : (t : Bool) → tail ≡ t → (o : Option (List ℕ)) → tries_at (call_of t wants result o callee_reg args given target next) ≡ ts → Ready c m turns ts env labels b d → Stable env b d.number P → Followed →
         (v : Value) (vs : List Value) (h : Here) (f : File) (memory : Memory) → Level c m turns ts h → Stands env h.names f → P f → Called v f o → values f args ≡ Some vs →
         Follows c m (applied (text_of c) v vs result t h memory after_k) (Continues (at c m turns ts (call_of t wants result o callee_reg args given target next) f memory))

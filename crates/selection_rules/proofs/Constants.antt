@@ -43,7 +43,7 @@ pub right_view : (f : IntOp) (e : Expression) → RightView f e (right_of f e)
 right_view f (Integer place w) = right_if f place w (is_immediate f w)
 right_view f e = by_register
 
--- where the operands stand: the right one in a register, or nowhere where it is a constant
+-- where the operands are: the right one in a register, or nowhere where it is a constant
 pub data Operands (x y : Reg) (v : Value) (f : File) : Right → Value → Type 0 where
   in_registers : {w : Value} → Holds x v f → Holds y w f → Operands x y v f right.Register w
   with_constant : {w : ℕ} → Holds x v f → Operands x y v f (right.Constant w) (value.Word w)

@@ -69,7 +69,7 @@ pub under_params : (n i : ℕ) (params : List Parameter) → n + length params �
 under_params n i [] le = no_reg
 under_params n i (p ∷ params) le = a_reg (omega (arith, le)) (under_params (suc n) i params (omega (arith, le)))
 
--- the parameters stand in scope
+-- the parameters are in scope
 pub stands_params : (n : ℕ) (params : List Parameter) (vs : List Value) {end : ℕ} {env : List Named} {names : List Binding} {g : File} → Row end g (params_from n params) (map Some vs) → Stands env names g →
     Stands (with_params params (params_from n params) env) (bound (map scoped_parameter params) vs names) g
 stands_params n [] [] row s = s

@@ -1,4 +1,4 @@
--- What stands in registers, and what writes leave of it.
+-- What is in registers, and what writes leave of it.
 use Rattle.std.proofs.Common.{◌≡◌, ℕ, suc, ◌<◌, ◌≤◌, Bool, true, false, cond, List, [], ◌∷◌, Option, Some, None, option_map, map, length, refl, sym, ap, ◌∙◌, subst, arith}
 use Rattle.std.specs.Prelude.{nat_eq, bytes_eq, not, ◌&&◌}
 use Rattle.std.proofs.lemmas.Bool.{eq-eqb, eqb-true, cond-false, false_from_ne_true}
@@ -12,7 +12,7 @@ use Rattle.selection_rules.specs.Select.{Named, scopes, comp_of, reg_of}
 use Rattle.bs_words.specs.declared.types.Ty.TheVariants as ty
 use Rattle.mach_laws.proofs.Files.{put_other}
 
--- this value stands in a register
+-- this value is in a register
 pub record Holds (r : Reg) (v : Value) (f : File) : Type 0 where
   pub is : f r.number ≡ Some (record { comp = r.comp; value = v })
 

@@ -1,4 +1,4 @@
--- Light operands, whatever stands round the registers: their values do not hang on memory.
+-- Light operands, whatever is round the registers: their values do not hang on memory.
 use Rattle.std.proofs.Common.{◌≡◌, ℕ, suc, ◌+◌, ◌<◌, ◌≤◌, Bool, true, false, cond, ◌&&◌, List, [], ◌∷◌, Option, Some, None, Result, Ok, Err, map, refl, sym, ap, subst, arith, le_refl}
 use Rattle.std.proofs.lemmas.Bool.{true≢false, and_parts}
 use Rattle.bs_words.specs.Fits.{fits, misfit, type_of_comp}
@@ -116,7 +116,7 @@ module _ (c : Place) (m : Mach) (turns : ℕ) (ts : List ℕ) (h : Here) (memory
       by false e = late_fails
   land ty.Addr i n v f next go k on = on refl
 
-  -- a light operand's value stands in its register
+  -- a light operand's value is in its register
   abbrev pub LightOperand : Expression → Type 1
   LightOperand e =
       (B : Type 0) (env : List Named) (labels : List Label) (n i : ℕ) (next : List Instr) (P : File → Type 0) (go : Value → Here → Memory → Part B) (k : Leaves B → Does) →

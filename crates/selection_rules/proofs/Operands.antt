@@ -26,7 +26,7 @@ module _ (c : Place) (m : Mach) (turns : ℕ) (ts : List ℕ) where
   abbrev pub end : ℕ
   end = c.setting.end
 
-  -- the code of an expression follows it, whatever stands round it
+  -- the code of an expression follows it, whatever is round it
   abbrev pub Selected : Expression → Type 1
   Selected e =
       (env : List Named) (labels : List Label) (valued tail : Bool) (d : Reg) (b : ℕ) (next : List Instr) (P : File → Type 0) (k : Leaves (Option Value) → Does) →
@@ -50,7 +50,7 @@ module _ (c : Place) (m : Mach) (turns : ℕ) (ts : List ℕ) where
       Outs c m turns ts env labels P k → Outs c m turns ts env labels (And P t v) k
   outs_and t v o = record { exit = λ l values h f memory level r p. o.exit l values h f memory level r p.rest; raising = λ v fv h f memory level r p. o.raising v fv h f memory level r p.rest }
 
-  -- the value of an operand stands in a register of its own
+  -- the value of an operand is in a register of its own
   pub operand : {B : Type 0} {env : List Named} {labels : List Label} {P : File → Type 0} (e : Expression) → Selected e → width e < 2 ^ 60 →
       (n i : ℕ) (next : List Instr) (go : Value → Here → Memory → Part B) (k : Leaves B → Does) → Ready c m turns ts env labels i (fresh n (type_of (scopes env) e)) → Stable env i n P →
       Placed m ts (select env labels false false (fresh n (type_of (scopes env) e)) i e next) →

@@ -1,4 +1,4 @@
--- The code of an operator whose operands stand: one instruction, or the shifts of a division by a power of two.
+-- The code of an operator whose operands are in place: one instruction, or the shifts of a division by a power of two.
 use Rattle.std.proofs.Common.{◌≡◌, ℕ, zero, suc, ◌-◌, ◌^◌, ◌<◌, ◌≤◌, Bool, true, false, cond, List, [], ◌∷◌, Some, Result, Ok, Err, refl, sym, ap, ◌∙◌, subst, arith}
 use Rattle.std.specs.Prelude.{nat_lt}
 use Rattle.std.proofs.lemmas.Bool.{ltb-true}

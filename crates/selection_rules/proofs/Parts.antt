@@ -48,7 +48,7 @@ inside_more e x = record { ending = more x.ending; tries = e ∙ x.tries }
 pub inside_in : {a b c : List Instr} → Within a b → Within b c → Within a c
 inside_in x y = record { ending = ending_in x.ending y.ending; tries = y.tries ∙ x.tries }
 
--- a piece of the code of a function, round which these tries stand
+-- a piece of the code of a function, round which these tries are
 pub record Placed (m : Mach) (ts : List ℕ) (rest : List Instr) : Type 0 where
   pub ending : Ending rest m.code
   pub caught : tries_at rest ≡ ts
@@ -134,7 +134,7 @@ lower_more n le (a_label u l) = a_label (all_under_more n le u) (lower_more n le
 
 -- ---- activations
 
--- the names of a part's own activation stand, under those of what is inside
+-- the names of a part's own activation are there, under those of what is inside
 abbrev pub Reaching : List Named → Here → File → Type 0
 Reaching env h f = Stands env (outermost (length env) h.names) f
 
@@ -219,7 +219,7 @@ module _ (c : Place) (m : Mach) (turns : ℕ) (ts : List ℕ) where
     gone_any : Gone None
     gone : {T : Ty} → IsNo T → Gone (Some T)
 
-  -- what a part gives stands in its destination
+  -- what a part gives is in its destination
   pub data Left (o : Option Ty) (d : Reg) (f : File) : Option Value → Type 0 where
     nothing : Gone o → Left o d f None
     holding : {v : Value} → Fit o v → Holds d v f → Left o d f (Some v)
@@ -242,7 +242,7 @@ module _ (c : Place) (m : Mach) (turns : ℕ) (ts : List ℕ) where
     pub giving : (v : Option Value) (h : Here) (f : File) (memory : Memory) → Level h → Stands env h.names f → P f → Left o d f v → Follows c m (k (Giving v h memory)) (Continues (at next f memory))
     -- a value that does not fit its destination is improper
     pub lost : (v : Value) (h : Here) (f : File) (memory : Memory) → Stands env h.names f → Fit o v → fits end (type_of_comp d.comp) v ≡ false → Follows c m (k (Giving (Some v) h memory)) IsStuck
-    -- after a tail call there is nothing left to do, and it stands in no try
+    -- after a tail call there is nothing left to do, and it is in no try
     pub untried : tail ≡ true → ts ≡ []
     pub tailing : tail ≡ true → (v : Option Value) → Shape o v → (h : Here) (memory : Memory) → Follows c m (k (Giving v h memory)) (Finishes (Gave (kept valued v) memory))
 

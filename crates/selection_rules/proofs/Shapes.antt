@@ -93,7 +93,7 @@ shape_view operators.Div left e = power_view left e is_div
 shape_view operators.Mod left e = power_view left e is_mod
 shape_view op left e = shape_views (right_of_shape op e) (left_of_shape op left)
 
--- where the operands stand; the register beside a power of two takes any word
+-- where the operands are; the register beside a power of two takes any word
 pub data Operands (op : IntOp) (x y : Reg) (f : File) : Shape → Value → Value → Type 0 where
   both_stand : {v w : Value} → Holds x v f → Holds y w f → Operands op x y f InRegisters v w
   left_stands : {v : Value} {w : ℕ} {i : Immediate} → Means op w i → Holds x v f → Operands op x y f (ConstantRight i) v (value.Word w)

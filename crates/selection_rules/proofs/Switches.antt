@@ -70,7 +70,7 @@ module _ (c : Place) (m : Mach) (turns : ℕ) (ts : List ℕ) where
         by o n picked_none = fails
         by o n (picked ok) = ok.body h f memory level s p
 
-  -- the label for a number stands at it
+  -- the label for a number is at it
   case_follows : (x : Does) (i : Instr) (next : List Instr) (f : File) (a b : Around) (l : ℕ) (cs : Cases) (j size n : ℕ) → n < size → Follows c m x (on_act c m i next f b (Goes [] (At (last_label l cs (j + n) l)) a)) →
       Follows c m x (on_act c m i next f b (goes_to_case a (switch_labels l cs j size) (Ok n)))
   case_follows x i next f a b l cs j zero n less follows = absurd (omega (arith, less))

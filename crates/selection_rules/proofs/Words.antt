@@ -172,7 +172,7 @@ loaded_bounded c m address b = loaded_from_bounded c m (offset_in_cell address) 
 
 -- ---- stores
 
--- an element after a write is the written one, or stood there before
+-- an element after a write is the written one, or was there before
 set_each {ℓ} : {A : Type ℓ} (P : A → Type 0) (xs : List A) (i : ℕ) (v d : A) → P v → ((j : ℕ) → P (slice_index_or xs j d)) → (j : ℕ) → P (slice_index_or (slice_set xs i v) j d)
 set_each P [] i v d p q j = q j
 set_each P (x ∷ xs) zero v d p q zero = p

@@ -46,7 +46,7 @@ abbrev pub scopes : List Named → List Scoped
 scopes env = map (λ (x : Named). x.scoped) env
 
 -- a handler in scope: the registers of its parameters, its label in the code, and how many tries
--- stand between it and here
+-- are between it and here
 pub record Label : Type 0 where
   pub label : LabelTree
   pub params : List Reg
@@ -160,7 +160,7 @@ abbrev pub left_immediate : IntOp → Expression → Option Immediate
 left_immediate op (Integer at w) = if_commuted (commuted op) w
 left_immediate op e = None
 
--- Where the operands of an operator stand: in registers both, or one of them is a constant that
+-- Where the operands of an operator are: in registers both, or one of them is a constant that
 -- needs none. A divisor that is a power of two needs none either.
 pub data Shape : Type 0 where
   InRegisters : Shape
@@ -231,7 +231,7 @@ power_code op k x y d next =
     ∷ emit.operator operator.Sub right.Register (x ∷ y ∷ []) d
     ∷ next)
 
--- the code of an operator whose operands stand so
+-- the code of an operator whose operands are so
 abbrev pub operator_code : Shape → IntOp → Reg → Reg → Reg → Code
 operator_code (PowerRight k) op x y d next = power_code op k x y d next
 operator_code s op x y d next =
@@ -329,7 +329,7 @@ abbrev pub callee_regs : Option (List ℕ) → Reg → List Reg
 callee_regs (Some name) f = []
 callee_regs None f = f ∷ []
 
--- the call of a function whose arguments stand in their seats
+-- the call of a function whose arguments are in their seats
 abbrev pub call_of : Bool → Bool → Ret → Option (List ℕ) → Reg → List Reg → ℕ → Reg → Code
 call_of true valued result name f arguments n d next =
     emit.tail_call (callee_of name) (tail_result valued result) (callee_regs name f ++ arguments)
@@ -398,7 +398,7 @@ abbrev pub switch_labels : ℕ → Cases → ℕ → ℕ → List ℕ
 switch_labels l cases k zero = []
 switch_labels l cases k (suc n) = last_label l cases k l ∷ switch_labels l cases (suc k) n
 
--- the header of a block stands 8 bytes before it
+-- the header of a block is 8 bytes before it
 abbrev pub header_offset : ℕ
 header_offset = 0xFFFFFFFFFFFFFFF8
 
@@ -737,7 +737,7 @@ to_seat d n (ret.Comp c) next = emit.move d (seat 0 n c) ∷ next
 abbrev pub returns : Reg → ℕ → Ret → List Instr
 returns d n result = to_seat d n result (emit.give_back (result_seat n result) ∷ [])
 
--- for each colour a register that stands there; their numbers are the first
+-- for each colour a register that is there; their numbers are the first
 abbrev pub colour_regs : ℕ → List ℕ → List Reg
 colour_regs n [] = []
 colour_regs n (colour ∷ rest) =

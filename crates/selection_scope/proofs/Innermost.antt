@@ -1,4 +1,4 @@
--- The innermost binding of a name, which stands last in the stack.
+-- The innermost binding of a name, which is last in the stack.
 use Rattle.std.proofs.Common.{◌≡◌, ℕ, Bool, true, false, cond, not, List, [], ◌∷◌, ◌++◌, Some, ◌↔◌, IsTrue, bytes_eq, map, reverse, ap, sym, ◌∙◌}
 use Rattle.std.proofs.lemmas.Bool.Decides.{same_from_decides}
 use Rattle.std.proofs.lemmas.Slice.Eq.{bytes_eq-Decides}

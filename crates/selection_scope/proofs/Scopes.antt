@@ -14,7 +14,7 @@ left-below f n xs front rest e same =
     let count : length (front ++ rest) - n ≡ length front = let sum = length-append front rest in omega (arith, sum, same) in
     lowest f n xs ∙ ap (λ l. drop (length l - n) l) e ∙ ap (λ k. drop k (front ++ rest)) count ∙ drop_front front rest
 
--- the last item stands at the top
+-- the last item is at the top
 pub top : {A B : Type 0} (f : A → B) (xs : List A) (x : A) → map f (reverse (xs ++ x ∷ [])) ≡ f x ∷ map f (reverse xs)
 top f xs x = ap (map f) (reverse-append xs (x ∷ []))
 
@@ -26,7 +26,7 @@ handlers-append (t ∷ xs) ys = by-bare (is_bare t.label) t (in_handlers (xs ++ 
     by-bare true t all left more e = e
     by-bare false t all left more e = ap (λ l. t ∷ l) e
 
--- the last handler stands below the others
+-- the last handler is below the others
 pub below-bare : (xs : List Label) (t : Label) (rest : List Label) → is_bare t.label ≡ true → in_handlers (xs ++ t ∷ []) ++ rest ≡ in_handlers xs ++ rest
 below-bare xs t rest bare =
     ap (λ l. l ++ rest) (handlers-append xs (t ∷ []) ∙ ap (λ b. in_handlers xs ++ unless_bare b t []) bare ∙ append-none (in_handlers xs))

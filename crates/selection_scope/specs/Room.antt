@@ -9,7 +9,7 @@ use Rattle.selection_rules.specs.Select.{Label, selected, width}
 abbrev pub most_numbers : ℕ
 most_numbers = 0x1FFFFFFF
 
--- the most tries that stand between a handler in scope and here
+-- the most tries that are between a handler in scope and here
 abbrev pub most_tries : List Label → ℕ
 most_tries [] = 0
 most_tries (t ∷ labels) = max t.tries (most_tries labels)

@@ -1,4 +1,4 @@
--- What is in scope where a node stands, as the code holds it.
+-- What is in scope where a node is, as the code holds it.
 use Rattle.std.specs.Prelude.{◌-◌, List, [], ◌∷◌}
 use Rattle.cmm_tree.specs.View.{label_view}
 use Rattle.cmm_types.specs.Types.{Scoped}

@@ -1,4 +1,4 @@
-//! What selection knows where a node of a tree stands, before the node's code is made.
+//! What selection knows where a node of a tree is, before the node's code is made.
 //!
 //! The names and labels in scope with their registers, how many numbers of registers and labels a node takes, where its
 //! value goes, which operands wait, and the registers of a row of operands.

@@ -1,4 +1,4 @@
-//! What of an expression decides how it stands as a part of another one.
+//! What of an expression decides how it is selected as a part of another one.
 ghost use Rattle.std.specs.Prelude.{List};
 ghost use Rattle.cmm_types.specs.Annotated.{IsAnnotated};
 ghost use Rattle.cmm_types.specs.Types.{Scoped};

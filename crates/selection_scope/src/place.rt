@@ -1,4 +1,4 @@
-//! Where the value of a node goes, and how it stands to the end of the function.
+//! Where the value of a node goes, and whether that is the end of the function.
 ghost use Rattle.std.specs.Prelude.{◌≡◌, false};
 ghost use Rattle.cmm_types.specs.Types.{type_bound, is_mutable, result_of};
 ghost use Rattle.cmm_tree.specs.View.{declared_view};

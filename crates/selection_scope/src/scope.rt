@@ -26,7 +26,7 @@ pub struct Bound {
     pub reg: Reg,
 }
 
-/// A handler in scope: the registers of its parameters, its label in the code, and how many tries stand between it and
+/// A handler in scope: the registers of its parameters, its label in the code, and how many tries are between it and
 /// what is selected.
 #[derive(Drop)]
 pub struct Target {
@@ -349,7 +349,7 @@ impl Scope {
         self.labels.truncate(left);
     }
 
-    /// Enters the body of a try: one try more stands between each handler and what is selected.
+    /// Enters the body of a try: one try more is between each handler and what is selected.
     pub fn enter_try(&mut self) -> Result<(), AllocError>
         requires { most_tries self.old.labels < most_numbers }
         ensures { OnOk result (self.new ≡ record self.old { labels = deeper self.old.labels }) }

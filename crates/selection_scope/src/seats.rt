@@ -138,7 +138,7 @@ pub fn comps_of_arguments(scope: &Scope, exprs: &[Expr]) -> Result<Seq<Comp>, Al
     Ok(Seq::from_vec(comps))
 }
 
-/// For each colour a register that stands there; their numbers are the first.
+/// For each colour a register that is there; their numbers are the first.
 pub fn colour_regs(alloc: Global) -> Result<Seq<Reg>, AllocError>
     ensures { IfOk result (λ regs. regs ≡ colour_regs 0 colours) }
 {

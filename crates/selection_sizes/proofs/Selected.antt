@@ -25,7 +25,7 @@ use Rattle.selection_sizes.proofs.Weights.{Weighs, weight, w_up, w_then, w_none,
 
 -- ---- labels
 
--- at most so many tries stand between each label and here
+-- at most so many tries are between each label and here
 abbrev Shallow : ℕ → List Label → Type 0
 Shallow k [] = Unit {0}
 Shallow k (t ∷ labels) = (t.tries ≤ k) × Shallow k labels

@@ -1,4 +1,4 @@
--- Loads, stores and tests of bounds. An address that is a sum with a short constant is not computed: its base stands
+-- Loads, stores and tests of bounds. An address that is a sum with a short constant is not computed: its base is
 -- in the register.
 use Rattle.std.proofs.Common.{◌≡◌, ℕ, zero, suc, ◌+◌, ◌<◌, ◌≤◌, Bool, true, false, cond, not, ◌&&◌, ⊎_elim, List, [], ◌∷◌, ◌++◌, Option, Some, None, refl, sym, ap, ◌∙◌, subst, arith, append_assoc}
 use Rattle.std.proofs.lemmas.Bool.{true≢false, and_parts}

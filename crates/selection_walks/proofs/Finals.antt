@@ -185,7 +185,7 @@ module _ (m : Mach) (n : ℕ) where
       by (flew {q = q} {l = l} {tries = tries} mr t f y) = let u = x.outs in let r =
           raised_at m n l tries u.raised (sym placed.caught ∙ t) in inr (meets.flying mr r.0 r.1 f (r.2 q y))
 
-  -- one that takes what stands in slots, after the moves into its seats
+  -- one that takes what is in slots, after the moves into its seats
   pub calling : {k : ℕ} {ts : List ℕ} {labels : List Label} {w v : Option ℕ} {next : List Instr} {tasks more : List Task} {D S : List Reg} (i : Instr) →
       targets i.op ≡ On ∷ [] → ((next : List Instr) → tries_at (i ∷ next) ≡ tries_at next) → i.results ≡ D → Sit m n D k w ts labels next tasks →
       Meets i w tasks more →

@@ -1,4 +1,4 @@
--- Laws and words of crates below, named once more for what stands above.
+-- Laws and words of crates below, named again for the crates above.
 pub use Rattle.selection_places.proofs.Formed.{selected_well_formed}
 pub use Rattle.selection_places.proofs.Fresh.{selected_allocates, selected_starts}
 pub use Rattle.selection_places.proofs.NamedOnes.{selected_externals, selected_symbols}

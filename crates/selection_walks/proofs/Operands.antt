@@ -1,4 +1,4 @@
--- Operands, from right to left and the light addresses last: what stands in their registers stands in their slots.
+-- Operands, from right to left and the light addresses last: what is in their registers is in their slots.
 use Rattle.std.proofs.Common.{◌≡◌, ℕ, zero, suc, ◌+◌, ◌<◌, ◌≤◌, Bool, true, false, cond, ◌⊎◌, inl, inr, ⊎_elim, List, [], ◌∷◌, ◌++◌, Option, Some, None, refl, sym, ap, ◌∙◌, subst, arith, append_assoc}
 use Rattle.bs_words.specs.declared.types.Ty.{Ty}
 use Rattle.bs_words.specs.declared.types.Ty.TheVariants as ty
@@ -56,7 +56,7 @@ abbrev pub all_held : ℕ → ℕ → ℕ → Expressions → Option ℕ → Opt
 all_held n b slot NoMore w = w
 all_held n b slot (More e rest) w = all_held n (suc b) (suc slot) rest (hold n b slot w)
 
--- what may have been held before, or stands in these slots
+-- what may have been held before, or is in these slots
 abbrev pub InRow : ℕ → ℕ → ℕ → ℕ → Option ℕ → ℕ → Type 0
 InRow n b slot count w s = (w ≡ Some s) ⊎ ((slot ≤ s) × (s < slot + count) × (b ≤ n) × (n < b + count))
 
@@ -115,7 +115,7 @@ pub record Stood (v : Option ℕ) (slot count : ℕ) : Type 0 where
   pub within : index < count
   pub is : v ≡ Some (slot + index)
 
--- the registers of a row stand in its slots
+-- the registers of a row are in its slots
 pub row_stands : {n : ℕ} (env : List Named) (es : Expressions) (b slot : ℕ) (w : Option ℕ) → Low n w b slot → Among n (regs_of env b es) →
     Stood (all_held n b slot es w) slot (walk.count es)
 row_stands env NoMore b slot w low a = elim a [ ]

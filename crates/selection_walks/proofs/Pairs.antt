@@ -180,7 +180,7 @@ module _ (m : Mach) (n : ℕ) (defined : List ℕ → Option DefinedSymbol) wher
   one_arg {scope = scope} {b = b} {slot = slot} {w = w} e li at x =
       one (is_light_address (names scope) e) (x.run w 0 (λ v. v) (row_none n (suc b) (suc slot)) (omega (arith, li)) (omega arith) at)
 
-  -- ---- where they stand
+  -- ---- where they are
 
   pub left_stands : {w : Option ℕ} {slot : ℕ} (b : ℕ) (g : Option ℕ → Option ℕ) → Row n (suc b) (suc slot) 1 g → Low n w b slot → n ≡ b →
       Stood (g (hold n b slot w)) slot 2

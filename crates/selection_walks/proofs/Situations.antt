@@ -1,5 +1,5 @@
 -- What is known of code and of the tasks that it stands for: the register that is followed, and the slot where its
--- value stands in the text.
+-- value is in the text.
 use Rattle.std.proofs.Common.{◌≡◌, ℕ, zero, suc, ◌+◌, ◌<◌, ◌≤◌, Bool, true, false, cond, ◌⊎◌, inl, inr, ⊎_elim, List, [], ◌∷◌, ◌++◌, Option, Some, None, option_map, refl, sym, ap, ◌∙◌, subst, arith}
 use Rattle.std.specs.Prelude.{length, nat_eq, bytes_eq}
 use Rattle.std.proofs.lemmas.Bool.{true≢false, cases_Bool, eq-eqb, eqb-true}
@@ -32,7 +32,7 @@ abbrev pub holds : ℕ → List Reg → ℕ → Option ℕ → Option ℕ
 holds n [] s w = w
 holds n (r ∷ rs) s w = holds n rs (suc s) (hold n r.number s w)
 
--- what the registers below a number hold stands in the slots below another
+-- what the registers below a number hold is in the slots below another
 abbrev pub Low : ℕ → Option ℕ → ℕ → ℕ → Type 0
 Low n w b slot = (s : ℕ) → w ≡ Some s → (n < b) × (s < slot)
 
@@ -85,7 +85,7 @@ pub paired_names : {n : ℕ} {w : Option ℕ} {bound : ℕ} {env : List Named} {
 paired_names none = refl
 paired_names (pair {x = x} {env = env} {scope = scope} e l p q c r) = ap (λ y. y ∷ names scope) e ∙ ap (λ ys. x.scoped ∷ ys) (paired_names r)
 
--- what else is bound stands in other slots
+-- what else is bound is in other slots
 pub paired_more : {n : ℕ} {w v : Option ℕ} {bound free : ℕ} {env : List Named} {scope : List Slotted} → bound ≤ free → Kept w v →
     ((s : ℕ) → v ≡ Some s → (w ≡ Some s) ⊎ (bound ≤ s)) → Paired n w bound env scope → Paired n v free env scope
 paired_more le k f none = none

@@ -32,7 +32,7 @@ pub length_entered : (rs : List Reg) (t : List (Option Reg)) → length (entered
 length_entered [] t = refl
 length_entered (r ∷ rs) t = length_entered rs (one r t) ∙ length_one r t
 
--- a register stands at its own number, or nothing changed
+-- a register is at its own number, or nothing changed
 one_at : (r : Reg) (t : List (Option Reg)) (n : ℕ) → (at (one r t) n ≡ at t n) ⊎ ((n ≡ r.number) × (at (one r t) n ≡ Some r))
 one_at r t n =
     ⊎_elim (λ e. set e (same_or n r.number)) (λ e. inl (ap (λ b. at (cond b (slice_set t r.number (Some r)) t) n) e))
@@ -69,7 +69,7 @@ module _ (Q : Reg → Type 0) (unique : (r q : Reg) → Q r → Q q → r.number
   sound_all (r ∷ rs) t known sound =
       sound_all rs (one r t) (λ q c. known q (later_in r q rs c)) (sound_one r t (known r (first_in r rs)) sound)
 
-  -- what stands at its number stays
+  -- what is at its number stays
   stays : (rs : List Reg) (t : List (Option Reg)) (r : Reg) → ((r : Reg) → Contains rs r → Q r) → Q r → at t r.number ≡ Some r →
       at (entered rs t) r.number ≡ Some r
   stays [] t r known mine e = e

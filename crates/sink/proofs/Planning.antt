@@ -152,7 +152,7 @@ module _ (m : Mach) (formed : WellFormed m) (moves : List Move) (are : AreMoves 
   registered : (r : Reg) → Contains plan.registers r → IsRegister m r
   registered r c = let x = reg_in moves r c in subst (IsRegister m) x.2 ((are.each x.0 x.1).sunk_at).register
 
-  -- a move of the plan stands there
+  -- a move of the plan is there
   sunk_there : (i : Instr) (next : List Instr) (r : Reg) → Stands i next m.code → IsRegister m r → There moves r.number (length m.code - 1 - length next) →
       IsSunkAt m i next r
   sunk_there i next r s known t =

@@ -24,7 +24,7 @@ use Rattle.liveness.proofs.Steps.{each, place_back, ending_place}
 use Rattle.mach_laws.proofs.Places.{stands_of, ending_of}
 use Rattle.bs_words.proofs.Truths.{not_both}
 
--- ---- what stands at a place
+-- ---- what is at a place
 
 pub get_there : (code : List Instr) (p : ℕ) (i : Instr) (next : List Instr) → drop p code ≡ i ∷ next → slice_get code p ≡ Some i
 get_there [] zero i next e = absurd (bad e)
@@ -66,7 +66,7 @@ get_within [] ys p lt = absurd (omega (arith, lt))
 get_within (x ∷ xs) ys zero lt = refl
 get_within (x ∷ xs) ys (suc p) lt = get_within xs ys p (omega (arith, lt))
 
--- what stands before a place shows whether a run begins there
+-- what is before a place shows whether a run begins there
 pub begins_within : (xs ys : List Instr) (p : ℕ) → p ≤ length xs → begins_at (xs ++ ys) p ≡ begins_at xs p
 begins_within xs ys zero le = refl
 begins_within xs ys (suc p) le = ap (λ o. not (some_straight o)) (get_within xs ys p (omega (arith, le)))

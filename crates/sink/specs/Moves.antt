@@ -6,7 +6,7 @@ use Rattle.sink_rules.specs.Sunk.{to_itself}
 use Rattle.sink.specs.Runs.{begins_at}
 use Rattle.sink.specs.declared.chosen.Move.{Move}
 
--- those of these moves that stand before a place
+-- those of these moves that are before a place
 abbrev pub moves_before : List Move → ℕ → List Instr
 moves_before [] p = []
 moves_before (move ∷ moves) p =

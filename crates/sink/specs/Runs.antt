@@ -8,7 +8,7 @@ abbrev pub some_straight : Option Instr → Bool
 some_straight None = false
 some_straight (Some i) = is_straight i.op
 
--- no straight instruction stands right before the place
+-- no straight instruction is right before the place
 abbrev pub begins_at : List Instr → ℕ → Bool
 begins_at code zero = true
 begins_at code (suc p) = not (some_straight (slice_get code p))

@@ -1,4 +1,4 @@
--- What the tables of a function tell: exactly what is stale or fresh, of what is live.
+-- What the tables of a function say: exactly what is stale or fresh, of what is live.
 use Rattle.std.specs.Prelude.{◌≡◌, ◌↔◌, ℕ, ◌≤◌, Bool, true, List, length, drop}
 use Rattle.bs_bits.specs.Set.{has}
 use Rattle.dataflow.specs.Rows.{row}

@@ -28,7 +28,7 @@ pub fn is_call(op: &MachOp) -> bool
     }
 }
 
-/// Whether the register is open, a call stands at the place, the register is not stale there, and no read
+/// Whether the register is open, a call is at the place, the register is not stale there, and no read
 /// finds it both fresh and stale.
 fn is_sure(code: &[Instr], stale: &Rows, mixed: &Bits, reg: Reg, place: usize) -> bool
     ensures { result ≡ is_sure code.now stale.now.rows.items mixed.now reg place }

@@ -11,7 +11,7 @@ use liveness::Backward;
 use mach_ir::{Calling, LiveMap, Mach, MachOp, Mark, Op, Reg};
 use std::alloc::{AllocError, Global};
 
-/// Whether a register may live over it and is to stand in a slot then: a call that returns, or the entry
+/// Whether a register may live over it and is to be in a slot then: a call that returns, or the entry
 /// of a handler.
 pub fn is_held(op: &MachOp) -> bool
     ensures { result ≡ held op.now }

@@ -25,7 +25,7 @@ fn is_straight(op: &MachOp) -> bool
     }
 }
 
-/// Whether no straight instruction stands right before the place.
+/// Whether no straight instruction is right before the place.
 pub fn begins_at(code: &[Instr], place: usize) -> bool
     ensures { result ≡ begins_at code.now place }
 {

@@ -1,4 +1,4 @@
--- A well-formed function is so with its moves, is as well placed, and what the conventions put at fixed places stands there.
+-- A well-formed function is so with its moves, is as well placed, and what the conventions put at fixed places is there.
 use Rattle.std.proofs.Common.{◌≡◌, ◌≢◌, ℕ, ◌<◌, ◌≤◌, true, false, inl, List, [], ◌∷◌, length, refl, sym, ap, ◌∙◌, subst}
 use Rattle.std.proofs.lemmas.List.Elements.{Contains-get_or, All-contains}
 use Rattle.std.specs.List.{All, AllPairs, Contains}

@@ -90,7 +90,7 @@ stands_further : {i : Instr} {next rest code : List Instr} → Ending rest code 
 stands_further all s = s
 stands_further (more e) s = below (stands_further e s)
 
--- an ending of a run and of what comes after, and shorter than that, begins the run or stands after an instruction of it
+-- an ending of a run and of what comes after, and shorter than that, begins the run or is after an instruction of it
 within : (run : List Instr) (call : Instr) (after rest : List Instr) → Ending rest (run ++ call ∷ after) → length after < length rest →
     (rest ≡ run ++ call ∷ after) ⊎ ((i : Instr) × Stands i rest (run ++ call ∷ after) × Contains run i)
 within [] call after rest all lt = inl refl

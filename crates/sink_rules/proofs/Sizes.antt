@@ -65,7 +65,7 @@ registers_among rs numbers h known =
 -- ---- how many moves
 
 module _ (plan : Plan) where
-  -- how many moves stand in the code, of these registers
+  -- how many moves are in the code, of these registers
   abbrev pub total : List Reg → List Instr → ℕ
   total rs [] = 0
   total rs (i ∷ is) = length (moves_of plan (length is) rs) + total rs is

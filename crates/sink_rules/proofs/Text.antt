@@ -1,4 +1,4 @@
--- The code with its moves: they stand before operations alone, so that labels, handlers and tries stand where they did.
+-- The code with its moves: they are before operations alone, so that labels, handlers and tries are where they were.
 use Rattle.std.proofs.Common.{◌≡◌, ℕ, Bool, true, false, cond, List, [], ◌∷◌, ◌++◌, length, ◌⊎◌, inl, inr, refl, sym, ap, ◌∙◌, subst}
 use Rattle.std.specs.List.{Contains}
 use Rattle.std.proofs.lemmas.Bool.{both_ways}
@@ -23,7 +23,7 @@ of_one (later a) = elim a [ ]
 
 -- ---- moves before operations alone
 
--- what stands before an operation
+-- what is before an operation
 abbrev pub before : Plan → ℕ → MachOp → List Instr
 before plan k (mach.Op f) = moves_of plan k plan.registers
 before plan k (mach.Mark f) = []
@@ -71,7 +71,7 @@ module _ (plan : Plan) where
   before_unbound k (mach.Op f) ys h = unbound k plan.registers ys h
   before_unbound k (mach.Mark f) ys h = h
 
-  -- nothing stands before what no operation is
+  -- nothing is before what no operation is
   alone : (F : MachOp → Bool) → ((f : Op) → F (mach.Op f) ≡ false) → (k : ℕ) (g : MachOp) → F g ≡ true → before plan k g ≡ []
   alone F none k (mach.Op f) e = absurd (both_ways (F (mach.Op f)) (none f) e)
   alone F none k (mach.Mark f) e = refl
@@ -178,7 +178,7 @@ module _ (m : Mach) (plan : Plan) (is : IsPlan m plan) where
   pub whole_laid : Laid m.code (laid).code
   whole_laid = laid_of m.code all
 
-  -- ---- what stands in it
+  -- ---- what is in it
 
   -- a move, or an instruction of the first
   pub data Whence (j : Instr) (zs : List Instr) : Type 0 where

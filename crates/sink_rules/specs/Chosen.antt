@@ -14,7 +14,7 @@ use Rattle.sink_rules.specs.Sunk.{Plan, sunk}
 use Rattle.sink_rules.specs.Walks.{Fresh, Stale}
 
 -- A straight run starts with this code, does not write the register, and comes to an operation, no
--- mark (`IsSunkAt` asks that it be a call). What stands right before the run is not straight.
+-- mark (`IsSunkAt` asks that it be a call). What is right before the run is not straight.
 pub record IsRunTo (m : Mach) (n : ℕ) (from : List Instr) (call : Instr) (after : List Instr) :
     Type 0 where
   pub run : List Instr
@@ -30,7 +30,7 @@ pub record IsRunTo (m : Mach) (n : ℕ) (from : List Instr) (call : Instr) (afte
 -- over, where it surely was written since the last call or entry of a handler, if no other of these
 -- that it lives over may find it so, and no read may find it so on one walk and not so on another.
 -- Then spilling stores it there alone, each time in place of the last write before, and on no run
--- more often, where parameters stand at fixed places.
+-- more often, where parameters are at fixed places.
 pub record IsSunkAt (m : Mach) (i : Instr) (next : List Instr) (r : Reg) : Type 0 where
   pub register : IsRegister m r
   pub open_place : r.loc ≡ loc.Unset

@@ -59,7 +59,7 @@ pub record IsPlan (m : Mach) (plan : Plan) : Type 0 where
   pub written : (i : Instr) (next : List Instr) (r : Reg) → Stands i next m.code →
       Contains plan.registers r → plan.moves (length next) r.number ≡ true →
       Stale m r.number (i ∷ next) → ⊥
-  -- moves stand before operations, and before no marks
+  -- moves are before operations, and before no marks
   pub operations : (i : Instr) (next : List Instr) (r : Reg) → Stands i next m.code →
       Contains plan.registers r → plan.moves (length next) r.number ≡ true →
       (f : Op) × (i.op ≡ mach.Op f)

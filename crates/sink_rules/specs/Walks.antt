@@ -7,7 +7,7 @@ use Rattle.mach_ir.specs.declared.mach.Instr.{Instr}
 use Rattle.mach_ir.specs.declared.mach.Mach.{Mach}
 
 -- Some walk leads to this code from a write of the register, and comes over no call and over no
--- entry of a handler: so it may stand in the register and in no slot. A raise of a call comes to
+-- entry of a handler: so it may be in the register and in no slot. A raise of a call comes to
 -- the entry of the handler, and not over it.
 pub data Fresh (m : Mach) (n : ℕ) : List Instr → Type 0 where
   written : {i : Instr} {next to : List Instr} → Stands i next m.code → Writes m i n →
@@ -18,7 +18,7 @@ pub data Fresh (m : Mach) (n : ℕ) : List Instr → Type 0 where
       Fresh m n to
 
 -- Some walk leads to this code from the entry, where it is no parameter, or from over a call or the
--- entry of a handler, and does not write the register: so it may hold nothing yet, or stand in its
+-- entry of a handler, and does not write the register: so it may hold nothing yet, or be in its
 -- slot already. What an instruction writes is not written on the way to a handler.
 pub data Stale (m : Mach) (n : ℕ) : List Instr → Type 0 where
   at_entry : (Among n m.params → ⊥) → Stale m n m.code

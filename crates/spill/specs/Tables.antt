@@ -1,4 +1,4 @@
--- What the tables of a function tell.
+-- What the tables of a function say.
 use Rattle.std.specs.Prelude.{◌≡◌, ◌↔◌, ℕ, ◌<◌, ◌≤◌, Bool, true, List, ◌∷◌, length, drop}
 use Rattle.bs_bits.specs.Set.{has}
 use Rattle.dataflow.specs.Rows.{row}
@@ -18,7 +18,7 @@ pub data Wanted (m : Mach) (n : ℕ) : List Instr → Type 0 where
   aside : {i : Instr} {next to : List Instr} → Raises m i next to → Wanted m n to →
       Wanted m n (i ∷ next)
 
--- the sets tell exactly what is lost before each place
+-- the sets say exactly what is lost before each place
 pub record AreLost (m : Mach) (rows : List (List Bool)) : Type 0 where
   pub exact : (p n : ℕ) → p ≤ length m.code →
       (has (row rows p) n ≡ true) ↔ Lost m n (drop p m.code)

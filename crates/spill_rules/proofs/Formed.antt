@@ -108,7 +108,7 @@ module _ (plan : Plan) where
       (handler_here e))
   handler_there {l} (handler_below {i = i} {is = is} h) = handler_left (f (length is) i) (expand f is) (handler_there h)
 
-  -- ---- what stands where
+  -- ---- what is where
 
   pub data IsCopy (j : Instr) : Type 0 where
     is_reload : (k : ℕ) (r : Reg) → plan.reloads k r.number ≡ true → j ≡ reload plan r → IsCopy j

@@ -41,7 +41,7 @@ use Rattle.spill_rules.specs.Spilled.{Plan, in_slot, copied, reload, spill, relo
 use Rattle.spill_rules.proofs.Live.{IsStored, WasLive, itself, stored, Stage, Reading, Storing, Laid, main, laid_results, laid_operands, laid_of, is_result, Says, NotThere, stored_unwritten, laid_tries, live_back, live_before, WasAcross, itself_across, stored_across, across_back}
 use Rattle.spill_rules.proofs.Text.{keeps_marks, all_results, operand_in}
 
--- ---- what is read, and what stands in code
+-- ---- what is read, and what is in code
 
 -- what is read holds something
 pub values_held : (a : File) (rs : List Reg) (vs : List Value) → values a rs ≡ Some vs → (n : ℕ) → Among n rs → (h : Held) × (a n ≡ Some h)

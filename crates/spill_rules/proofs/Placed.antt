@@ -1,4 +1,4 @@
--- A well-placed function is so with its spills and reloads, and what the conventions put at fixed places stands there.
+-- A well-placed function is so with its spills and reloads, and what the conventions put at fixed places is there.
 use Rattle.std.proofs.Common.{◌≡◌, ◌≢◌, ℕ, ◌≤◌, Bool, true, false, cond, ◌⊎◌, inl, inr, ⊎_elim, List, [], ◌∷◌, length, refl, sym, ap, ◌∙◌, subst}
 use Rattle.std.specs.List.{Contains}
 use Rattle.bs_words.specs.declared.types.Loc.TheVariants as loc

@@ -1,4 +1,4 @@
--- The text of a function with its spills and reloads: labels, handlers and tries stand where they did.
+-- The text of a function with its spills and reloads: labels, handlers and tries are where they were.
 use Rattle.std.proofs.Common.{◌≡◌, ℕ, Bool, true, false, cond, ◌⊎◌, inl, inr, ⊎_elim, List, [], ◌∷◌, ◌++◌, refl, sym, ap, ◌∙◌}
 use Rattle.std.specs.List.{Contains}
 use Rattle.bs_words.specs.declared.types.Comp.{Comp}
@@ -72,7 +72,7 @@ module _ (plan : Plan) where
       by true h = not_bound refl h
       by false h = h
 
-  -- ---- marks that stand alone
+  -- ---- marks that are alone
 
   not_true : false ≡ true → ⊥
   not_true e = cc

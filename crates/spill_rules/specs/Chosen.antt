@@ -74,13 +74,13 @@ pub record IsSpilled (m q : Mach) : Type 0 where
   pub chosen : IsChosen m plan
   pub is : q ≡ spilled plan m
 
--- Parameters stand at fixed places, as the conventions say (`Seated`): the entry stores nothing.
+-- Parameters are at fixed places, as the conventions say (`Seated`): the entry stores nothing.
 pub record ParamsPlaced (m : Mach) : Type 0 where
   pub placed : (r : Reg) → Contains m.params r → r.loc ≢ loc.Unset
 
 -- ---- what it gives
 
--- A register stands in the slot of an open one, with the number of that one's origin. That one lives
+-- A register is in the slot of an open one, with the number of that one's origin. That one lives
 -- over a call or the entry of a handler.
 pub record IsNeededSlot (m : Mach) (r : Reg) : Type 0 where
   pub register : Reg
@@ -96,7 +96,7 @@ pub record IsNeededSlot (m : Mach) (r : Reg) : Type 0 where
 
 -- The bounds on a function with its stores and reloads, by those on the one without: at most a reload for
 -- each operand and a store for each result, each of which reads and writes one register, and for each
--- register at most one more, which stands in its slot.
+-- register at most one more, which is in its slot.
 abbrev pub spilled_size : Size → Size
 spilled_size s =
     record s {
@@ -107,7 +107,7 @@ spilled_size s =
 
 pub record IsChosenKept (m q : Mach) (plan : Plan) : Type 0 where
   pub kept : IsKept m q plan
-  -- the only new registers stand in such slots
+  -- the only new registers are in such slots
   pub slots : (r : Reg) → IsRegister q r → IsRegister m r ⊎ IsNeededSlot m r
   -- at most one reload for each operand, and one store for each place where a register is written
   pub reloads : (i : Instr) (k : ℕ) →

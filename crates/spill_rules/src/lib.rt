@@ -42,7 +42,7 @@ pub fn spilling_makes_one()
     ensures { (m q k : Mach) → IsSpilled m q → IsSpilled m k → q ≡ k }
 {}
 
-/// Law: parameters that stand as the conventions say have fixed places.
+/// Law: parameters that are as the conventions say have fixed places.
 pub fn seated_parameters_are_placed()
     ensures { (m : Mach) → Seated m → ParamsPlaced m }
 {}

@@ -155,7 +155,7 @@ pub one_first : (ws : List ℕ) (l k : ℕ) → is_first ws l ≡ true → is_fi
 one_first [] l k e h = absurd (not_both false e refl)
 one_first (u ∷ us) l k e h = sym (eqb-true u l e) ∙ eqb-true u k h
 
--- ---- the entry's writes stand first
+-- ---- the entry's writes are first
 
 -- what is got is in one part or the other
 got_part : {A : Type 0} (xs ys : List A) (w : ℕ) (x : A) → slice_get (xs ++ ys) w ≡ Some x →

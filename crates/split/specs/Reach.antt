@@ -52,7 +52,7 @@ pub record IsEntry (m : Mach) (t : Writes) (node : place.Place) : Type 0 where
   pub reads : contents node.reads ≡ made_at t (length m.code) m.params
   pub writes : contents node.writes ≡ []
 
--- The sets tell which writes come to each place.
+-- The sets say which writes come to each place.
 pub record AreReaching (m : Mach) (t : Writes) (rows : List (List Bool)) : Type 0 where
   pub sound : (p w : ℕ) → p ≤ length m.code → has (row rows p) w ≡ true →
       (x : Write) × (slice_get (all_of t) w ≡ Some x)

@@ -1,3 +1,3 @@
--- Laws and words of crates below, named once more for what stands above.
+-- Laws and words of crates below, named again for the crates above.
 pub use Rattle.places_rules.proofs.Files.{among_or_not, PutsBoth, cleared, not_cleared, past_same, put_both, values_same}
 pub use Rattle.places_rules.proofs.Raised.{IsRaised, IsSilent, Told, label_silent, told, told_ask, told_jump, told_unwind, try_silent}

@@ -154,7 +154,7 @@ module _ (m : Mach) (names : Naming) (is : IsNaming m names)
       subst (Laid (from_handler l m.code)) (sym (same_handler names l m.code))
       (laid_of (from_handler l m.code) (ending_from_handler l m.code))
 
-  -- the register of this number was live there by its old one, for which this one stands
+  -- the register of this number was live there by its old one, that this one stands for
   pub record WasLive (x : ℕ) (rest : List Instr) : Type 0 where
     pub live : Live m (is.back x) rest
     pub stands : StandsFor x (is.back x) rest

@@ -1,4 +1,4 @@
--- Mach functions whose registers have other numbers, by the place where they stand.
+-- Mach functions whose registers have other numbers, by the place where they are.
 use Rattle.std.specs.Prelude.{ℕ, List, [], ◌∷◌, length, map}
 use Rattle.mach_ir.specs.declared.reg.Reg.{Reg}
 use Rattle.mach_ir.specs.declared.mach.Instr.{Instr}

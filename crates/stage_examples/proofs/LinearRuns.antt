@@ -23,7 +23,7 @@ sum_of_three = refl
 
 -- ---- poison
 
--- what the call's descriptor names stands after it
+-- what the call's descriptor names is after it
 named : lin_run (only 2 (loc.Slot 1)) keeps_block five (Gave (Some (Word 8)) one_block ∷ []) 20 ≡ EndsBy (Gave (Some (Word 5)) one_block) 1 1 32
 named = refl
 
@@ -35,7 +35,7 @@ unnamed = refl
 misnamed : lin_run (only 2 (loc.Slot 0)) keeps_block five (Gave (Some (Word 8)) one_block ∷ []) 20 ≡ IsWrong
 misnamed = refl
 
--- a word stands, named or not; one that is no val is not named
+-- a word is left, named or not; one that is no val is not named
 word_stands : lin_run nothing keeps_word (Word 4 ∷ []) (Gave (Some (Word 8)) no_memory ∷ []) 20 ≡ EndsBy (Gave (Some (Word 4)) no_memory) 1 1 32
 word_stands = refl
 
@@ -59,6 +59,6 @@ call_raises = refl
 raise_caught : lin_run nothing guards_raise five [] 20 ≡ EndsBy (Gave (Some (Word 5)) no_memory) 0 1 48
 raise_caught = refl
 
--- no register stands over the entry of a handler
+-- no register lives over the entry of a handler
 register_lost : lin_run nothing reads_register five [] 20 ≡ IsWrong
 register_lost = refl

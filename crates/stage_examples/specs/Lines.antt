@@ -23,7 +23,7 @@ use Rattle.stage_examples.specs.Registers.{move, constant, computes, load, store
 abbrev pub spot : Loc → Comp → Spot
 spot l c = record { loc = l; comp = c }
 
--- a0, where arguments, results and raised values stand
+-- a0, where arguments, results and raised values are
 abbrev pub a0 : Loc
 a0 = loc.Machine 10
 

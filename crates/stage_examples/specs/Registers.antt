@@ -93,7 +93,7 @@ val n = at n comp.Val loc.Unset
 abbrev pub addr : ℕ → Reg
 addr n = at n comp.Addr loc.Unset
 
--- registers that stand at a1, which an external call destroys, and at s2, which it keeps
+-- registers that are at a1, which an external call destroys, and at s2, which it keeps
 abbrev pub at_a1 : Reg
 at_a1 = at 20 comp.Int (loc.Machine 11)
 

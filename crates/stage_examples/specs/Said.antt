@@ -25,7 +25,7 @@ said (Asking call t) = AsksFor call
 said (Ended doing t) = EndsBy doing (length t.asked) t.units t.need
 said Wrong = IsWrong
 
--- one function of one int stands round the function, and each symbol is its; a frame has 32 bytes
+-- one function of one int is round the function, and each symbol is its; a frame has 32 bytes
 abbrev pub place : Place
 place =
     record {

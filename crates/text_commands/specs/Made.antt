@@ -1,2 +1,2 @@
--- What is made of a file, named once more for what stands above.
+-- What is made of a file, named again for the crates above.
 pub use Rattle.file_compile.specs.Made.{IsMadeFor}

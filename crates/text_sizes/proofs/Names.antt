@@ -431,7 +431,7 @@ val_none t d h = go (is_symbol_token t) (is_integer t) h
     go false true h = let same : Val (integer_value t.text) ≡ d = cc in subst (λ d. datum_bytes d ≡ 0) same refl
     go false false h = absurd (cc)
 
--- the word of an item is its first token, which stands among the bytes
+-- the word of an item is its first token, which is among the bytes
 datum_takes : (t : TokenTree) (w : DataWord) (n : ℕ) → length (string_bytes t.text) ≤ n → Takes (datum_of t w) n Datum
 unfolding datum_of a_token
 datum_takes t item.Define n h = λ u c e. let some = weight_some u in omega (arith, some, h)

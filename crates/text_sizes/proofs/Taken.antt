@@ -35,7 +35,7 @@ pub data PartsOf (s : Sort) : List (Value s) → ℕ → Type 0 where
   no_parts : PartsOf s [] 0
   more_parts : (a : Value s) (others : List (Value s)) (m n : ℕ) → PartOf s a m → PartsOf s others n → PartsOf s (a ∷ others) (m + n)
 
--- every value that the rule gives, n bytes having stood before, is so with the number of all bytes
+-- every value that the rule gives, n bytes having come before, is so with the number of all bytes
 abbrev pub Takes : {s : Sort} → Rule s → ℕ → (Value s → ℕ → Type 0) → Type 0
 Takes (Give s a) n Q = Q a n
 Takes (One s f) n Q = (t : TokenTree) (a : Value s) → f t ≡ Some a → Q a (weight t + n)

@@ -15,7 +15,7 @@ use Rattle.linear_rules.proofs.Walked.{Tail, tail_next, tail_stands, tail_label,
 use Rattle.tidy_rules.proofs.Ends.{tail_length, later_after}
 
 module _ (m : Lin) (once : AllPairs (λ k l. k ≢ l) (labels_in m.code)) (forward : GoesForward m) where
-  -- a label that stands later
+  -- a label that is later
   fewer_after : (l : ℕ) {i : Line} {next : List Line} → Tail (i ∷ next) m.code → IsIn l (labels_in next) → length (after_label l m.code) < suc (length next)
   fewer_after l {i} {next} t z =
       let le = tail_length (tail_label l next) in

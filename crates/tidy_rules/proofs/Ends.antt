@@ -60,7 +60,7 @@ pub pairs_past : (ks ls : List ℕ) → AllPairs Differ (ks ++ ls) → AllPairs 
 pairs_past [] ls h = h
 pairs_past (k ∷ ks) ls h = pairs_past ks ls (pairs_later Differ k (ks ++ ls) h)
 
--- where labels stand once, what is after one is what is after it from any place before it on
+-- where labels occur once, what is after one is what is after it from any place before it on
 pub later_after : (l : ℕ) {ys zs : List Line} → Tail ys zs → AllPairs Differ (labels_in zs) → IsIn l (labels_in ys) → after_label l zs ≡ after_label l ys
 later_after l tail_all once z = refl
 later_after l {ys} (tail_more {j = j} {zs = zs} t) once z = by (has_label l j.op) refl (later_after l t (pairs_past (label_of j.op) (labels_in zs) once) z)
@@ -74,7 +74,7 @@ later_after l {ys} (tail_more {j = j} {zs = zs} t) once z = by (has_label l j.op
     by true e u = absurd (out e)
     by false e u = u
 
--- right after a label that stands once is what is after it
+-- right after a label that occurs once is what is after it
 pub at_label : (l : ℕ) {js zs : List Line} → Tail (bare (flow.Label l) ∷ js) zs → AllPairs Differ (labels_in zs) → after_label l zs ≡ js
 at_label l {js} w once = later_after l w once is_first ∙ ap (λ b. cond b js (after_label l js)) (eq-eqb l l refl)
 

@@ -64,7 +64,7 @@ exit_is l (lin.Op f) args results e = absurd (none-some l e)
 
 -- ---- code
 
--- only labels stand before the line
+-- only labels are before the line
 record StandsAt (code : List Line) (f : Flow) : Type 0 where
   next : List Line
   between : LabelsBetween code (bare f ∷ next)

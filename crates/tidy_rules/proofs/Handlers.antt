@@ -1,4 +1,4 @@
--- The labels of pushed traps stand in the code.
+-- The labels of pushed traps are in the code.
 use Rattle.std.proofs.Common.{◌≡◌, ℕ, zero, suc, List, [], ◌∷◌, refl}
 use Rattle.mach_ir.specs.Acts.{drop_tries}
 use Rattle.lin_ir.specs.Formed.{labels_in, pushes, WellFormed}

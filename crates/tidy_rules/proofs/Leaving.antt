@@ -234,7 +234,7 @@ module _ (m : Lin) (goes : ℕ → Bool) (each : (i : Line) (next : List Line) �
       let a = stayed y.code (h ∷ tries) y.reached j js y.same in
       record { code = after_label h m.code; same = label_rest h; reached = comes_aside a.reached e }
 
-  -- the line that a walk comes to, where it stands in the first code
+  -- the line that a walk comes to, where it is in the first code
   pub source_line : {j : Line} {js : List Line} {tries : List ℕ} → (r : Reached rest (j ∷ js) tries) → Stays (source r).code j js tries
   source_line {j} {js} {tries} r = let y = source r in stayed y.code tries y.reached j js y.same
 

@@ -1,4 +1,4 @@
--- What is live stands at a colour or a slot.
+-- What is live is at a colour or a slot.
 use Rattle.std.proofs.Common.{List, ◌∷◌, ℕ, All}
 use Rattle.bs_words.specs.declared.types.Comp.{Comp}
 use Rattle.bs_words.specs.declared.types.Loc.{Loc}

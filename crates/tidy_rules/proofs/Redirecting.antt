@@ -366,7 +366,7 @@ module _ (m : Lin) (to : ℕ → ℕ) (exits : ℕ → Option ℕ) (each : (l : 
     abbrev at : List Line → Locations → Around → State
     at is f a = record { rest = is; file = f; around = a }
 
-    -- The first comes to the place of the second by labels and jumps, or to an exit while the second stands at one that
+    -- The first comes to the place of the second by labels and jumps, or to an exit while the second is at one that
     -- was a jump.
     data Rel : State → State → Type 0 where
       rel : {is b js : List Line} {f : Locations} {a : Around} → Reached m is a.tries → Quiet m is b → T b ≡ js → Rel (at is f a) (at js f a)

@@ -33,7 +33,7 @@ module _ (c : Place) (m : Lin) (second : State → Step State) (Fair : State →
     first_stuck : {w : Step State} → Arrives IsStuck w
     goes_alone : {x : Step State} {u : State} → Fair u → Arrives x (second u) → Arrives x (Continues u)
 
-  -- The same where the second stands at this state: it waits, or begins with a step.
+  -- The same where the second is at this state: it waits, or begins with a step.
   pub data Answers (u : State) : Step State → Type 0 where
     stays : {s : State} → R s u → Answers u (Continues s)
     stuck : Answers u IsStuck

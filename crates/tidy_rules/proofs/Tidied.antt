@@ -148,7 +148,7 @@ module _ (m : Lin) (to : ℕ → ℕ) (exits : ℕ → Option ℕ) (each : (l : 
   lines_same [] = refl
   lines_same (i ∷ is) = ap suc (lines_same is)
 
-  -- the label to which one goes on stands, and where the first comes later so does it
+  -- the label to which one goes on is there, and where the first comes later so does it
   stands_on : {k n : ℕ} → GoesOnTo m k n → Contains (labels_in m.code) k → Contains (labels_in m.code) n
   stands_on itself c = c
   stands_on (and_on {k = k} {n = n} g p) c =

@@ -1,4 +1,4 @@
--- Loops turned round: where the second function stands while the first stands at a place, where walks come, and what is live.
+-- Loops turned round: where the second function is while the first is at a place, where walks come, and what is live.
 use Rattle.std.proofs.Common.{◌≡◌, ◌≢◌, ℕ, zero, suc, ◌+◌, ◌*◌, ◌≤◌, ◌<◌, Bool, true, false, cond, ◌⊎◌, inl, inr, ⊎_elim, List, [], ◌∷◌, ◌++◌, length, Option, Some, None, refl, sym, ap, ◌∙◌, subst, arith}
 use Rattle.std.proofs.lemmas.Bool.{true≢false}
 use Rattle.std.specs.List.{AllPairs}
@@ -69,7 +69,7 @@ is_pop _ = false
 
 -- ---- places
 
--- A place of the second function, by the code of the first: a line, the label after a branch, a branch that stands again, or
+-- A place of the second function, by the code of the first: a line, the label after a branch, a branch that is repeated, or
 -- the jump after that.
 pub data Where : Type 0 where
   own_place : List Line → Where
@@ -277,9 +277,9 @@ module _ (m r : Lin) (h : Turns m r) (well : WellFormed m) where
   pub at_to : {next : List Line} {t : Turn} (c : Copied next t) → after_label t.head.to R.code ≡ T (after_label t.head.to m.code)
   at_to {next} {t} c = label_turned t.head.to (named_in (head_tail c) (other this))
 
-  -- ---- where the second function stands
+  -- ---- where the second function is
 
-  -- The first stands at the one code, the second at the other.
+  -- The first is at the one code, the second at the other.
   pub data Stand : List Line → List Line → List ℕ → Type 0 where
     image : {is js : List Line} {tries : List ℕ} → T is ≡ js → Stand is js tries
     opened : {i : Line} {is js : List Line} {l : ℕ} {tries : List ℕ} → Tail (i ∷ is) m.code → h.opens (length is) ≡ Some l →

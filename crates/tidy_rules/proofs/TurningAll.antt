@@ -48,7 +48,7 @@ no_label l e = absurd (out e)
     out : None ≡ Some l → ⊥
     out e = cc
 
--- labels that stand are below the first free one
+-- labels that occur are below the first free one
 below_free : {l : ℕ} (ls : List ℕ) → IsIn l ls → l < next_free ls
 below_free {l} [] z = elim z [ ]
 below_free {l} (k ∷ ks) z = by z (λ u. below_free ks u)
@@ -311,7 +311,7 @@ module _ (m : Lin) (free : ℕ) where
             (λ k v. ⊎_elim (λ u. λ same. let y = fresh w u in let a = y.least in absurd (omega (arith, lt, a, same)))
             (λ u. own_differs w first lt (whose next (tail_next w) u)) (split_in (new_after next) (labels_in (L next)) v))
 
--- All exits that lead to branches may be turned at once, where labels stand once.
+-- All exits that lead to branches may be turned at once, where labels occur once.
 pub turns_all : {m : Lin} → WellFormed m → Turns m (turned_all m)
 turns_all {m} well =
     record {

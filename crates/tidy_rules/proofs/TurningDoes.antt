@@ -103,7 +103,7 @@ module _ (m r : Lin) (h : turning.Turns m r) (well : WellFormed m) where
             (at (after_label k Q.code) g b)
         caught k b raise s = rel (image (handler_turned m r h well s)) (by_raise s (walks.raises raise))
 
-    -- a line of its own, where the second stands at what does the same
+    -- a line of its own, where the second is at what does the same
     answer_own : {is ks : List Line} {j : Line} {top : Where} (g : Locations) (a : Around) → Own m r h well is j ks a.tries top → Reached m is a.tries →
         ValsHeld c m (at is g a) → Answer (at (j ∷ ks) g a) (step c m (at is g a))
     answer_own {ks = ks} g a (same {i = i} {next = next} rank moves) reached vals =

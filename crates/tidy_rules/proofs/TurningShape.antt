@@ -282,7 +282,7 @@ module _ (m r : Lin) (h : Turns m r) (regular : IsRegular m) where
   head_found : {next : List Line} {t : Turn} (c : Copied m r h regular.well next t) → exit_code c.line ≡ head_code m r h regular.well c
   head_found c = let e = exit_of m r h regular.well c in ap exit_code e.is ∙ e.leads
 
-  -- the place where the second stands is found by the number of lines that are left
+  -- the place where the second is, is found by the number of lines that are left
   located : {is js : List Line} {tries : List ℕ} (s : Stand m r h regular.well is js tries) → Tail is m.code →
       where_in m.code (length js) ≡ where_of m r h regular.well s
   located (image {is = is} e) w = ap (λ js. where_in m.code (length js)) (sym e) ∙ by is w

@@ -23,7 +23,7 @@ is_landing _ = false
 abbrev pub bare : Flow → Line
 bare f = record { op = lin.Flow f; args = []; results = [] }
 
--- only labels stand between the first code and the second, in which it ends
+-- only labels are between the first code and the second, in which it ends
 pub data LabelsBetween : List Line → List Line → Type 0 where
   none_between : {to : List Line} → LabelsBetween to to
   label_between : {l : ℕ} {next to : List Line} → LabelsBetween next to →

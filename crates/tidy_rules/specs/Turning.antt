@@ -1,4 +1,4 @@
--- Loops that are turned round. Where an exit leads to a branch, the branch stands again right after
+-- Loops that are turned round. Where an exit leads to a branch, the branch is repeated right after
 -- the exit, so that a turn of a loop has no jump back to its test.
 use Rattle.std.specs.Prelude.{◌≡◌, ◌≢◌, ℕ, zero, suc, ◌+◌, ◌*◌, Bool, true, false, cond, ◌||◌, ◌&&◌, nat_eq, nat_le, max, Option, Some, None, List, [], ◌∷◌, ◌++◌, length, AllPairs}
 use Rattle.lin_ir.specs.Formed.{labels_in}
@@ -23,7 +23,7 @@ pub record Head : Type 0 where
   pub on : ℕ
 
 -- What an exit to a branch becomes: it goes to a label right after it, where the test of that
--- branch stands again. Either the test keeps its label, and the other way is a jump, or the other
+-- branch is repeated. Either the test keeps its label, and the other way is a jump, or the other
 -- way round.
 pub record Turn : Type 0 where
   pub here : ℕ
@@ -42,7 +42,7 @@ abbrev pub label_put : Option ℕ → List Line
 label_put None = []
 label_put (Some l) = bare (flow.Label l) ∷ []
 
--- what stands in place of a line
+-- what is in place of a line
 abbrev pub turned_line : Option Turn → Option ℕ → Line → List Line
 turned_line None opened i = i ∷ label_put opened
 turned_line (Some t) opened i =
@@ -72,12 +72,12 @@ pub record Turns (m r : Lin) : Type 0 where
       opens (length next) ≡ Some l → (h : Head) × (i ≡ branch_line h.test h.to h.args)
   pub each : (i : Line) (next : List Line) (t : Turn) → Stands i next m.code →
       turns (length next) ≡ Some t → ExitsToBranch m opens i t.head
-  -- each label stands once
+  -- each label occurs once
   pub labels : AllPairs (λ k l. k ≢ l) (labels_in r.code)
 
 -- ---- which exits are turned
 
--- greater than each label that stands in the code
+-- greater than each label that is in the code
 abbrev pub next_free : List ℕ → ℕ
 next_free [] = 0
 next_free (l ∷ ls) = max (suc l) (next_free ls)
@@ -104,7 +104,7 @@ abbrev pub comes_first : ℕ → List Line → Bool
 comes_first l [] = false
 comes_first l (i ∷ next) = has_label l i.op
 
--- a jump or an exit: control does not come to what stands right after it
+-- a jump or an exit: control does not come to what is right after it
 abbrev pub goes_away : LinOp → Bool
 goes_away (lin.Flow (flow.Jump l)) = true
 goes_away (lin.Flow (flow.Exit l)) = true
@@ -116,14 +116,14 @@ abbrev pub stands_first : ℕ → List Line → Bool
 stands_first l [] = false
 stands_first l (i ∷ next) = has_label l i.op || (goes_away i.op && comes_first l next)
 
--- The branch to which an exit before this code leads, but not where it stands there already: right
+-- The branch to which an exit before this code leads, but not where it is there already: right
 -- after the label that comes next.
 abbrev pub exit_head : Lin → ℕ → LinOp → (args results : List Spot) → List Line → Option Head
 exit_head m free (lin.Flow (flow.Exit l)) [] [] next =
     cond (stands_first l next) None (head_at free (after_label l m.code))
 exit_head m free _ args results next = None
 
--- The label of the branch is kept where it stands before the exit: there, most often, the loop goes
+-- The label of the branch is kept where it is before the exit: there, most often, the loop goes
 -- on.
 abbrev pub turn_for : Lin → ℕ → List Line → Option Head → Option Turn
 turn_for m free next None = None

@@ -5,7 +5,7 @@ use Rattle.cmm_lex.specs.Token.{TokenTree, token_view}
 use Rattle.cmm_lex.proofs.Places.{Place, Ends}
 use Rattle.cmm_lex.proofs.lexer.lex.Given as goal
 
--- what the rest is cut into stands after the tokens so far
+-- what the rest is cut into is after the tokens so far
 abbrev pub invariant-loop-rest : goal.invariant-loop-rest
 invariant-loop-rest l =
     record {

@@ -7,7 +7,7 @@ use Rattle.cmm_parts.specs.Results.{trees}
 use Rattle.cmm_parts.proofs.Lists.{Going}
 use Rattle.cmm_reader.proofs.data.data_item_list.Given as goal
 
--- the items so far stand before those that the rest gives
+-- the items so far are before those that the rest gives
 abbrev pub invariant-loop-first : goal.invariant-loop-first
 invariant-loop-first l =
     Going is_close (reading a_data_item l.depth (forms_below l.depth)) (trees l.source l.tokens) (map data_item_view l.items.items) (trees l.source l.rest)

@@ -6,7 +6,7 @@ use Rattle.cmm_parts.specs.Results.{trees}
 use Rattle.cmm_reader.proofs.ItemLists.{ItemsGoing}
 use Rattle.cmm_reader.proofs.items.items.Given as goal
 
--- the items so far stand before those that the rest gives
+-- the items so far are before those that the rest gives
 abbrev pub invariant-loop-rest : goal.invariant-loop-rest
 invariant-loop-rest l =
     record {
