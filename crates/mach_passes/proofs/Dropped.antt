@@ -3,9 +3,8 @@ use Rattle.std.proofs.Common.{◌≡◌, ℕ, suc, ◌≤◌, Bool, true, false,
 use Rattle.std.specs.List.{Contains}
 use Rattle.std.specs.Prelude.{slice_index_or}
 use Rattle.std.proofs.lemmas.List.Elements.{Contains-get_or, All-contains}
-use Rattle.dead_rules.specs.Dropped.{without, dropped, AreDead, IsDropped}
-use Rattle.dead_rules.proofs.Live.{IsMain, was_main, was_register}
-use Rattle.dead_rules.proofs.Text.{Fate, falls, remains, fate, keeps_marks}
+use Rattle.hoist_rules.specs.Known.{without, dropped, AreDead, IsDropped}
+use Rattle.hoist_rules.proofs.Known.{IsMain, was_main, was_register, Fate, falls, remains, fate, keeps_marks}
 use Rattle.mach_ir.specs.Formed.{is_exit, WellFormed}
 use Rattle.mach_ir.specs.Meaning.{tries_at, tries_past}
 use Rattle.mach_ir.specs.declared.mach.Instr.{Instr}

@@ -12,8 +12,8 @@ use Rattle.copy_rules.proofs.Form as copies
 use Rattle.copy_rules.proofs.One.{one_propagated}
 use Rattle.copy_rules.proofs.Whole.{propagated_kept}
 use Rattle.copy_rules.specs.Propagated.{IsPropagated}
-use Rattle.dead_rules.proofs.Whole.{dropped_kept, one_dropped}
-use Rattle.dead_rules.specs.Dropped.{IsDropped}
+use Rattle.hoist_rules.proofs.Known.{dropped_kept, one_dropped}
+use Rattle.hoist_rules.specs.Known.{IsDropped}
 use Rattle.hoist_rules.proofs.Chosen.{constants_first_kept, one_constants_first}
 use Rattle.hoist_rules.specs.Chosen.{HasConstantsFirst}
 use Rattle.mach_ir.proofs.Keeping.{keeps_then}

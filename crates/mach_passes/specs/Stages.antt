@@ -1,7 +1,7 @@
 -- What is between the passes before register allocation.
 use Rattle.combine_rules.specs.Combined.{combined}
 use Rattle.copy_rules.specs.Propagated.{IsPropagated}
-use Rattle.dead_rules.specs.Dropped.{IsDropped}
+use Rattle.hoist_rules.specs.Known.{IsDropped}
 use Rattle.hoist_rules.specs.Chosen.{HasConstantsFirst}
 use Rattle.mach_ir.specs.declared.mach.Mach.{Mach}
 use Rattle.repeat_rules.specs.Repeated.{IsRepeated}

@@ -1,0 +1,4 @@
+-- Laws and words of crates below, named again for the crates above.
+pub use Rattle.dead_rules.proofs.Live.{IsMain, was_main, was_register}
+pub use Rattle.dead_rules.proofs.Text.{Fate, falls, fate, keeps_marks, remains}
+pub use Rattle.dead_rules.proofs.Whole.{dropped_kept, one_dropped}
