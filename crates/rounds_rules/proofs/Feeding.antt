@@ -11,12 +11,11 @@ use Rattle.mach_ir.specs.declared.op.CopyKind.{CopyKind}
 use Rattle.mach_ir.specs.declared.op.CopyKind.TheVariants as copy
 use Rattle.mach_ir.specs.declared.reg.Reg.{Reg}
 use Rattle.mach_ir.specs.declared.mach.Instr.{Instr}
-use Rattle.pass_rules.specs.Measures.{code_words, instr_words, copy_words}
-use Rattle.pass_rules.proofs.Words.{at_most_copy, words_append}
+use Rattle.reload_rules.specs.Known.{code_words, instr_words, copy_words, copied}
+use Rattle.reload_rules.proofs.Known.{at_most_copy, words_append}
 use Rattle.places_rules.specs.Places.{Placing, placed, all_placed, placed_instr, placed_code}
 use Rattle.places_rules.proofs.Open.{machine_open, slot_open, machine_slot}
 use Rattle.reload_rules.specs.Reloaded.{is_in_slot, is_renewed, fresh, renewed, reloads, spills}
-use Rattle.reload_rules.specs.Known.{copied}
 use Rattle.mach_ir.specs.Places.{same_comp}
 use Rattle.bs_words.proofs.Places.{same_slot}
 
