@@ -33,9 +33,7 @@ use Rattle.lin_ir.specs.declared.lin.Lin.{Lin}
 use Rattle.lin_ir.specs.declared.lin.Line.{Line}
 use Rattle.line_calls.specs.Points.{AreMarked, EntriesStand, IsTurn, PointStands}
 use Rattle.line_calls.proofs.Shown.{each_at}
-use Rattle.line_stands.specs.Lines.{FreeStands, LineStands, Nowhere, OffsetFits}
-use Rattle.line_stands.specs.Names.{IsRowAt, NamesStand}
-use Rattle.line_stands.specs.Parts.{PartStands, label_place}
+use Rattle.line_calls.specs.Known.{FreeStands, LineStands, Nowhere, OffsetFits, IsRowAt, NamesStand, PartStands, label_place}
 use Rattle.linear_machine.specs.Relation.{Laid, StandsFor}
 use Rattle.linear_machine.specs.View.{Fixed}
 use Rattle.linear_rules.proofs.Homes.{IsIn, in_of}
