@@ -1,2 +1,2 @@
 -- Words of crates below, named again for the crates above.
-pub use Rattle.tidy_rules.specs.Regular.{IsRegular, IsTidy}
+pub use Rattle.linear_tidy.specs.Known.{IsRegular, IsTidy}

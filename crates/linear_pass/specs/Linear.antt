@@ -20,8 +20,7 @@ use Rattle.lin_ir.specs.declared.lin.Lin.{Lin}
 use Rattle.linear_rules.specs.Keeps.{KeepsReached}
 use Rattle.linear_rules.specs.Lowered.{lowered}
 use Rattle.linear_rules.specs.Sizes.{tries_ended}
-use Rattle.tidy_rules.specs.Regular.{IsRegular, IsTidy}
-use Rattle.tidy_rules.specs.Tidied.{IsTidied}
+use Rattle.linear_tidy.specs.Known.{IsRegular, IsTidy, IsTidied}
 
 -- ---- slots
 

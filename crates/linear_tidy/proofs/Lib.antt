@@ -6,3 +6,4 @@ pub mod Loops
 pub mod Sizes
 pub mod Flagged
 pub mod Leading
+pub mod Known

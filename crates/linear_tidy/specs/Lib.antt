@@ -3,3 +3,4 @@ pub mod Sizes
 pub mod Forms
 pub mod Targets
 pub mod Loops
+pub mod Known
