@@ -4,7 +4,7 @@ use Rattle.std.specs.List.{All, Contains}
 use Rattle.std.specs.Prelude.{slice_index_or}
 use Rattle.std.proofs.lemmas.List.Elements.{Contains-get_or, All-contains}
 use Rattle.std.proofs.Math.Nat.{le_of_eq, zero-add}
-use Rattle.linear_rules.specs.Lowered.{same_spot}
+use Rattle.pass_rules.specs.Known.{same_spot}
 use Rattle.mach_ir.specs.Formed.{is_exit, IsFormed, WellFormed}
 use Rattle.mach_ir.specs.Meaning.{passes_frame, tries_at, tries_past}
 use Rattle.mach_ir.specs.Placed.{WellPlaced}
