@@ -3,17 +3,14 @@ use Rattle.std.proofs.Common.{◌≡◌, ℕ, suc, ◌≤◌, Bool, true, false,
 use Rattle.std.specs.List.{Contains}
 use Rattle.std.specs.Prelude.{slice_index_or}
 use Rattle.std.proofs.lemmas.List.Elements.{Contains-get_or, All-contains}
-use Rattle.hoist_rules.specs.Known.{without, dropped, AreDead, IsDropped}
-use Rattle.hoist_rules.proofs.Known.{IsMain, was_main, was_register, Fate, falls, remains, fate, keeps_marks}
+use Rattle.hoist_rules.specs.Known.{without, dropped, AreDead, IsDropped, OffsetFits, EndsInReturn, at_return, further, IsCarried, code_words, code_points, exits, other_operands}
+use Rattle.hoist_rules.proofs.Known.{IsMain, was_main, was_register, Fate, falls, remains, fate, keeps_marks, exits_both}
 use Rattle.mach_ir.specs.Formed.{is_exit, WellFormed}
 use Rattle.mach_ir.specs.Meaning.{tries_at, tries_past}
 use Rattle.mach_ir.specs.declared.mach.Instr.{Instr}
 use Rattle.mach_ir.specs.declared.mach.Mach.{Mach}
 use Rattle.mach_laws.specs.Expand.{expand}
 use Rattle.mach_laws.proofs.Places.{tries_expand}
-use Rattle.pass_rules.specs.Carried.{OffsetFits, EndsInReturn, at_return, further, IsCarried}
-use Rattle.pass_rules.specs.Measures.{code_words, code_points, exits, other_operands}
-use Rattle.pass_rules.proofs.Words.{exits_both}
 use Rattle.split_rules.proofs.Formed.{contains_of, stands_in}
 
 exits_later : (b : Bool) (n : ℕ) → n ≤ cond b (suc n) n

@@ -5,7 +5,7 @@ use Rattle.std.specs.List.{Contains}
 use Rattle.copy_rules.proofs.Form.{Fits, fits, alike}
 use Rattle.copy_rules.specs.Kept.{IsKept}
 use Rattle.copy_rules.specs.Propagated.{again, IsPropagated}
-use Rattle.pass_rules.specs.Known.{same_spot}
+use Rattle.hoist_rules.specs.Known.{same_spot, IsCarried, copy_words, words_with, operands_with}
 use Rattle.mach_ir.specs.Walks.{IsRegister}
 use Rattle.mach_ir.specs.declared.op.Op.TheVariants as op
 use Rattle.mach_ir.specs.declared.op.Pure.TheVariants as pure
@@ -14,8 +14,6 @@ use Rattle.mach_ir.specs.declared.mach.Instr.{Instr}
 use Rattle.mach_ir.specs.declared.mach.Mach.{Mach}
 use Rattle.mach_ir.specs.declared.mach.MachOp.{MachOp}
 use Rattle.mach_ir.specs.declared.mach.MachOp.TheVariants as mach
-use Rattle.pass_rules.specs.Carried.{IsCarried}
-use Rattle.pass_rules.specs.Measures.{copy_words, words_with, operands_with}
 use Rattle.repeat_rules.proofs.OneForOne.{tries_same}
 use Rattle.bs_words.proofs.Lists.{first_in}
 use Rattle.mach_passes.proofs.Replaced.{Replaces, replaced_carried}

@@ -4,7 +4,7 @@ use Rattle.std.specs.List.{All, Contains}
 use Rattle.std.specs.Prelude.{slice_index_or}
 use Rattle.std.proofs.lemmas.List.Elements.{Contains-get_or, All-contains}
 use Rattle.std.proofs.Math.Nat.{le_of_eq, zero-add}
-use Rattle.pass_rules.specs.Known.{same_spot}
+use Rattle.hoist_rules.specs.Known.{same_spot, OffsetFits, EndsInReturn, at_return, further, IsCarried, copy_words, instr_words, code_words, one_if, code_points, exits, operands_with, other_operands}
 use Rattle.mach_ir.specs.Formed.{is_exit, IsFormed, WellFormed}
 use Rattle.mach_ir.specs.Meaning.{passes_frame, tries_at, tries_past}
 use Rattle.mach_ir.specs.Placed.{WellPlaced}
@@ -21,10 +21,7 @@ use Rattle.mach_ir.specs.declared.mach.Mach.{Mach}
 use Rattle.mach_laws.specs.Expand.{expand}
 use Rattle.mach_laws.proofs.Places.{tries_expand}
 use Rattle.mach_laws.proofs.Instructions.{return_results}
-use Rattle.pass_rules.specs.Carried.{OffsetFits, EndsInReturn, at_return, further, IsCarried}
-use Rattle.pass_rules.specs.Measures.{copy_words, instr_words, code_words, one_if, code_points, exits, operands_with, other_operands}
-use Rattle.pass_rules.proofs.Words.{at_most_copy}
-use Rattle.pass_rules.proofs.Carried.{ends_second}
+use Rattle.hoist_rules.proofs.Known.{at_most_copy, ends_second}
 use Rattle.places_rules.proofs.Open.{slot_open}
 use Rattle.places_rules.specs.Places.{ColoursLow}
 use Rattle.split_rules.proofs.Formed.{contains_of, stands_in}

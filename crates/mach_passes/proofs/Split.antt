@@ -5,7 +5,7 @@ use Rattle.std.specs.List.{Contains}
 use Rattle.std.specs.Prelude.{nat_lt}
 use Rattle.std.proofs.lemmas.List.{length-map}
 use Rattle.bs_words.specs.declared.types.Loc.TheVariants as loc
-use Rattle.pass_rules.specs.Known.{same_spot}
+use Rattle.hoist_rules.specs.Known.{same_spot, IsCarried, copy_words, mark_words, words_with, operands_with}
 use Rattle.mach_ir.specs.Formed.{WellFormed}
 use Rattle.mach_ir.specs.Meaning.{killed, tries_at}
 use Rattle.mach_ir.specs.Placed.{WellPlaced}
@@ -20,8 +20,6 @@ use Rattle.mach_ir.specs.declared.mach.Mach.{Mach}
 use Rattle.mach_laws.specs.Expand.{expand}
 use Rattle.mach_laws.proofs.Among.{left_among, among_of}
 use Rattle.mach_laws.proofs.Places.{args_in, results_in}
-use Rattle.pass_rules.specs.Carried.{IsCarried}
-use Rattle.pass_rules.specs.Measures.{copy_words, mark_words, words_with, operands_with}
 use Rattle.places_rules.proofs.Lists.{was}
 use Rattle.places_rules.specs.Places.{ColoursLow}
 use Rattle.repeat_rules.proofs.OneForOne.{one_each}

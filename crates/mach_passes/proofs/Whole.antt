@@ -13,7 +13,7 @@ use Rattle.copy_rules.proofs.One.{one_propagated}
 use Rattle.copy_rules.proofs.Whole.{propagated_kept}
 use Rattle.copy_rules.specs.Propagated.{IsPropagated}
 use Rattle.hoist_rules.proofs.Known.{dropped_kept, one_dropped}
-use Rattle.hoist_rules.specs.Known.{IsDropped}
+use Rattle.hoist_rules.specs.Known.{IsDropped, IsCarried, copy_words, code_words}
 use Rattle.hoist_rules.proofs.Chosen.{constants_first_kept, one_constants_first}
 use Rattle.hoist_rules.specs.Chosen.{HasConstantsFirst}
 use Rattle.mach_ir.proofs.Keeping.{keeps_then}
@@ -26,8 +26,6 @@ use Rattle.mach_ir.specs.Walks.{InCode, in_args, in_results, further, IsRegister
 use Rattle.mach_ir.specs.declared.reg.Reg.{Reg}
 use Rattle.mach_ir.specs.declared.mach.Instr.{Instr}
 use Rattle.mach_ir.specs.declared.mach.Mach.{Mach}
-use Rattle.pass_rules.specs.Carried.{IsCarried}
-use Rattle.pass_rules.specs.Measures.{copy_words, code_words}
 use Rattle.sink_rules.proofs.Chosen as sinking
 use Rattle.sink_rules.proofs.Chosen.{one_sunk}
 use Rattle.sink_rules.specs.Chosen.{IsSunk}

@@ -9,8 +9,7 @@ use Rattle.mach_ir.specs.Seats.{Seated}
 use Rattle.mach_ir.specs.Sizes.{Size, HasSize, OpenAtMost, operand_count}
 use Rattle.mach_ir.specs.Walks.{NoAddrLive}
 use Rattle.mach_ir.specs.declared.mach.Mach.{Mach}
-use Rattle.pass_rules.specs.Carried.{IsCarried}
-use Rattle.pass_rules.specs.Measures.{copy_words}
+use Rattle.hoist_rules.specs.Known.{IsCarried, copy_words}
 use Rattle.places_rules.specs.Places.{ColoursLow}
 use Rattle.split_rules.specs.Split.{IsSplit}
 use Rattle.mach_passes.specs.Stages.{HasSlots}
