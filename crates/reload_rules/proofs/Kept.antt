@@ -38,7 +38,7 @@ use Rattle.mach_laws.proofs.Files.{put_other}
 use Rattle.places_rules.proofs.Files.{past_same, cleared, not_cleared, among_or_not, put_here, put_both}
 use Rattle.places_rules.proofs.Raised.{IsRaised, Told, told_jump, told_unwind, told_ask, IsSilent, told, label_silent, try_silent}
 use Rattle.liveness.proofs.Bounds.{killed_is_colour}
-use Rattle.split_rules.proofs.Formed.{contains_of}
+use Rattle.spill_rules.proofs.Known.{contains_of}
 use Rattle.spill_rules.specs.Spilled.{copied}
 use Rattle.spill_rules.proofs.Kept.{values_held, FitsIn, put_fits, put_holds, clear_fits, frame_fits}
 use Rattle.reload_rules.specs.Reloaded.{reads_registers, writes_registers, is_renewed, fresh, number_after, reloads, spills}

@@ -28,7 +28,7 @@ use Rattle.places_rules.specs.Places.{ColoursLow}
 use Rattle.places_rules.proofs.Open.{machine_open}
 use Rattle.places_rules.proofs.Lists.{was}
 use Rattle.places_rules.proofs.Whole.{AreRegisters, FixedSeats, fixed_in_order, fixed_after_first, fixed_operands, fixed_results, tail_fixed, head_fixed}
-use Rattle.split_rules.proofs.Formed.{contains_of}
+use Rattle.spill_rules.proofs.Known.{contains_of}
 use Rattle.spill_rules.specs.Spilled.{copied}
 use Rattle.spill_rules.proofs.Chosen.{no_result}
 use Rattle.reload_rules.specs.Reloaded.{reads_registers, writes_registers, is_in_slot, is_renewed, fresh, number_after, renewed}

@@ -21,7 +21,7 @@ use Rattle.mach_laws.proofs.Places.{label_expand, handler_expand, ending_label, 
 use Rattle.pass_rules.specs.Measures.{other_operands}
 use Rattle.places_rules.specs.Places.{IsSlot}
 use Rattle.places_rules.proofs.Open.{slot_open}
-use Rattle.split_rules.proofs.Formed.{contains_of}
+use Rattle.spill_rules.proofs.Known.{contains_of}
 use Rattle.spill_rules.specs.Spilled.{copied}
 use Rattle.reload_rules.specs.Kept.{with_copies}
 use Rattle.reload_rules.specs.Reloaded.{reads_registers, writes_registers, is_in_slot, is_renewed, fresh, number_after, renewed, any_renewed, needs_registers, any_needs}
