@@ -7,3 +7,4 @@ pub mod Acts
 pub mod Descriptors
 pub mod Example
 pub mod Once
+pub mod Known
