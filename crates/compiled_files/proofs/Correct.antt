@@ -52,7 +52,7 @@ use Rattle.linking_machine.specs.Compiled.{IsCompiled}
 use Rattle.linking_machine.specs.Emitted.{BeginsFree, FollowsLine, IsEmitted}
 use Rattle.linking_machine.specs.Standing.{fixed_of}
 use Rattle.linking_machine.proofs.Compiled.{bases_hold, compiled_correct, compiled_in_need}
-use Rattle.linking_stages.specs.Stages.{linear_program}
+use Rattle.linking_machine.specs.Known.{linear_program}
 use Rattle.function_stands.specs.Compiled.{IsImageOf}
 use Rattle.function_stands.specs.Functions.{FunctionStands, entry_place}
 use Rattle.function_stands.proofs.Acting.{some_word}

@@ -27,8 +27,8 @@ use Rattle.tidy_rules.proofs.Turns.{Turns, goes_in, exits_in, jumps_in, unwinds_
 use Rattle.function_stands.specs.Known.{IsReadyFor}
 use Rattle.function_stands.proofs.Handlers.{pushed, pushed_enters}
 use Rattle.linking.specs.Pace.{IsReached, LeadsTo, at_start, behind, by_step, continues, deepens, pays}
-use Rattle.linking_stages.specs.Stages.{linear_program}
-use Rattle.linking_stages.proofs.Walking.{reached_walks}
+use Rattle.linking_machine.specs.Known.{linear_program}
+use Rattle.linking_machine.proofs.Known.{reached_walks}
 
 -- ---- what is raised
 

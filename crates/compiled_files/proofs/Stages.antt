@@ -29,7 +29,7 @@ use Rattle.first_statics.proofs.Known.{accepted_keeps, accepted_proper, front_se
 use Rattle.cmm_walks.specs.AddrLive.{IsLiveIn}
 use Rattle.linking.specs.Keeps.{alone_in}
 use Rattle.linking.specs.Program.{place_in, setting_in}
-use Rattle.linking_stages.specs.Chain.{AreLowered, HoldsWords, IsGivenWords, IsSelected, SelectedSo}
+use Rattle.linking_machine.specs.Known.{AreLowered, HoldsWords, IsGivenWords, IsSelected, SelectedSo}
 use Rattle.compiled_files.specs.Stages.{most_nodes, selected_in, selected_of}
 
 -- ---- nodes
