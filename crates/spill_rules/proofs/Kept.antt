@@ -32,8 +32,7 @@ use Rattle.mach_laws.proofs.Places.{ending_next, ending_label, ending_land, endi
 use Rattle.mach_laws.proofs.Simulate.{Agrees}
 use Rattle.mach_laws.proofs.Among.{left_among, right_among, split_among, number_among, among_of}
 use Rattle.mach_laws.proofs.Files.{put_other}
-use Rattle.places_rules.proofs.Files.{values_same, past_same, cleared, not_cleared, among_or_not, put_here, PutsBoth, put_both}
-use Rattle.places_rules.proofs.Raised.{IsRaised, Told, told_jump, told_unwind, told_ask, IsSilent, told, label_silent, try_silent}
+use Rattle.split_rules.proofs.Known.{values_same, past_same, cleared, not_cleared, among_or_not, put_here, PutsBoth, put_both, IsRaised, Told, told_jump, told_unwind, told_ask, IsSilent, told, label_silent, try_silent}
 use Rattle.split_rules.specs.Writes.{from_entry, past, past_raise}
 use Rattle.liveness.proofs.Bounds.{killed_is_colour}
 use Rattle.split_rules.proofs.Formed.{contains_of}
