@@ -27,7 +27,8 @@ use Rattle.emit_rules.specs.Entry.{Frame}
 use Rattle.emit_rules.specs.Instructions.{operation, load, skip, ecall}
 use Rattle.emit_rules.specs.Memory.{address_offset, load_width, load_part, store_width, store_part, allocation_service, ask, reserved, addresses, alloc_part}
 use Rattle.emit_rules.specs.Slots.{first, second, register_of, target}
-use Rattle.emit_rules.proofs.Known.{load_inv, store_inv, length_comps}
+use Rattle.emit_rules.proofs.Known.{length_comps}
+use Rattle.mach_ir.proofs.Forms.{load_inv, store_inv}
 use Rattle.laid_parts.specs.Laid.{lies_at, lie_at, NamesSlots}
 use Rattle.laid_parts.proofs.Registers.{or_turned}
 use Rattle.laid_parts.proofs.Words.{Chunk, Clear, Part, joined, same, then_none, either, nothing, at_sp, at_end, is_unknown, is_t1, is_t2, is_sp}

@@ -13,3 +13,4 @@ mod lines;
 pub use descr::Descr;
 pub use lin::{Flow, Lin, LinOp, Line, Spot};
 pub use lines::text;
+pub use mach_ir::{External, Label, Seq};

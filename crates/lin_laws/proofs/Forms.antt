@@ -3,35 +3,13 @@ use Rattle.std.proofs.Common.{◌≡◌, ℕ, List, [], ◌∷◌, refl, suc, le
 use Rattle.std.proofs.lemmas.Bool.{true≢false, eqb-true}
 use Rattle.bs_words.specs.declared.types.Comp.{Comp}
 use Rattle.bs_words.specs.declared.types.Loc.{Loc}
-use Rattle.mach_ir.specs.Forms.{HasForm, symbol, copies, loads, stores, operates, a_register, IsTested}
-use Rattle.mach_ir.specs.declared.op.Op.TheVariants as op
-use Rattle.mach_ir.specs.declared.op.Pure.TheVariants as pure
-use Rattle.mach_ir.specs.declared.op.Access.TheVariants as access
-use Rattle.mach_ir.specs.declared.op.Right.TheVariants as right
+use Rattle.lin_ir.specs.Known.{IsTested}
 use Rattle.lin_ir.specs.Formed.{comps, FlowHasForm, label_form, jump_form, exit_form, branch_form, switch_form, push_form, pop_form, enter_form}
 use Rattle.lin_ir.specs.declared.lin.Spot.{Spot}
 use Rattle.lin_ir.specs.declared.lin.Flow.TheVariants as flow
 use Rattle.lin_ir.specs.Meaning.{same_loc}
 use Rattle.lin_ir.specs.Descriptors.{ComesBefore, register_first, rising}
 use Rattle.bs_words.specs.declared.types.Loc.TheVariants as loc
-
-pub symbol_inv : (name : List ℕ) (xs ys : List Comp) → HasForm (op.Pure (pure.Symbol name)) xs ys → (xs ≡ []) × ((u : Comp) × (ys ≡ u ∷ []))
-symbol_inv name xs ys (symbol {to = u}) = (refl, (u, refl))
-
-pub copy_inv : (kind : _) (xs ys : List Comp) → HasForm (op.Pure (pure.Copy kind)) xs ys → (t : Comp) × (u : Comp) × (xs ≡ t ∷ []) × (ys ≡ u ∷ [])
-copy_inv kind xs ys (copies {from = t} {to = u}) = (t, u, refl, refl)
-
-pub load_inv : (k : _) (offset : ℕ) (xs ys : List Comp) → HasForm (op.Access (access.Load k offset)) xs ys →
-    (t : Comp) × (u : Comp) × (xs ≡ t ∷ []) × (ys ≡ u ∷ [])
-load_inv k offset xs ys (loads {address = t} {to = u}) = (t, u, refl, refl)
-
-pub store_inv : (k : _) (offset : ℕ) (xs ys : List Comp) → HasForm (op.Access (access.Store k offset)) xs ys →
-    (t : Comp) × (u : Comp) × (xs ≡ t ∷ u ∷ []) × (ys ≡ [])
-store_inv k offset xs ys (stores {address = t} {value = u}) = (t, u, refl, refl)
-
-pub register_inv : (f : _) (xs ys : List Comp) → HasForm (op.Pure (pure.Operator f right.Register)) xs ys →
-    (t : Comp) × (u : Comp) × (o : Comp) × (xs ≡ t ∷ u ∷ []) × (ys ≡ o ∷ [])
-register_inv f xs ys (operates {left = t} {to = o} (a_register {t = u})) = (t, u, o, refl, refl)
 
 pub length_comps : (ss : List Spot) → length (comps ss) ≡ length ss
 length_comps [] = refl

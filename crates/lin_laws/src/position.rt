@@ -1,6 +1,6 @@
 //! Where a walk of a Linear function is.
 
-use mach_ir::Seq;
+use lin_ir::Seq;
 
 /// A place of a walk, with the traps that are pushed there.
 #[derive(Clone, Drop)]

@@ -42,7 +42,8 @@ use Rattle.linear_machine.proofs.Rows.{immediate_small}
 use Rattle.mach_ir.proofs.Immediates.{immediate_word}
 use Rattle.line_stands.specs.Lines.{LineStands}
 use Rattle.line_stands.specs.Parts.{PartStands}
-use Rattle.lin_laws.proofs.Forms.{symbol_inv, copy_inv, load_inv, store_inv, register_inv, label_inv, jump_inv, exit_inv, branch_inv, switch_inv}
+use Rattle.lin_laws.proofs.Forms.{label_inv, jump_inv, exit_inv, branch_inv, switch_inv}
+use Rattle.mach_ir.proofs.Forms.{symbol_inv, copy_inv, load_inv, store_inv, register_inv}
 use Rattle.line_values.specs.Followed.{BranchesAreFollowed, Followed, FollowsBranch, IsPlain, plain_pure, plain_load, plain_store, plain_check, plain_label, plain_jump, plain_exit, plain_branch, plain_switch}
 use Rattle.layout_rules.specs.Laid.{address_of_place}
 use Rattle.line_values.proofs.Checking.{check_line, check_with_line}

@@ -3,3 +3,4 @@ pub mod Keeping
 pub mod Sums
 pub mod Labels
 pub mod Immediates
+pub mod Forms

@@ -1,8 +1,7 @@
 //! Pieces of code.
 
 use bs_words::Name;
-use lin_ir::Descr;
-use mach_ir::{External, Label, Seq};
+use lin_ir::{Descr, External, Label, Seq};
 use rv_isa::{Condition, Instr, Register};
 
 /// An instruction, some instructions whose target is named, or a mark.
