@@ -1,5 +1,5 @@
 //! The service from the choice of new places on, on the parts of a machine.
-ghost use Rattle.std.specs.Prelude.{◌≡◌, ◌≤◌, ◌<◌, ◌/◌, ℕ, ◌%◌, ◌^◌, true, length, slice_index, map, Some, List};
+ghost use Rattle.std.specs.Prelude.{◌≡◌, ◌≤◌, ◌<◌, ◌/◌, ℕ, ◌%◌, slice_index, map, Some, List};
 ghost use Rattle.rv_machine.specs.Hart.{Placed};
 ghost use Rattle.std.specs.List.{AllByRecursion};
 ghost use Rattle.std.specs.Vec.{vec_capacity};

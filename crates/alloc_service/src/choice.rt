@@ -1,5 +1,5 @@
 //! Which new starts a service gives to the blocks.
-ghost use Rattle.std.specs.Prelude.{◌≡◌, ◌≢◌, ◌≤◌, ◌*◌, [], true, false, length};
+ghost use Rattle.std.specs.Prelude.{◌≡◌, ◌≢◌, ◌≤◌, [], true, false, length};
 ghost use Rattle.std.specs.List.{AllByRecursion, list_all};
 ghost use Rattle.std.specs.Vec.{vec_capacity};
 ghost use Rattle.rv_machine.specs.Marks.{IsClean};

@@ -1,7 +1,7 @@
 //! Whether a plan is valid: each word of the new places is claimed in the table, and none twice.
-ghost use Rattle.std.specs.Prelude.{◌≡◌, ◌≢◌, ℕ, ◌+◌, ◌-◌, ◌*◌, ◌%◌, ◌^◌, ◌≤◌, ◌<◌, true, false, cond, length, IsTrue, ◌↔◌};
+ghost use Rattle.std.specs.Prelude.{◌≡◌, ◌≢◌, ℕ, ◌+◌, ◌-◌, ◌*◌, ◌%◌, ◌^◌, ◌≤◌, ◌<◌, true, false, length, IsTrue, ◌↔◌};
 ghost use Rattle.std.specs.List.{AllByRecursion, list_all};
-ghost use Rattle.rv_machine.specs.Marks.{IsClean, mark_at, place_of};
+ghost use Rattle.rv_machine.specs.Marks.{IsClean, mark_at};
 ghost use Rattle.rv_machine.specs.Placement.{placed_at, is_in_heap, are_apart, is_valid};
 ghost use Rattle.alloc_service.specs.Forward.{IsSmall, MarksWithin, covers};
 

@@ -1,8 +1,7 @@
 //! The table while blocks move: at the old start of each it has the new one.
-ghost use Rattle.std.specs.Prelude.{◌≡◌, ◌≤◌, length, true};
-ghost use Rattle.std.specs.List.{AllByRecursion, list_all};
+ghost use Rattle.std.specs.Prelude.{◌≡◌, length};
+ghost use Rattle.std.specs.List.{AllByRecursion};
 ghost use Rattle.rv_machine.specs.Marks.{IsClean};
-ghost use Rattle.rv_machine.specs.Placement.{is_in_heap, placed_at};
 ghost use Rattle.alloc_service.specs.Forward.{IsForward, IsPlaced, forward};
 
 use rv_machine::{BlockPlace, Table};

@@ -1,5 +1,5 @@
 //! The services that move the blocks.
-ghost use Rattle.std.specs.Prelude.{◌≡◌, ◌≤◌, ◌<◌, ◌-◌, ◌^◌, suc};
+ghost use Rattle.std.specs.Prelude.{◌≡◌, ◌≤◌, ◌<◌, ◌-◌, ◌^◌};
 ghost use Rattle.rv_machine.specs.Allocation.{allocated, is_request};
 ghost use Rattle.rv_machine.specs.FrameCalls.{collected};
 ghost use Rattle.rv_machine.specs.Observation.{blocks_at};

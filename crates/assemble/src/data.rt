@@ -1,5 +1,5 @@
 //! Static data: its bytes, its symbols and its root cells.
-ghost use Rattle.std.specs.Prelude.{◌≡◌, ◌++◌, None, map, IfOk, OnOk};
+ghost use Rattle.std.specs.Prelude.{◌≡◌, ◌++◌, map, IfOk, OnOk};
 ghost use Rattle.std.specs.List.{flat_map};
 ghost use Rattle.assemble.specs.Source.{IsSource, laid_of, entries_of};
 ghost use Rattle.bs_words.specs.Contents.{contents};

@@ -1,5 +1,5 @@
 //! What the pieces of a function name.
-ghost use Rattle.std.specs.Prelude.{◌≡◌, ◌+◌, ◌*◌, ◌<◌, ◌≤◌, ◌^◌, ℕ, None, length, map, IfOk};
+ghost use Rattle.std.specs.Prelude.{◌≡◌, ◌+◌, ◌*◌, ◌<◌, ◌≤◌, ℕ, None, map, IfOk};
 ghost use Rattle.assemble.specs.Source.{IsSource, laid_of, names_by, tree_of, entries_of};
 ghost use Rattle.cmm_data.specs.Placement.{value_of_symbol};
 ghost use Rattle.layout_rules.specs.Externals.{number_of, externals};

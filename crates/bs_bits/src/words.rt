@@ -1,5 +1,5 @@
 //! The words of a set: bit `k % 64` of word `k / 64` says whether `k` is a member.
-ghost use Rattle.std.specs.Prelude.{◌≡◌, ℕ, ◌+◌, ◌*◌, ◌^◌, ◌<◌, ◌≤◌, length, slice_index, bit_or, MatchOption, IsTrue, IsFalse};
+ghost use Rattle.std.specs.Prelude.{◌≡◌, ◌+◌, ◌*◌, ◌^◌, ◌<◌, length, MatchOption, IsTrue, IsFalse};
 ghost use Rattle.bs_bits.specs.Words.{Ors, Changed, IsNextBit, HasNoBitFrom};
 
 /// Adds the bits of each word of `others` to its word of `words`, and answers whether one changed.

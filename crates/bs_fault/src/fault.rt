@@ -1,6 +1,5 @@
 //! What is wrong with a Cmm text.
-ghost use Rattle.std.specs.Prelude.{◌≡◌, ◌++◌, codes, IfOk};
-ghost use Rattle.std.specs.Fmt.{decimal};
+ghost use Rattle.std.specs.Prelude.{◌≡◌, ◌++◌, IfOk};
 ghost use Rattle.bs_words.specs.Contents.{contents};
 ghost use Rattle.bs_fault.specs.FaultLines.{fault_word, bound_words, point_words, fault_more, fault_line};
 

@@ -1,5 +1,5 @@
 //! Whole reads and whole writes.
-ghost use Rattle.std.specs.Prelude.{◌≡◌, ◌+◌, ◌-◌, ◌^◌, ◌≤◌, ◌<◌, length, take, drop, IfOk, OnOk, IfErr, OnErr, IfSome, IsOk, vec_len, Err};
+ghost use Rattle.std.specs.Prelude.{◌≡◌, ◌+◌, ◌-◌, ◌^◌, ◌≤◌, ◌<◌, length, take, drop, IfOk, OnOk, IfErr, OnErr, IfSome, vec_len, Err};
 ghost use Rattle.std.specs.Io.KnownBytes.{Consumes, Keeps, Appends, IsAtEnd};
 ghost use Rattle.bs_words.specs.Contents.{contents};
 ghost use Rattle.bs_io.specs.Faults.{Risen};

@@ -25,6 +25,14 @@ impl Name {
         Name { text }
     }
 
+    /// The bytes of the name, as a vector. It takes no memory.
+    pub fn into_vec(self) -> Vec<u8>
+        ensures { result.items ≡ self }
+    {
+        let Name { text } = self;
+        text
+    }
+
     /// The bytes of the name.
     pub fn as_bytes(&self) -> &[u8]
         ensures { result.now ≡ self.now }

@@ -1,9 +1,8 @@
 //! What is wrong with static data.
-ghost use Rattle.std.specs.Prelude.{◌≡◌, ◌+◌, ◌%◌, ◌≤◌, ◌<◌, ◌^◌, Some, None, map, IfOk, IfErr, ℤ, pos, negsuc};
-ghost use Rattle.bs_words.specs.Contents.{contents};
+ghost use Rattle.std.specs.Prelude.{◌≡◌, ◌+◌, ◌%◌, ◌≤◌, ◌<◌, Some, None, map, IfOk, IfErr};
 ghost use Rattle.cmm_tree.specs.View.{file_view, data_item_view, datum_view};
 ghost use Rattle.cmm_data.specs.Placement.{items_from, end_of_items};
-ghost use Rattle.cmm_data.specs.Faults.{is_within, keeps_rule, fault_on, first_fault, data_fault_of};
+ghost use Rattle.cmm_data.specs.Faults.{is_within, keeps_rule, first_fault, data_fault_of};
 ghost use Rattle.bs_words.specs.Fits.{data_limit, data_start};
 
 use crate::size::{is_negative, is_unit, size_at, start_behind};

@@ -1,10 +1,9 @@
 //! `let` and `letmut`.
-ghost use Rattle.std.specs.Prelude.{map, ◌∷◌, []};
+ghost use Rattle.std.specs.Prelude.{map};
 ghost use Rattle.cmm_grammar.specs.Words.{is_close};
-ghost use Rattle.cmm_grammar.specs.Rule.{Then, ABinding, AnExpression};
 ghost use Rattle.cmm_grammar.specs.Grammar.{a_binding, a_mutable_binding, bindings_to_close, let_body, let_form};
 ghost use Rattle.cmm_tree.specs.View.{expr_view};
-ghost use Rattle.cmm_parts.specs.Results.{trees, Fails, Gives, ReadsBy, many_of};
+ghost use Rattle.cmm_parts.specs.Results.{trees, Gives, ReadsBy, many_of};
 ghost use Rattle.cmm_parts.specs.Nodes.{binding_part};
 ghost use Rattle.cmm_operations.specs.Forms.{MayRead, ReadsForms};
 ghost use Rattle.cmm_exprs.specs.Results.{binding_rule, enclosed_bindings, let_one};

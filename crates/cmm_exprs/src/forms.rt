@@ -3,7 +3,7 @@ ghost use Rattle.std.specs.Prelude.{◌<◌};
 ghost use Rattle.cmm_grammar.specs.Grammar.{sequence_to_close, form_of, form};
 ghost use Rattle.cmm_grammar.specs.Reading.{reads};
 ghost use Rattle.cmm_tree.specs.View.{expr_view};
-ghost use Rattle.cmm_parts.specs.Results.{trees, Fails, Gives, ReadsBy};
+ghost use Rattle.cmm_parts.specs.Results.{trees, Gives, ReadsBy};
 ghost use Rattle.cmm_operations.specs.Forms.{MayRead, ReadsForms};
 
 use crate::bindings::let_form;

@@ -1,11 +1,10 @@
 //! `catch`, `exit` and `try`.
 ghost use Rattle.cmm_grammar.specs.Rule as rule;
-ghost use Rattle.cmm_grammar.specs.Rule.{Then, AnExpression, labelled_or};
-ghost use Rattle.cmm_grammar.specs.Grammar.{label_rest, handler_rest, next_handler, more_handlers, labelled_handlers};
+ghost use Rattle.cmm_grammar.specs.Grammar.{handler_rest, next_handler, more_handlers, labelled_handlers};
 ghost use Rattle.cmm_grammar.specs.Grammar.{bare_handler, catch_form, exit_form, try_form};
 ghost use Rattle.cmm_grammar.specs.Reading.{reads};
 ghost use Rattle.cmm_tree.specs.View.{expr_view};
-ghost use Rattle.cmm_parts.specs.Results.{trees, Fails, Gives, ReadsBy};
+ghost use Rattle.cmm_parts.specs.Results.{trees, Gives, ReadsBy};
 ghost use Rattle.cmm_parts.specs.Parts.{label_part};
 ghost use Rattle.cmm_operations.specs.Forms.{MayRead, ReadsForms};
 ghost use Rattle.cmm_exprs.specs.Results.{handler_part, handler_goes_on, marked_parts, some_by, bare_handler_rule, handlers_rule};

@@ -1,5 +1,5 @@
 -- Measures of expressions that are put together, by the tokens of their parts.
-use Rattle.std.proofs.Common.{◌≡◌, ℕ, ◌+◌, ◌*◌, ◌%◌, ◌^◌, ◌<◌, ◌≤◌, zero, List, [], ◌∷◌, ◌++◌, length, arith}
+use Rattle.std.proofs.Common.{ℕ, ◌+◌, ◌*◌, ◌^◌, ◌<◌, ◌≤◌, List, [], ◌∷◌, length, arith}
 use Rattle.cmm_tree.specs.Tree.{Expression, Expressions, Bindings, Cases, Handlers}
 use Rattle.cmm_tree.specs.Measures.{row_total, bindings_total, cases_total, handlers_total, counts_one, is_try, names_in, params_in, own_values, nodes_in, all_tries, values_in, IndexesFit, IntegersFit, RowFits, BindingsFit, CasesFit, HandlersFit, DatumFits, DataFits}
 use Rattle.cmm_grammar.specs.Parts.{BindingPart, CasePart, HandlerPart, ItemPart, FunctionItem, DataItem, expressions, bindings, cases, handlers, sequence_at}

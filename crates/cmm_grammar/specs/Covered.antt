@@ -1,5 +1,5 @@
 -- What is known of every file whose items are spelled by tokens.
-use Rattle.std.specs.Prelude.{ℕ, ◌+◌, ◌*◌, ◌<◌, length, All}
+use Rattle.std.specs.Prelude.{◌+◌, ◌*◌, ◌<◌, length, All}
 use Rattle.cmm_tree.specs.Tree.{FunctionTree, FileTree, functions, data_lists}
 use Rattle.cmm_tree.specs.Measures.{nodes_in, all_tries, values_in, IntegersFit, DataFits}
 

@@ -1,6 +1,6 @@
 //! The words that integers and pointers stand for.
 ghost use Rattle.std.specs.Prelude.{◌≡◌, ◌≤◌};
-ghost use Rattle.cmm_lex.specs.Integers.{digit_value, largest_decimal, word_up_to, based_word, decimal_word, unsigned_value, integer_value};
+ghost use Rattle.cmm_lex.specs.Integers.{digit_value, word_up_to, based_word, decimal_word, unsigned_value, integer_value};
 ghost use Rattle.cmm_lex.specs.Scanning.{number_of, decimal_of, digit_onto};
 
 /// What a digit counts: `a` and `A` are ten.

@@ -1,10 +1,10 @@
 //! The escapes of strings, and the bytes that strings stand for.
-ghost use Rattle.std.specs.Prelude.{◌≡◌, MatchOption, IfOk, Contains, IsTrue, ◌↔◌, length, None};
+ghost use Rattle.std.specs.Prelude.{◌≡◌, MatchOption, IfOk, None};
 ghost use Rattle.std.specs.List.{list_all};
 ghost use Rattle.std.specs.Char.{is_ascii_graphic};
 ghost use Rattle.bs_words.specs.Contents.{contents};
 ghost use Rattle.cmm_lex.specs.Scanning.{step_of, code_of, first_unescaped, begins_escape, is_bad, next_byte, IsFine};
-ghost use Rattle.cmm_lex.specs.Strings.{escaped, BadEscape, string_bytes, unescaped};
+ghost use Rattle.cmm_lex.specs.Strings.{escaped, BadEscape, string_bytes};
 ghost use Rattle.bs_words.specs.Symbol.{is_symbol};
 
 use bs_words::List;

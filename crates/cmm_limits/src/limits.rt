@@ -1,12 +1,10 @@
 //! The limits on sizes in a file.
 ghost use Rattle.std.specs.Prelude.{◌≡◌, map, None, slice_get, option_copied};
-ghost use Rattle.bs_words.specs.Contents.{contents};
 ghost use Rattle.cmm_tree.specs.View.{expr_view, index_view, params_view, function_view, item_view, file_view};
-ghost use Rattle.cmm_tree.specs.Tree.{Parameter};
 ghost use Rattle.bs_fault.specs.Reported.{noted_all, IsReported};
 ghost use Rattle.cmm_limits.specs.Limits.{too_many, places, parameter_places, index_faults, size_faults, faults_in};
 ghost use Rattle.cmm_limits.specs.Limits.{row_faults, binding_faults, case_faults, handler_faults, function_faults};
-ghost use Rattle.cmm_limits.specs.Limits.{item_faults, items_faults, limit_faults};
+ghost use Rattle.cmm_limits.specs.Limits.{item_faults, limit_faults};
 ghost use Rattle.cmm_tree.specs.Rows.{row_of, bindings_of, cases_of, handlers_of};
 
 use bs_fault::{Fault, noted, noted_if};

@@ -3,7 +3,7 @@ ghost use Rattle.std.specs.Prelude.{map};
 ghost use Rattle.cmm_grammar.specs.Rule as rule;
 ghost use Rattle.cmm_grammar.specs.Grammar.{operands, sequence_to_close, sequence_to_with};
 ghost use Rattle.cmm_tree.specs.View.{expr_view};
-ghost use Rattle.cmm_parts.specs.Results.{trees, Fails, Gives, ReadsBy, many_of, test_of};
+ghost use Rattle.cmm_parts.specs.Results.{trees, Gives, ReadsBy, many_of, test_of};
 ghost use Rattle.cmm_operations.specs.Forms.{MayRead, ReadsForms};
 
 use cmm_lex::Token;

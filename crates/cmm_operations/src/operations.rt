@@ -3,7 +3,7 @@ ghost use Rattle.cmm_grammar.specs.Grammar.{assign_form, app_form, extcall_rest,
 ghost use Rattle.cmm_grammar.specs.Grammar.{store_rest, load_form, store_form, raise_form, pair_form, triple_form};
 ghost use Rattle.cmm_grammar.specs.Grammar.{float_form, seq_form};
 ghost use Rattle.cmm_tree.specs.View.{expr_view};
-ghost use Rattle.cmm_parts.specs.Results.{trees, Fails, Gives, ReadsBy};
+ghost use Rattle.cmm_parts.specs.Results.{ReadsBy};
 ghost use Rattle.cmm_operations.specs.Forms.{MayRead, ReadsForms};
 
 use crate::lists::{list, operand, operands};

@@ -2,7 +2,7 @@
 //!
 //! Operands come boxed, as the tree holds them: so most functions here allocate nothing, and
 //! cannot fail.
-ghost use Rattle.std.specs.Prelude.{◌≡◌, IfOk, IfErr, map, ◌∷◌, []};
+ghost use Rattle.std.specs.Prelude.{◌≡◌, IfOk, IfErr, map};
 ghost use Rattle.cmm_tree.specs.Tree.{Let, Assign, Alloc, App, Extcall, Raise, Float, Switch, Catch, Exit, Try};
 ghost use Rattle.cmm_tree.specs.View.{expr_view, label_view};
 ghost use Rattle.cmm_grammar.specs.Parts.{expressions, bindings};

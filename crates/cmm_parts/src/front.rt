@@ -1,13 +1,12 @@
 //! Single tokens at the front of those that are left.
 ghost use Rattle.std.specs.Prelude.{◌≡◌, IfOk, IfErr};
-ghost use Rattle.bs_words.specs.Contents.{contents};
 ghost use Rattle.cmm_lex.specs.Token.{token_view};
 ghost use Rattle.cmm_lex.specs.Integers.{integer_value};
-ghost use Rattle.cmm_grammar.specs.Words.{passing, marked, word_of, comp_of, ret_of, head_of, chunk_word_of, width_of, is_symbol_token};
+ghost use Rattle.cmm_grammar.specs.Words.{passing, marked, word_of, comp_of, ret_of, head_of};
 ghost use Rattle.cmm_grammar.specs.Grammar.{a_comp, a_result};
 ghost use Rattle.cmm_grammar.specs.Reading.{one_by, reads};
 ghost use Rattle.cmm_tree.specs.View.{declared_view};
-ghost use Rattle.cmm_parts.specs.Results.{trees, Fails, Gives, ReadsBy, test_of};
+ghost use Rattle.cmm_parts.specs.Results.{trees, Gives, ReadsBy, test_of};
 ghost use Rattle.cmm_parts.specs.Parts.{result_part, symbol_in};
 ghost use Rattle.cmm_parts.specs.declared.stop.Stop.TheVariants.{OutOfMemory};
 

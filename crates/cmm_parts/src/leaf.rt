@@ -4,7 +4,7 @@ ghost use Rattle.cmm_lex.specs.Token.{token_view};
 ghost use Rattle.cmm_grammar.specs.Words.{leaf_of};
 ghost use Rattle.cmm_grammar.specs.Reading.{bracket_at};
 ghost use Rattle.cmm_tree.specs.View.{expr_view};
-ghost use Rattle.cmm_parts.specs.Results.{trees, Fails, Gives};
+ghost use Rattle.cmm_parts.specs.Results.{trees, Gives};
 ghost use Rattle.cmm_parts.specs.Parts.{symbol_leaf, simple_at};
 ghost use Rattle.cmm_parts.specs.declared.stop.Stop.TheVariants.{OutOfMemory};
 

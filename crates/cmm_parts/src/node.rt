@@ -3,7 +3,6 @@
 //! Operands come boxed, as the tree holds them.
 ghost use Rattle.std.specs.Prelude.{◌≡◌, IfOk, IfErr, map, ◌∷◌, []};
 ghost use Rattle.cmm_tree.specs.View.{expr_view, label_view};
-ghost use Rattle.cmm_tree.specs.Place.{place_of};
 ghost use Rattle.cmm_grammar.specs.Parts.{expressions, sequence_at, sequence};
 ghost use Rattle.cmm_grammar.specs.Grammar.{paired, tripled};
 ghost use Rattle.cmm_grammar.specs.Rewriting.{element, exit_to, turn, catch_one, while_loop};

@@ -7,7 +7,7 @@ ghost use Rattle.cmm_grammar.specs.Words.{is_open_kind, is_name_kind, is_symbol_
 ghost use Rattle.cmm_grammar.specs.Grammar.{case_number, another_number, a_parameter, parameters, label_rest, a_label};
 ghost use Rattle.cmm_grammar.specs.Reading.{one_by};
 ghost use Rattle.cmm_tree.specs.View.{index_view, param_view};
-ghost use Rattle.cmm_parts.specs.Results.{trees, Fails, Gives, ReadsBy, many_of};
+ghost use Rattle.cmm_parts.specs.Results.{trees, Gives, ReadsBy, many_of};
 ghost use Rattle.cmm_parts.specs.Parts.{label_part, opened_label, chunk_part, chunk_at};
 
 use crate::front::{Test, component, name_of, passes, symbol_of, token, word};

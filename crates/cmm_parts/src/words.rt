@@ -1,8 +1,7 @@
 //! What a token may be, and what it gives there.
-ghost use Rattle.std.specs.Prelude.{◌≡◌, option_map};
-ghost use Rattle.cmm_grammar.specs.Words.{is_open_kind, is_close_kind, is_open_bracket_kind, is_close_bracket_kind};
-ghost use Rattle.cmm_grammar.specs.Words.{is_colon_kind, is_name_kind, is_integer_kind, is_float_kind, is_string_kind};
-ghost use Rattle.cmm_grammar.specs.Words.{is_with_kind, is_case_kind, is_and_kind, is_data_kind, is_function_kind};
+ghost use Rattle.std.specs.Prelude.{◌≡◌};
+ghost use Rattle.cmm_grammar.specs.Words.{is_open_kind, is_close_kind};
+ghost use Rattle.cmm_grammar.specs.Words.{is_case_kind, is_and_kind};
 ghost use Rattle.cmm_grammar.specs.Words.{comp_of, ret_of, head_of, head_of_keyword, chunk_word_of, width_of};
 ghost use Rattle.cmm_grammar.specs.Words.{unsigned_chunk, signed_chunk, data_keyword};
 

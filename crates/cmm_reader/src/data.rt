@@ -9,7 +9,7 @@ ghost use Rattle.cmm_tree.specs.Tree.{Val};
 ghost use Rattle.cmm_grammar.specs.Grammar.{a_data_integer, datum_of, a_data_item, data_items, data_list};
 ghost use Rattle.cmm_grammar.specs.Reading.{reads};
 ghost use Rattle.cmm_tree.specs.View.{datum_view, data_item_view};
-ghost use Rattle.cmm_parts.specs.Results.{trees, Fails, Gives, many_of};
+ghost use Rattle.cmm_parts.specs.Results.{trees, Gives, many_of};
 ghost use Rattle.cmm_reader.specs.ItemParts.{number_datum, item_part, marked_with};
 ghost use Rattle.cmm_parts.specs.declared.stop.Stop.TheVariants.{OutOfMemory};
 

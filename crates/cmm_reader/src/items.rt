@@ -6,7 +6,7 @@ ghost use Rattle.cmm_grammar.specs.Words.{is_function, passing};
 ghost use Rattle.cmm_grammar.specs.Grammar.{parameters, a_function, item_rest, an_item};
 ghost use Rattle.cmm_grammar.specs.Reading.{reads, items_at};
 ghost use Rattle.cmm_tree.specs.View.{param_view, item_view};
-ghost use Rattle.cmm_parts.specs.Results.{trees, Fails, Gives};
+ghost use Rattle.cmm_parts.specs.Results.{trees, Gives};
 ghost use Rattle.cmm_reader.specs.ItemParts.{item_part};
 
 use crate::data::data_list;

@@ -1,15 +1,10 @@
 //! Texts.
 ghost use Rattle.std.specs.Prelude.{◌≡◌, Ok, None, IfOk, MatchResult};
-ghost use Rattle.bs_words.specs.Contents.{contents};
-ghost use Rattle.cmm_lex.specs.Token.{token_view};
-ghost use Rattle.cmm_lex.specs.Lexing.{IsLexed};
 ghost use Rattle.cmm_tree.specs.View.{file_view};
 ghost use Rattle.bs_fault.specs.Reported.{IsReported};
 ghost use Rattle.cmm_grammar.specs.Covered.{IsMeasured};
 ghost use Rattle.cmm_grammar.specs.Reading.{Stuck};
-ghost use Rattle.cmm_parts.specs.Results.{trees, Fails};
 ghost use Rattle.cmm_reader.specs.Text.{file_faults, ReadsAs, IsRefused};
-ghost use Rattle.bs_fault.specs.Limits.{longest_text};
 ghost use Rattle.cmm_reader.specs.Telling.{IsReading, IsStopOf, IsStopped, IsFinished, stop_fault};
 
 use crate::items::items;

@@ -8,7 +8,7 @@ ghost use Rattle.cmm_tree.specs.Symbols.{definition_of};
 ghost use Rattle.cmm_types.specs.Types.{binding_of, is_float, type_named, with_parameters};
 ghost use Rattle.cmm_types.specs.Gathered.{role_faults, target_faults, arity_faults, call_faults, exit_faults};
 ghost use Rattle.cmm_types.specs.Gathered.{comp_faults, result_faults, params_faults, declared_faults, labelled_faults};
-ghost use Rattle.cmm_types.specs.Gathered.{repeated_faults, parameters_of};
+ghost use Rattle.cmm_types.specs.Gathered.{repeated_faults};
 ghost use Rattle.bs_fault.specs.Reported.{noted, noted_all, one_if};
 
 use crate::labels::Labels;

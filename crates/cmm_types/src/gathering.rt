@@ -1,7 +1,6 @@
 //! The symbols of a file, and those that are defined twice.
 ghost use Rattle.std.specs.Prelude.{◌≡◌, [], ◌∷◌, map, is_some, IfOk, OnOk};
 ghost use Rattle.bs_fault.specs.declared.fault.Fault.TheVariants as faults;
-ghost use Rattle.bs_words.specs.Contents.{contents};
 ghost use Rattle.cmm_tree.specs.View.{item_view, data_item_view, datum_view};
 ghost use Rattle.cmm_types.specs.Definitions.{defined};
 ghost use Rattle.cmm_tree.specs.Symbols.{built_in, definition_of, symbols_among, item_symbols, data_symbols, datum_symbols};

@@ -1,5 +1,5 @@
 //! The labels that are visible.
-ghost use Rattle.std.specs.Prelude.{◌≡◌, ◌-◌, ◌∷◌, ◌++◌, length, [], drop, map, reverse, IfOk, OnOk, OnErr};
+ghost use Rattle.std.specs.Prelude.{◌≡◌, ◌-◌, ◌∷◌, ◌++◌, length, [], drop, map, reverse, IfOk, OnOk};
 ghost use Rattle.cmm_types.specs.VisibleLabels.{visible_view};
 ghost use Rattle.std.specs.Option.{option_map};
 ghost use Rattle.cmm_tree.specs.View.{label_view};

@@ -1,5 +1,5 @@
 //! The symbols that a file defines.
-ghost use Rattle.std.specs.Prelude.{◌≡◌, [], ◌∷◌, length, is_some, IfOk, OnOk};
+ghost use Rattle.std.specs.Prelude.{◌≡◌, [], length, is_some, IfOk, OnOk};
 ghost use Rattle.std.specs.Option.{option_map};
 ghost use Rattle.cmm_tree.specs.Symbols.{DefinedSymbol, definition_of};
 ghost use Rattle.cmm_types.specs.Gathered.{with_symbol, parameters_of};

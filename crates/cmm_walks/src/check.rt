@@ -1,7 +1,7 @@
 //! Addresses at frame points, over the functions of a file.
-ghost use Rattle.std.specs.Prelude.{◌≡◌, ◌∷◌, ◌++◌, ℕ, [], List, map, IsTrue, IsFalse, IfOk, IfErr};
+ghost use Rattle.std.specs.Prelude.{◌∷◌, ◌++◌, ℕ, [], List, map, IsTrue, IsFalse, IfOk, IfErr};
 ghost use Rattle.bs_words.specs.Contents.{contents};
-ghost use Rattle.cmm_tree.specs.Tree.{FunctionTree, functions, functions_among};
+ghost use Rattle.cmm_tree.specs.Tree.{FunctionTree, functions_among};
 ghost use Rattle.cmm_tree.specs.View.{function_view, item_view, file_view};
 ghost use Rattle.cmm_walks.specs.AddrLive.{IsLive, Before};
 ghost use Rattle.cmm_walks.specs.Refusal.{ToldIn, ToldAmong, IsRefusal};

@@ -1,9 +1,8 @@
 //! The first address that is live at a frame point.
-ghost use Rattle.std.specs.Prelude.{◌≡◌, ◌<◌, ◌↔◌, ℕ, suc, length, true, Contains, IfOk, MatchOption, IsTrue};
+ghost use Rattle.std.specs.Prelude.{◌≡◌, ◌<◌, suc, length, IfOk};
 ghost use Rattle.std.specs.List.{All, list_any};
-ghost use Rattle.cmm_walks.specs.Groups.{AreBefore, AreMentions};
 ghost use Rattle.cmm_walks.specs.Labels.{unlabelled, IsUnlabelled};
-ghost use Rattle.cmm_walks.specs.Table.{step_at, slot_below, AreLinked, AreNodes, IsWithin, LeadsToBinding};
+ghost use Rattle.cmm_walks.specs.Table.{step_at, slot_below, AreLinked};
 ghost use Rattle.cmm_walks.specs.First.{place_within, binds_address, binds_address_to, own_limit, IsSearch, AreSlotSeeds, IsLeastTold, IsFirstTold};
 
 use crate::groups::{Group, members, nodes_before, nodes_by_slot};

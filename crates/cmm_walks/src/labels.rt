@@ -1,5 +1,5 @@
 //! Labels of nodes: each node gets the least label of the seeds that it leads to.
-ghost use Rattle.std.specs.Prelude.{◌≡◌, ◌<◌, ℕ, [], length, IfOk};
+ghost use Rattle.std.specs.Prelude.{◌≡◌, ◌<◌, length, IfOk};
 ghost use Rattle.std.specs.List.{All};
 ghost use Rattle.cmm_walks.specs.Groups.{AreBefore};
 ghost use Rattle.cmm_walks.specs.Table.{step_at};

@@ -5,7 +5,7 @@ ghost use Rattle.cmm_tree.specs.declared.expr.Handler as declared_handler;
 ghost use Rattle.cmm_tree.specs.Rows.{handlers_of};
 ghost use Rattle.cmm_walks.specs.Walks.{Slotted, Task, handler_for, behind_exit, behind_raise};
 ghost use Rattle.cmm_tree.specs.Tree.{same_label, is_bare};
-ghost use Rattle.cmm_walks.specs.Cells.{cells, item_at, scope_at, tasks_at};
+ghost use Rattle.cmm_walks.specs.Cells.{cells, item_at, tasks_at};
 ghost use Rattle.cmm_walks.specs.Sound.{IsSound, IsHeld, HandlersAt, LeadsTo};
 ghost use Rattle.cmm_walks.specs.Leaving.{IsRow, HasRow, rest_in, own_handler, exit_rest, raise_rest};
 

@@ -1,5 +1,5 @@
 //! What the search for an address begins with: uses, frame points and bindings within limits.
-ghost use Rattle.std.specs.Prelude.{◌≡◌, ℕ, ◌++◌, filter_map, flat_map, option_to_list, IfOk};
+ghost use Rattle.std.specs.Prelude.{◌≡◌, ◌++◌, filter_map, flat_map, option_to_list, IfOk};
 ghost use Rattle.cmm_walks.specs.Table.{step_at, next_at};
 ghost use Rattle.cmm_walks.specs.Seeds.{within, used_label, point_label, bound_label, later, seed_with, use_seed, point_seed, binding_seed, binding_seeds};
 

@@ -1,5 +1,5 @@
 //! The table of a function.
-ghost use Rattle.std.specs.Prelude.{◌≡◌, ◌↔◌, ℕ, [], List, length, IfOk};
+ghost use Rattle.std.specs.Prelude.{◌≡◌, ◌↔◌, ℕ, [], length, IfOk};
 ghost use Rattle.bs_words.specs.Contents.{contents};
 ghost use Rattle.cmm_tree.specs.View.{params_view, function_view};
 ghost use Rattle.cmm_types.specs.Annotated.{IsAnnotated};

@@ -18,3 +18,4 @@ mod SoakEnds
 mod Soaking
 mod Spelled
 mod TextKnown
+pub mod Known

@@ -1,5 +1,4 @@
 //! The lines on err, and the statuses.
-ghost use Rattle.std.specs.Prelude.{◌≡◌};
 ghost use Rattle.cmmc_core.specs.Effects.{side, Reports};
 ghost use Rattle.bs_fault.specs.FaultLines.{fault_line};
 ghost use Rattle.bs_fault.specs.Lines.{large_line, image_line};

@@ -1,5 +1,5 @@
 //! The order in which registers get their places.
-ghost use Rattle.std.specs.Prelude.{◌≡◌, ℕ, IfOk, OnOk, filter, map, not};
+ghost use Rattle.std.specs.Prelude.{◌≡◌, ℕ, IfOk, OnOk, filter, not};
 ghost use Rattle.std.specs.List.Sorted.{IsPermutation, IsSortedBy, IsStableBy};
 ghost use Rattle.mach_ir.specs.Graph.{IsOrdered};
 ghost use Rattle.colouring.specs.Chosen.{is_slot, degree, fixed, urgency, IsOrder};

@@ -1,5 +1,5 @@
 //! One scan over the code, with at most one allocation open.
-ghost use Rattle.std.specs.Prelude.{◌≡◌, ◌≤◌, ◌+◌, ◌++◌, [], ◌∷◌, true, false, None, IfOk, List};
+ghost use Rattle.std.specs.Prelude.{◌≡◌, ◌≤◌, ◌+◌, ◌++◌, [], true, false, None, IfOk, List};
 ghost use Rattle.combine_rules.specs.Combined.{joins, scan, combined, allocation};
 ghost use Rattle.comballoc.specs.Finished.{held_bytes, closed, stays, finished, HasTaken};
 ghost use Rattle.mach_ir.specs.Blocks.{bytes_of};

@@ -1,5 +1,5 @@
 //! The form of a command line: which words may be in it, whatever their values are.
-ghost use Rattle.std.specs.Prelude.{◌≡◌, ◌≢◌, ◌≤◌, ◌↔◌, ◌++◌, true, false, MatchOption, IsTrue, count_by, nat_le, string_bytes};
+ghost use Rattle.std.specs.Prelude.{◌≡◌, ◌≢◌, ◌↔◌, ◌++◌, true, false, MatchOption, IsTrue, count_by, nat_le, string_bytes};
 ghost use Rattle.std.specs.List.{list_any, list_all};
 ghost use Rattle.command_line.specs.declared.form.CommandWord.{CommandWord};
 ghost use Rattle.command_line.specs.Program.{id_of};

@@ -4,7 +4,7 @@
 //! The crate holds definitions and laws alone.
 #![tactic(auto)]
 
-ghost use Rattle.std.specs.Prelude.{◌≡◌, ℕ, ◌+◌, ◌-◌, ◌*◌, ◌≤◌, List, ◌∷◌, Some, length, slice_get};
+ghost use Rattle.std.specs.Prelude.{◌≡◌, ℕ, ◌+◌, ◌-◌, ◌≤◌, List, ◌∷◌, Some, length, slice_get};
 ghost use Rattle.bs_words.specs.Fits.{data_start};
 ghost use Rattle.cmm_data.specs.Placement.{data_end};
 ghost use Rattle.cmm_front.specs.FileOf.{IsFileOf};
@@ -19,7 +19,7 @@ ghost use Rattle.correctness.specs.InNeed.{AsksInNeed};
 ghost use Rattle.correctness.specs.Setting.{AreRowsOf, layout_of};
 ghost use Rattle.guarded_machine.specs.Guarded.{guarded_of};
 ghost use Rattle.image_form.specs.Image.{AreTables};
-ghost use Rattle.image_form.specs.Tables.{Func, Tables};
+ghost use Rattle.image_form.specs.Tables.{Tables};
 ghost use Rattle.layout_rules.specs.Conditions.{CanBeLaid};
 ghost use Rattle.layout_rules.specs.Laid.{IsLaidOut};
 ghost use Rattle.lin_ir.specs.Formed.{WellFormed};

@@ -1,5 +1,5 @@
 //! Operators that repeat earlier ones, made moves.
-ghost use Rattle.std.specs.Prelude.{◌≡◌, ◌∷◌, [], IfOk};
+ghost use Rattle.std.specs.Prelude.{◌≡◌, [], IfOk};
 ghost use Rattle.mach_ir.specs.Formed.{WellFormed};
 ghost use Rattle.repeat_rules.specs.Repeated.{from_earlier, IsRepeated};
 ghost use Rattle.cse_deadcode.specs.Made.{made_by};

@@ -1,5 +1,5 @@
 //! When what an instruction does was done last.
-ghost use Rattle.std.specs.Prelude.{◌≡◌, ℕ, cond, IfOk};
+ghost use Rattle.std.specs.Prelude.{◌≡◌, cond, IfOk};
 ghost use Rattle.std.specs.List.{list_any};
 ghost use Rattle.cse_deadcode.specs.declared.events.Event.{Event};
 ghost use Rattle.cse_deadcode.specs.Times.{is_same, writes_place, writes, event_of, does, happens, time_in};

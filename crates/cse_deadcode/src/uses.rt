@@ -1,5 +1,5 @@
 //! Which registers are used at each place of a function.
-ghost use Rattle.std.specs.Prelude.{◌≡◌, length, false, replicate, IfOk};
+ghost use Rattle.std.specs.Prelude.{◌≡◌, false, replicate, IfOk};
 ghost use Rattle.dataflow.specs.Flow.{WellFormed};
 ghost use Rattle.mach_ir.specs.Sizes.{IsCountable};
 ghost use Rattle.cse_deadcode.specs.Flows.{AreUsed};

@@ -1,5 +1,5 @@
 //! Which numbers are live before each place.
-ghost use Rattle.std.specs.Prelude.{◌≡◌, ℕ, ◌<◌, length, false, replicate, IfOk};
+ghost use Rattle.std.specs.Prelude.{◌≡◌, ◌<◌, false, replicate, IfOk};
 ghost use Rattle.dataflow.specs.Flow.{WellFormed};
 ghost use Rattle.dataflow.specs.Live.{IsLiveness};
 

@@ -1,7 +1,7 @@
 //! One sweep over the places: what is live before each, from what is known to be live after it.
-ghost use Rattle.std.specs.Prelude.{◌≡◌, ℕ, ◌<◌, ◌||◌, ◌&&◌, ◌==◌, not, length, slice_set};
+ghost use Rattle.std.specs.Prelude.{◌≡◌, ℕ, ◌<◌, ◌||◌, ◌&&◌, ◌==◌, not, length};
 ghost use Rattle.std.specs.List.{All, list_any};
-ghost use Rattle.bs_bits.specs.Set.{has, union};
+ghost use Rattle.bs_bits.specs.Set.{has};
 ghost use Rattle.bs_words.specs.Contents.{contents};
 ghost use Rattle.dataflow.specs.Rows.{row, HasSizes};
 ghost use Rattle.dataflow.specs.Flow.{IsPlace, WellFormed};

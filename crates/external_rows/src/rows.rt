@@ -1,7 +1,7 @@
 //! Rows of external calls, by what each call is known by.
-ghost use Rattle.std.specs.Prelude.{◌≡◌, ◌+◌, ◌≤◌, ◌∷◌, ◌++◌, [], map, length, IfOk, OnOk};
+ghost use Rattle.std.specs.Prelude.{◌≡◌, ◌+◌, ◌++◌, [], map, IfOk, OnOk};
 ghost use Rattle.bs_words.specs.Contents.{contents};
-ghost use Rattle.image_form.specs.Image.{comp_byte, ret_byte, ext_bytes};
+ghost use Rattle.image_form.specs.Image.{comp_byte, ret_byte};
 ghost use Rattle.image_form.specs.Tables.{ext};
 ghost use Rattle.external_rows.specs.Entries.{key_of, noted};
 ghost use Rattle.layout_rules.specs.Externals.{ext_of, number_of};

@@ -1,5 +1,5 @@
 //! Where numbers are cut in two parts by their work.
-ghost use Rattle.std.specs.Prelude.{ℕ, ◌≤◌, ◌<◌, length};
+ghost use Rattle.std.specs.Prelude.{◌≤◌, ◌<◌, length};
 
 /// How many of the numbers the first side gets, so that its part of the work comes near to the part that its jobs are
 /// of all jobs. Each side gets at least one; more is not ensured, since the cut changes no result.

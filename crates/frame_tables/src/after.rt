@@ -1,10 +1,8 @@
 //! The places of the flow graph before which is live what is live after a frame point.
-ghost use Rattle.std.specs.Prelude.{◌≡◌, ◌+◌, ◌<◌, ◌↔◌, ℕ, suc, Some, length, slice_get, Contains, IfOk, IsTrue};
+ghost use Rattle.std.specs.Prelude.{◌≡◌, ◌<◌, ◌↔◌, ℕ, suc, Some, length, slice_get, Contains, IfOk, IsTrue};
 ghost use Rattle.bs_words.specs.Contents.{contents};
 ghost use Rattle.lin_ir.specs.Meaning.{passes_frame};
-ghost use Rattle.lin_laws.specs.Numbers.{written_numbers};
 ghost use Rattle.lin_flow.specs.Search.{all_of, groups_of, members};
-ghost use Rattle.lin_flow.specs.Nodes.{IsText};
 ghost use Rattle.lin_flow.specs.Sizes.{IsCountable, HaveSmall};
 ghost use Rattle.frame_tables.specs.Points.{IsAsked, IsChosen, IsChoice, edges_of, IsGathered, Gathers, HasTraps};
 ghost use Rattle.frame_tables.specs.Points.{IsAfterNode, IsSearched, IsRooted, ArePoints, HasRoots};

@@ -1,7 +1,6 @@
 //! Descriptors of frame points, from what is live after them.
 ghost use Rattle.std.specs.Prelude.{◌≡◌, ◌+◌, ◌*◌, ◌<◌, ◌≤◌, ◌^◌, ◌++◌, length, IfOk};
 ghost use Rattle.std.specs.List.{All};
-ghost use Rattle.dataflow.specs.Rows.{HasSizes};
 ghost use Rattle.lin_laws.specs.Numbers.{entry_of, entries_from};
 ghost use Rattle.frame_tables.specs.Described.{described, entry_if, AreDescribed};
 

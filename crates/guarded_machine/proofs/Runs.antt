@@ -1,5 +1,5 @@
 -- A run of the guarded machine beside the run of the machine.
-use Rattle.std.proofs.Common.{◌≡◌, ◌⊎◌, inl, inr, ℕ, zero, suc, ◌<◌, ◌≤◌, Bool, true, false, cond, [], ap, ◌∙◌, sym, refl, subst, arith, ⊎_elim, append-nil}
+use Rattle.std.proofs.Common.{◌≡◌, ◌⊎◌, inl, inr, ℕ, zero, suc, ◌≤◌, Bool, true, false, cond, [], ap, ◌∙◌, sym, refl, subst, arith, ⊎_elim, append-nil}
 use Rattle.std.proofs.lemmas.Bool.{cond-false}
 use Rattle.correctness.specs.InNeed.{AsksOnlyInNeed, AsksOnlyInNeedUntil, IsInNeed}
 use Rattle.machine_laws.specs.Steps.{IsFrontOf, IsOrderly}

@@ -1,5 +1,5 @@
 //! Which instructions move.
-ghost use Rattle.std.specs.Prelude.{◌≡◌, ◌≤◌, ◌&&◌, true, length, IfOk};
+ghost use Rattle.std.specs.Prelude.{◌≡◌, ◌≤◌, ◌&&◌, length, IfOk};
 ghost use Rattle.mach_ir.specs.Formed.{WellFormed};
 ghost use Rattle.mach_ir.specs.Walks.{IsRegister};
 ghost use Rattle.mach_ir.specs.declared.reg.Reg.{Reg};

@@ -1,5 +1,5 @@
 //! Wide constants that fit wherever data ends.
-ghost use Rattle.std.specs.Prelude.{◌≡◌, ◌≤◌, length, take};
+ghost use Rattle.std.specs.Prelude.{◌≡◌};
 ghost use Rattle.std.specs.List.{list_any};
 ghost use Rattle.hoist.specs.Constants.{is_wide, fits_always, constant_of, can_hold, makes_wide};
 

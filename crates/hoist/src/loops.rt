@@ -1,5 +1,5 @@
 //! Loops, by the text.
-ghost use Rattle.std.specs.Prelude.{◌≡◌, ◌≤◌, ◌&&◌, ℕ, length, nat_le, nat_lt, IfOk};
+ghost use Rattle.std.specs.Prelude.{◌≡◌, ◌≤◌, ◌&&◌, ℕ, length, IfOk};
 ghost use Rattle.hoist.specs.Loops.{label_of, exit_of, end_of, end_noted, is_calm_wide, AreEnds, AreFlags, IsCalmWide};
 ghost use Rattle.hoist.specs.Tables.{entry};
 

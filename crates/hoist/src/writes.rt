@@ -1,6 +1,5 @@
 //! How often registers are written.
 ghost use Rattle.std.specs.Prelude.{◌≡◌, ℕ, IfOk};
-ghost use Rattle.std.specs.List.{list_all};
 ghost use Rattle.hoist.specs.Tables.{entry};
 ghost use Rattle.hoist.specs.Written.{more, noted, noted_in, times, is_once};
 

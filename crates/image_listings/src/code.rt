@@ -1,5 +1,5 @@
 //! The text of the words of code.
-ghost use Rattle.std.specs.Prelude.{◌≡◌, ◌<◌, ◌≤◌, ◌+◌, ◌*◌, ◌^◌, length, IfOk};
+ghost use Rattle.std.specs.Prelude.{◌≡◌, ◌<◌, ◌+◌, ◌*◌, ◌^◌, length, IfOk};
 ghost use Rattle.bs_words.specs.Contents.{contents};
 ghost use Rattle.mach_ir.specs.Pages.{Adds};
 ghost use Rattle.image_form.specs.Image.{IsImage};

@@ -1,5 +1,5 @@
 //! Numbers in hexadecimal digits.
-ghost use Rattle.std.specs.Prelude.{◌≡◌, ◌<◌, ◌≤◌, false, IfOk};
+ghost use Rattle.std.specs.Prelude.{◌≡◌, ◌<◌, false, IfOk};
 ghost use Rattle.std.specs.Fmt.{digit_glyph};
 ghost use Rattle.mach_ir.specs.Pages.{Adds};
 ghost use Rattle.image_listings.specs.Texts.{last_digits, eight_digits};

@@ -1,8 +1,7 @@
 //! What is known of each register of a function, by number.
-ghost use Rattle.std.specs.Prelude.{◌≡◌, ◌+◌, ◌<◌, ℕ, length, slice_index, IfOk};
+ghost use Rattle.std.specs.Prelude.{◌≡◌, ◌+◌, ◌<◌, length, slice_index, IfOk};
 ghost use Rattle.mach_ir.specs.Sizes.{IsCountable};
 ghost use Rattle.interfere.specs.Partners.{partners_in};
-ghost use Rattle.interfere.specs.Registers.{IsAt};
 ghost use Rattle.interfere.specs.Tables.{AreTables, IsNode, AreByNumber, AreNodesBelow};
 
 use crate::joining::joined_of;

@@ -1,5 +1,5 @@
 -- The places of the flow graph that are positions.
-use Rattle.std.specs.Prelude.{◌≡◌, ℕ, suc, ◌+◌, ◌<◌, ◌≤◌, Bool, true, false, List, [], ◌∷◌, ◌++◌, Some, map, length, drop, slice_get}
+use Rattle.std.specs.Prelude.{◌≡◌, ℕ, suc, ◌+◌, ◌≤◌, Bool, true, false, List, [], ◌∷◌, ◌++◌, Some, map, length, drop, slice_get}
 use Rattle.bs_words.specs.Contents.{contents}
 use Rattle.dataflow.specs.declared.flow.Place as place
 use Rattle.lin_ir.specs.Walks.{targets, may_raise, tries_after, Reached}

@@ -1,5 +1,5 @@
 -- How large a Linear function is, in what numbers count of it.
-use Rattle.std.specs.Prelude.{ℕ, ◌+◌, ◌<◌, List, length, All}
+use Rattle.std.specs.Prelude.{◌+◌, ◌<◌, List, length, All}
 use Rattle.mach_ir.specs.Sizes.{number_limit}
 use Rattle.lin_ir.specs.declared.lin.Spot.{Spot}
 use Rattle.lin_ir.specs.declared.lin.Lin.{Lin}

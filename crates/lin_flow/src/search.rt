@@ -1,5 +1,5 @@
 //! The positions that walks come to, each with its number.
-ghost use Rattle.std.specs.Prelude.{◌≡◌, ◌<◌, ◌↔◌, ℕ, option_copied, bytes_eq, Some, All, length, map, slice_get, IfOk, IfSome, IsTrue, IsFalse};
+ghost use Rattle.std.specs.Prelude.{◌≡◌, ◌<◌, ◌↔◌, option_copied, bytes_eq, Some, All, length, map, slice_get, IfOk, IfSome, IsTrue, IsFalse};
 ghost use Rattle.lin_laws.specs.Graph.{position, AreNumbersOf};
 ghost use Rattle.lin_flow.specs.Search.{all_of, groups_of, members, AreGrouped, HasMember, Grown, Entered, Starts, IsThere, HasFirst};
 

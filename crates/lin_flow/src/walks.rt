@@ -1,5 +1,5 @@
 //! Where walks from the entry come.
-ghost use Rattle.std.specs.Prelude.{◌≡◌, IfOk};
+ghost use Rattle.std.specs.Prelude.{IfOk};
 ghost use Rattle.lin_flow.specs.Nodes.{IsText};
 ghost use Rattle.lin_flow.specs.Walked.{IsWalked};
 

@@ -1,5 +1,5 @@
 //! The text of a Linear function.
-ghost use Rattle.std.specs.Prelude.{◌≡◌, ◌++◌, true, false, codes, IfOk};
+ghost use Rattle.std.specs.Prelude.{◌≡◌, ◌++◌, true, false, IfOk};
 ghost use Rattle.bs_words.specs.Contents.{contents};
 ghost use Rattle.mach_ir.specs.Pages.{Adds};
 ghost use Rattle.mach_ir.specs.Words.{label_text, separator};

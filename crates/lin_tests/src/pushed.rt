@@ -1,5 +1,5 @@
 //! Whether the numbers of traps that are pushed where walks come are such as descriptors need.
-ghost use Rattle.std.specs.Prelude.{◌≡◌, ◌+◌, ◌*◌, ◌≤◌, ◌<◌, ◌↔◌, All, length, IfOk, IsTrue};
+ghost use Rattle.std.specs.Prelude.{◌+◌, ◌*◌, ◌<◌, ◌↔◌, All, IfOk, IsTrue};
 ghost use Rattle.lin_ir.specs.Descriptors.{IsWithin};
 ghost use Rattle.lin_ir.specs.Formed.{AreLocated};
 ghost use Rattle.lin_ir.specs.Walks.{OneDepth};

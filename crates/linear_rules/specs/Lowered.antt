@@ -2,7 +2,7 @@
 -- `asmcomp/linearize.ml`).
 --
 -- Each definition takes the lines that follow, so that nothing is appended.
-use Rattle.std.specs.Prelude.{ℕ, zero, suc, Bool, true, false, cond, ◌&&◌, ◌||◌, nat_eq, max, List, [], ◌∷◌, map}
+use Rattle.std.specs.Prelude.{ℕ, zero, suc, Bool, false, cond, ◌&&◌, ◌||◌, nat_eq, max, List, [], ◌∷◌, map}
 use Rattle.bs_words.specs.declared.operators.CmpOp.{CmpOp}
 use Rattle.bs_words.specs.declared.operators.CmpOp.TheVariants as compare
 use Rattle.bs_words.specs.declared.types.Loc.{Loc}

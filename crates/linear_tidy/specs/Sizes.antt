@@ -1,5 +1,5 @@
 -- That there are numbers for a function that is made tidy.
-use Rattle.std.specs.Prelude.{ℕ, suc, ◌+◌, ◌*◌, ◌<◌, length}
+use Rattle.std.specs.Prelude.{suc, ◌+◌, ◌*◌, ◌<◌, length}
 use Rattle.mach_ir.specs.Sizes.{number_limit}
 use Rattle.lin_ir.specs.Formed.{labels_in}
 use Rattle.lin_ir.specs.declared.lin.Lin.{Lin}

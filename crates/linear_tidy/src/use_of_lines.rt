@@ -1,5 +1,5 @@
 //! Which lines have no use.
-ghost use Rattle.std.specs.Prelude.{◌≡◌, ◌<◌, ◌≤◌, ◌↔◌, ◌^◌, All, drop, length, IfOk, IsTrue};
+ghost use Rattle.std.specs.Prelude.{◌<◌, ◌≤◌, ◌↔◌, ◌^◌, All, drop, length, IfOk, IsTrue};
 ghost use Rattle.lin_laws.specs.Graph.{AreNumbered};
 ghost use Rattle.lin_flow.specs.Labels.{AreLabelsOf};
 ghost use Rattle.lin_flow.specs.Sizes.{IsCountable};

@@ -2,7 +2,7 @@
 ghost use Rattle.std.specs.Prelude.{◌≡◌, ◌∷◌, IfOk};
 ghost use Rattle.lin_ir.specs.declared.lin.Flow.TheVariants as flow;
 ghost use Rattle.lin_ir.specs.declared.lin.LinOp.TheVariants as lin;
-ghost use Rattle.linear_rules.specs.Lowered.{same_spot, is_idle, line_of, bare, pops, lines_of_mark, lines_of, lowered_one};
+ghost use Rattle.linear_rules.specs.Lowered.{same_spot, is_idle, line_of, bare, pops, lines_of_mark, lowered_one};
 ghost use Rattle.lin_ir.specs.Meaning.{same_loc};
 ghost use Rattle.linearise.specs.Numbers.{number_in};
 

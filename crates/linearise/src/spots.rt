@@ -1,6 +1,6 @@
 //! Registers as spots.
-ghost use Rattle.std.specs.Prelude.{◌≡◌, ◌∷◌, [], IfOk, map};
-ghost use Rattle.linear_rules.specs.Lowered.{home, spot, spots, line_of, bare, same_spot, is_idle};
+ghost use Rattle.std.specs.Prelude.{◌≡◌, IfOk};
+ghost use Rattle.linear_rules.specs.Lowered.{home, spot, spots, line_of, bare};
 ghost use Rattle.linearise.specs.Numbers.{number_in};
 
 use bs_words::{Comp, Loc};

@@ -1,5 +1,5 @@
 //! Items that are found from the last one to the first.
-ghost use Rattle.std.specs.Prelude.{◌≡◌, ◌∷◌, [], drop, option_copied, slice_get, IfOk};
+ghost use Rattle.std.specs.Prelude.{◌≡◌, ◌∷◌, [], drop, slice_get, IfOk};
 
 use std::alloc::{AllocError, Global};
 use std::marker::Model;

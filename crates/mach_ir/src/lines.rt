@@ -1,10 +1,9 @@
 //! The text of a Mach function.
 ghost use Rattle.std.specs.Prelude.{◌≡◌, ◌++◌, true, false, codes, IfOk};
-ghost use Rattle.std.specs.Fmt.{decimal};
 ghost use Rattle.bs_words.specs.Contents.{contents};
 ghost use Rattle.mach_ir.specs.Pages.{Adds};
 ghost use Rattle.mach_ir.specs.Words.{label_text, separator};
-ghost use Rattle.mach_ir.specs.Text.{reg_text, regs_text, results_text, is_first, numbers_text, mark_word, mark_text};
+ghost use Rattle.mach_ir.specs.Text.{reg_text, regs_text, results_text, numbers_text, mark_word, mark_text};
 ghost use Rattle.mach_ir.specs.Text.{instr_word, instr_text, mark_turn, turn_of, indent_at, indent_on, line_text};
 ghost use Rattle.mach_ir.specs.Text.{shown, lines_text, mach_text};
 

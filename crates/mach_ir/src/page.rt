@@ -1,7 +1,6 @@
 //! The words in which functions of both languages are printed.
 ghost use Rattle.std.specs.Prelude.{◌≡◌, ◌++◌, codes, IfOk};
-ghost use Rattle.std.specs.Fmt.{decimal, signed_decimal};
-ghost use Rattle.bs_words.specs.Word.{signed_of};
+ghost use Rattle.std.specs.Fmt.{decimal};
 ghost use Rattle.mach_ir.specs.Pages.{Adds};
 ghost use Rattle.mach_ir.specs.Words.{comp_letter, register_name, label_text, word_text, separator, signed_word};
 ghost use Rattle.mach_ir.specs.Words.{unsigned_word, operator_word, chunk_word, copy_word, pure_word, access_word};

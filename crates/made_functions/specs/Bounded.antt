@@ -1,5 +1,5 @@
 -- How large what is made of a function is at most, by its text.
-use Rattle.std.specs.Prelude.{ℕ, ◌+◌, ◌*◌, ◌≤◌, List, length, All}
+use Rattle.std.specs.Prelude.{◌+◌, ◌*◌, ◌≤◌, List, length, All}
 use Rattle.cmm_tree.specs.Tree.{FunctionTree}
 use Rattle.correctness.specs.Bounds.{most_words}
 use Rattle.correctness.specs.Measures.{frame_points, tries}

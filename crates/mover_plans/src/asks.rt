@@ -1,5 +1,5 @@
 //! The asks of a seed.
-ghost use Rattle.std.specs.Prelude.{◌≡◌, ◌%◌, suc, ◌==◌};
+ghost use Rattle.std.specs.Prelude.{◌≡◌, ◌%◌, ◌==◌};
 ghost use Rattle.rand_pcg.specs.Pcg.{pcg32};
 ghost use Rattle.mover_plans.specs.Words.{generator};
 

@@ -1,7 +1,5 @@
 //! The services of the runtime: return, uncaught raise, external calls and allocation.
-ghost use Rattle.std.specs.Prelude.{◌≡◌, ◌≤◌, ◌<◌, ◌-◌, ◌^◌, ℕ, List, [], length, drop, IfOk, slice_get, suc};
-ghost use Rattle.image_form.specs.Tables.{tables, ext};
-ghost use Rattle.image_form.specs.Image.{IsImage, IsExt};
+ghost use Rattle.std.specs.Prelude.{◌≡◌, ◌≤◌, ◌<◌, ◌-◌, ◌^◌, ℕ, List, length, drop, IfOk, suc};
 ghost use Rattle.mover_runtime.specs.Written.{Writes, Counts};
 ghost use Rattle.alloc_service.specs.Plan.{Keeps, both_counted, plan_of, services_counted, with_counts};
 ghost use Rattle.alloc_service.specs.Plan.{Serves as ServesBy};

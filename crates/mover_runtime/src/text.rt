@@ -1,5 +1,5 @@
 //! Writing the outcome text piece by piece, with no memory taken.
-ghost use Rattle.std.specs.Prelude.{◌≡◌, ◌≤◌, ◌<◌, ◌+◌, ◌++◌, codes, length, drop, take};
+ghost use Rattle.std.specs.Prelude.{◌≡◌, ◌≤◌, ◌<◌, ◌+◌, ◌++◌, codes, length, take};
 ghost use Rattle.std.specs.Fmt.{decimal, signed_decimal};
 ghost use Rattle.bs_words.specs.Word.{signed_of};
 ghost use Rattle.bs_words.specs.Contents.{contents};

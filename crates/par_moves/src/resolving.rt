@@ -1,9 +1,9 @@
 //! The order of the walks.
-ghost use Rattle.std.specs.Prelude.{◌≡◌, ◌≢◌, ◌≤◌, ◌++◌, [], All, AllPairs, OnOk, IfOk};
+ghost use Rattle.std.specs.Prelude.{◌≡◌, ◌≢◌, ◌++◌, All, AllPairs, OnOk, IfOk};
 ghost use Rattle.bs_words.specs.Contents.{contents};
-ghost use Rattle.par_moves.specs.Index.{Holds, held};
+ghost use Rattle.par_moves.specs.Index.{Holds};
 ghost use Rattle.par_moves.specs.Moves.{Moves, LeavesSources, IsMadeFor, ReadsSources, OneMoreForEachCycle};
-ghost use Rattle.par_moves.specs.Resolved.{drained_at, drained, resolved_moves};
+ghost use Rattle.par_moves.specs.Resolved.{drained_at, resolved_moves};
 
 use crate::moves::{Move, SPARE};
 use crate::pending::Pending;

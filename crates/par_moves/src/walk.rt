@@ -1,5 +1,5 @@
 //! The walk from one move to the moves that read its target.
-ghost use Rattle.std.specs.Prelude.{◌≡◌, ◌≤◌, ◌++◌, [], OnOk, IfOk, reverse};
+ghost use Rattle.std.specs.Prelude.{◌≡◌, ◌≤◌, ◌++◌, OnOk, IfOk, reverse};
 ghost use Rattle.par_moves.specs.Index.{Holds, held};
 ghost use Rattle.par_moves.specs.Moves.{Moves};
 ghost use Rattle.par_moves.specs.Resolved.{top_target, unwound_root, unwound_moves, walk_from};

@@ -1,5 +1,5 @@
 -- What the passes and register allocation make of a function of an accepted text is known.
-use Rattle.std.proofs.Common.{◌≡◌, ℕ, ◌+◌, ◌-◌, ◌*◌, ◌≤◌, List, length, Option, ap, arith}
+use Rattle.std.proofs.Common.{ℕ, ◌+◌, ◌-◌, ◌*◌, ◌≤◌, List, length, Option, ap, arith}
 use Rattle.std.proofs.lemmas.List.{length-map}
 use Rattle.bs_words.specs.declared.types.Comp.{Comp}
 use Rattle.cmm_tree.specs.Measures.{all_tries}

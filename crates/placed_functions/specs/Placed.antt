@@ -1,6 +1,6 @@
 -- What is known of the Mach function with places that is made of a function of an accepted text, whatever
 -- passes made it. That its code does what the text says, and is as small, rests on this alone.
-use Rattle.std.specs.Prelude.{ℕ, ◌+◌, ◌*◌, ◌-◌, ◌≤◌, length, All}
+use Rattle.std.specs.Prelude.{◌+◌, ◌*◌, ◌-◌, ◌≤◌, length, All}
 use Rattle.cmm_tree.specs.Measures.{all_tries}
 use Rattle.cmm_tree.specs.Tree.{FunctionTree}
 use Rattle.correctness.specs.Measures.{tries}

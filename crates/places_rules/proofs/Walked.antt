@@ -14,7 +14,7 @@ use Rattle.mach_ir.specs.Walks.{Among, first, later, OneOf, targets, may_raise, 
 use Rattle.mach_ir.specs.declared.reg.Reg.{Reg}
 use Rattle.mach_ir.specs.declared.mach.Instr.{Instr}
 use Rattle.mach_ir.specs.declared.mach.Mach.{Mach}
-use Rattle.mach_laws.specs.Expand.{Ending, all, more}
+use Rattle.mach_laws.specs.Expand.{Ending, all}
 use Rattle.mach_laws.proofs.Places.{ending_next, ending_label, ending_from_handler, stands_of, ending_of, results_in}
 use Rattle.mach_laws.proofs.Among.{left_among, right_among, split_among, among_of}
 use Rattle.places_rules.specs.Places.{Placing, IsPlacing, placed, all_placed, placed_instr, placed_code, with_places}

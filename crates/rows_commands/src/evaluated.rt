@@ -7,9 +7,9 @@ use anyhow::{Result, bail};
 use bs_words::List;
 use cmm_eval::Layout;
 use cmm_front::front;
+use cmmc_core::{CallRefusal, call_of, told_of_run};
 use command_line::{CheckWords, Command, read_words};
 use std::alloc::{AllocError, Global};
-use text_commands::{CallRefusal, call_of, told_of_run};
 
 /// The most functions of a text.
 const FUNCTIONS: u32 = 64;

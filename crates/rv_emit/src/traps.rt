@@ -1,5 +1,5 @@
 //! Traps, raises and bound tests.
-ghost use Rattle.std.specs.Prelude.{◌≡◌, [], ◌∷◌, IfOk};
+ghost use Rattle.std.specs.Prelude.{[], ◌∷◌, IfOk};
 ghost use Rattle.emit_rules.specs.Instructions.{load};
 ghost use Rattle.emit_rules.specs.Traps.{raise_words, push_part, pop_part, enter_part, raise_bound_error, check_part};
 ghost use Rattle.rv_emit.specs.Outputs.{Adds};

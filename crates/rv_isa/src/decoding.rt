@@ -2,7 +2,7 @@
 
 ghost use Rattle.std.specs.Prelude.{◌≡◌, IfSome};
 ghost use Rattle.rv_isa.specs.Word.{FieldsFit};
-ghost use Rattle.rv_isa.specs.Immediate.{i_raw, s_raw, b_raw, u_raw, j_raw, amount_raw};
+ghost use Rattle.rv_isa.specs.Immediate.{i_raw, s_raw, b_raw, u_raw, j_raw};
 ghost use Rattle.rv_isa.specs.Encoding.{InstrFits, encoded};
 ghost use Rattle.rv_isa.specs.Decoding.{decoded, row, row_of};
 ghost use Rattle.rv_isa.specs.Rows.{OP-IMM, OP-IMM-32};

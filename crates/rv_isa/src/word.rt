@@ -1,7 +1,7 @@
 //! A word as its six fields. Each format of the manual cuts a word at the same places, so that its
 //! immediates are arithmetic on these fields.
 
-ghost use Rattle.std.specs.Prelude.{◌≡◌, ◌+◌, ◌*◌, ◌/◌, ◌%◌, ◌<◌, ◌^◌};
+ghost use Rattle.std.specs.Prelude.{◌≡◌, ◌+◌, ◌*◌, ◌/◌, ◌%◌};
 
 /// The fields of a word, from its lowest bit: 7, 5, 3, 5, 5 and 7 bits.
 #[derive(Copy, Clone, PartialEq, Eq, Debug)]

@@ -1,9 +1,9 @@
 //! The forms in which the pieces of a function are laid.
 ghost use Rattle.std.specs.Prelude.{◌≡◌, ◌*◌, ◌<◌, ◌≤◌, ◌^◌, length, IfOk};
 ghost use Rattle.layout_rules.specs.Forms.{branch_words, jump_words, words_of, branch_reaches, jal_reaches};
-ghost use Rattle.layout_rules.specs.Forms.{branch_form, jump_form, needed, rank, ranks, place_of, longer, grown_from};
+ghost use Rattle.layout_rules.specs.Forms.{branch_form, jump_form, needed, rank, ranks, longer, grown_from};
 ghost use Rattle.layout_rules.specs.Forms.{AreForms};
-ghost use Rattle.rv_layout.specs.Tables.{places_of, IsTableOf};
+ghost use Rattle.rv_layout.specs.Tables.{places_of};
 
 use crate::labels::{Labels, label_bound};
 use layout_rules::Form;

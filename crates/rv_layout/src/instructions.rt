@@ -1,5 +1,5 @@
 //! The words of pieces, once it is known where everything lies.
-ghost use Rattle.std.specs.Prelude.{◌≡◌, ◌+◌, ◌%◌, ◌≤◌, ◌<◌, ◌^◌, [], ◌∷◌, ◌++◌, map, OnOk};
+ghost use Rattle.std.specs.Prelude.{◌≡◌, ◌+◌, ◌%◌, ◌<◌, ◌^◌, [], ◌∷◌, ◌++◌, map, OnOk};
 ghost use Rattle.layout_rules.specs.Conditions.{LeadsTo};
 ghost use Rattle.rv_pieces.specs.Named.{PieceFits};
 ghost use Rattle.layout_rules.specs.Words.{distance, branch_offset, jal_offset, upper, lower, inverted, far_jump};

@@ -2,7 +2,7 @@
 ghost use Rattle.std.specs.Prelude.{◌≡◌, ◌*◌, ◌^◌, ◌<◌, ◌≤◌, true, length, slice_index};
 ghost use Rattle.bs_words.specs.Contents.{contents};
 ghost use Rattle.image_form.specs.Image.{code_limit};
-ghost use Rattle.rv_machine.specs.Memory.{Region, is_inside, index_in, byte_in, part, code_region, words_of_halves};
+ghost use Rattle.rv_machine.specs.Memory.{is_inside, index_in, byte_in, part, code_region, words_of_halves};
 ghost use Rattle.rv_machine.specs.Width.{IsWidth};
 
 use crate::region::low_bytes;

@@ -1,9 +1,9 @@
 //! Loading: the machine at the entry of a function of an image.
-ghost use Rattle.std.specs.Prelude.{◌≡◌, ◌↔◌, ◌≤◌, ◌<◌, ◌^◌, ◌*◌, length, slice_index, map, Ok, Err, IfOk, option_map};
+ghost use Rattle.std.specs.Prelude.{◌≡◌, ◌↔◌, ◌≤◌, ◌<◌, ◌*◌, length, slice_index, map, Ok, Err, IfOk, option_map};
 ghost use Rattle.std.specs.Option.{option_copied};
 ghost use Rattle.bs_words.specs.Fits.{data_limit};
 ghost use Rattle.bs_words.specs.Contents.{contents};
-ghost use Rattle.image_form.specs.Image.{IsImage, code_limit};
+ghost use Rattle.image_form.specs.Image.{IsImage};
 ghost use Rattle.image_form.specs.Tables.{tables, func, sym};
 ghost use Rattle.rv_machine.specs.Start.{start_memory, padded};
 ghost use Rattle.rv_machine.specs.Loading.{IsRoom, beginning, func_named, sym_named, address_of, word_of_arg, suited};

@@ -1,9 +1,8 @@
 //! The state of the machine, and what reads and sets it.
-ghost use Rattle.std.specs.Prelude.{◌≡◌, ◌+◌, ◌-◌, ◌*◌, ◌/◌, ◌^◌, ◌<◌, ◌≤◌, [], true, length, slice_index, IfSome};
-ghost use Rattle.bs_words.specs.Contents.{contents};
+ghost use Rattle.std.specs.Prelude.{◌≡◌, ◌+◌, ◌-◌, ◌*◌, ◌/◌, ◌^◌, ◌<◌, ◌≤◌, [], true, slice_index, IfSome};
 ghost use Rattle.image_form.specs.Image.{IsImage};
 ghost use Rattle.image_form.specs.Tables.{tables};
-ghost use Rattle.rv_machine.specs.Hart.{Hart, register, fetch, readable, sets, goes_to, jumps};
+ghost use Rattle.rv_machine.specs.Hart.{Hart, register, fetch, readable, sets, goes_to};
 ghost use Rattle.rv_machine.specs.Loading.{IsRoom};
 ghost use Rattle.rv_machine.specs.Memory.{loaded, stored};
 ghost use Rattle.rv_machine.specs.Space.{IsSpace};
@@ -59,8 +58,7 @@ pub struct Machine<'a> {
 }
 
 impl<'a> Model for Machine<'a> {
-    ghost use Rattle.std.specs.Prelude.{◌≡◌, ◌≤◌, ◌*◌, ◌/◌, length, slice_index};
-    ghost use Rattle.bs_words.specs.Contents.{contents};
+    ghost use Rattle.std.specs.Prelude.{◌≡◌, ◌≤◌, ◌*◌, ◌/◌, slice_index};
     ghost use Rattle.image_form.specs.Tables.{tables};
     ghost use Rattle.image_form.specs.Image.{IsImage};
     ghost use Rattle.rv_machine.specs.Hart.{Hart};

@@ -1,5 +1,5 @@
 //! What an observer sees of a word of the machine.
-ghost use Rattle.std.specs.Prelude.{◌≡◌, ◌<◌, ◌^◌, ◌&&◌, nat_le, length, reverse, IfSome};
+ghost use Rattle.std.specs.Prelude.{◌≡◌, ◌<◌, ◌^◌, ◌&&◌, nat_le, reverse, IfSome};
 ghost use Rattle.rv_machine.specs.Hart.{register};
 ghost use Rattle.rv_machine.specs.Observation.{observed, all_blocks, serial_from, young_blocks, or_none, passed};
 

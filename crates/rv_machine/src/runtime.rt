@@ -1,5 +1,5 @@
 //! What the services of the runtime do to the machine.
-ghost use Rattle.std.specs.Prelude.{◌≡◌, ◌-◌, ◌^◌, ◌<◌, slice_index};
+ghost use Rattle.std.specs.Prelude.{◌≡◌, slice_index};
 ghost use Rattle.rv_machine.specs.Services.{filled, destroyed};
 
 use crate::start::FILLER;

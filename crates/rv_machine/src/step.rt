@@ -1,10 +1,9 @@
 //! One instruction of the hart.
-ghost use Rattle.std.specs.Prelude.{◌≡◌, ◌+◌, ◌-◌, ◌*◌, ◌^◌, ◌<◌, IfSome};
+ghost use Rattle.std.specs.Prelude.{◌≡◌, ◌+◌, ◌-◌, ◌^◌, ◌<◌};
 ghost use Rattle.rv_isa.specs.Encoding.{InstrFits};
-ghost use Rattle.rv_machine.specs.Hart.{executed, hart, jumps, sets, goes_to, readable};
-ghost use Rattle.rv_machine.specs.Memory.{loaded, code_region, read};
+ghost use Rattle.rv_machine.specs.Hart.{executed, hart, jumps, sets};
+ghost use Rattle.rv_machine.specs.Memory.{loaded};
 ghost use Rattle.rv_machine.specs.Step.{counted_next, next_of, Keeps, IsNear};
-ghost use Rattle.rv_machine.specs.Width.{IsWidth};
 
 use crate::arithmetic;
 use crate::cause::Cause;

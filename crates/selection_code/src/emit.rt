@@ -1,5 +1,5 @@
 //! The instructions that selection makes.
-ghost use Rattle.std.specs.Prelude.{◌≡◌, ◌+◌, ◌*◌, ◌-◌, ◌<◌, ◌≤◌, [], ◌∷◌, ◌++◌, IfOk, OnOk};
+ghost use Rattle.std.specs.Prelude.{◌≡◌, ◌*◌, ◌-◌, ◌<◌, [], ◌∷◌, IfOk, OnOk};
 ghost use Rattle.selection_rules.specs.Instructions as emit;
 ghost use Rattle.selection_rules.specs.Select.{move_from, move_to, moves_all, rounded, power_code, operator_code, shape_args};
 ghost use Rattle.selection_rules.specs.Select.{cell_stores};

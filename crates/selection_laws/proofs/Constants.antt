@@ -1,5 +1,5 @@
 -- The constants of an instruction that has a form are words.
-use Rattle.std.proofs.Common.{◌≡◌, ℕ, suc, ◌<◌, ◌^◌, ◌/◌, true, ◌||◌, List, [], ◌∷◌, All, arith}
+use Rattle.std.proofs.Common.{◌≡◌, ℕ, suc, ◌<◌, ◌^◌, ◌/◌, true, List, [], ◌∷◌, All, arith}
 use Rattle.std.specs.Prelude.{◌==◌, nat_le}
 use Rattle.std.proofs.lemmas.Bool.{leb-true, eqb-true, and_parts}
 use Rattle.bs_words.specs.declared.operators.IntOp.{IntOp}

@@ -4,7 +4,7 @@
 //! The crate holds definitions and laws alone.
 #![tactic(auto)]
 
-ghost use Rattle.std.specs.Prelude.{ℕ, ◌+◌, ◌*◌, ◌≤◌, length};
+ghost use Rattle.std.specs.Prelude.{◌+◌, ◌*◌, ◌≤◌, length};
 ghost use Rattle.cmm_tree.specs.Measures.{nodes_in};
 ghost use Rattle.cmm_tree.specs.Tree.{FunctionTree};
 ghost use Rattle.correctness.specs.Measures.{frame_points, switch_indexes, tries};

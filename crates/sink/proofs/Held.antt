@@ -1,5 +1,5 @@
 -- What is held: it destroys every colour and goes on.
-use Rattle.std.proofs.Common.{◌≡◌, true, false, ◌∷◌, refl}
+use Rattle.std.proofs.Common.{◌≡◌, true, false, refl}
 use Rattle.mach_ir.specs.Acts.{Target, On}
 use Rattle.mach_ir.specs.Meaning.{Nothing, Temporaries, Everything, destroyed_by}
 use Rattle.mach_ir.specs.Walks.{OneOf, this, targets}

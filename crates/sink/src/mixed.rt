@@ -1,5 +1,5 @@
 //! The registers that some read may find both written since the last call and not.
-ghost use Rattle.std.specs.Prelude.{◌≡◌, false, length, replicate, IfOk};
+ghost use Rattle.std.specs.Prelude.{◌≡◌, false, replicate, IfOk};
 ghost use Rattle.bs_bits.specs.Set.{has};
 ghost use Rattle.dataflow.specs.Rows.{row};
 ghost use Rattle.sink.specs.Mixed.{noted_reads, noted_code};

@@ -1,5 +1,5 @@
 //! The registers that code reads, by their numbers.
-ghost use Rattle.std.specs.Prelude.{◌≡◌, None, length, replicate, IfOk};
+ghost use Rattle.std.specs.Prelude.{◌≡◌, None, replicate, IfOk};
 ghost use Rattle.sink.specs.Registers.{entered, entered_code};
 
 use mach_ir::{Instr, Reg};

@@ -1,5 +1,5 @@
 //! The text that is reported of a run of a text.
-ghost use Rattle.std.specs.Prelude.{◌≡◌, codes, map, IfOk};
+ghost use Rattle.std.specs.Prelude.{◌≡◌, map, IfOk};
 ghost use Rattle.std.specs.Fmt.{decimal, signed_decimal};
 ghost use Rattle.bs_words.specs.Contents.{contents};
 ghost use Rattle.bs_words.specs.Word.{signed_of};

@@ -1,5 +1,5 @@
 //! What is reported of the run of a call.
-ghost use Rattle.std.specs.Prelude.{◌≡◌, ℕ, None, IfOk, ◌<◌, ◌^◌, length};
+ghost use Rattle.std.specs.Prelude.{◌≡◌, None, IfOk, ◌<◌, ◌^◌, length};
 ghost use Rattle.bs_words.specs.Contents.{contents};
 ghost use Rattle.cmm_data.specs.Faults.{data_fault_of};
 ghost use Rattle.cmm_eval.specs.Annotated.{IsTyped, FitsEntry};

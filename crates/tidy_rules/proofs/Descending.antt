@@ -1,5 +1,5 @@
 -- Where only exits lead back in the text, the number of lines that are left goes down.
-use Rattle.std.proofs.Common.{◌≡◌, ◌≢◌, ℕ, suc, ◌<◌, false, List, [], ◌∷◌, length, ap, arith}
+use Rattle.std.proofs.Common.{◌≡◌, ◌≢◌, ℕ, suc, ◌<◌, false, List, ◌∷◌, length, ap, arith}
 use Rattle.std.specs.List.{AllPairs}
 use Rattle.mach_ir.specs.Acts.{Target, On, At}
 use Rattle.mach_ir.specs.Walks.{OneOf}

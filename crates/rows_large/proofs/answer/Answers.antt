@@ -1,4 +1,4 @@
-use Rattle.std.proofs.Common.{◌≡◌, ◌<◌, length, sym, subst, ◌∙◌}
+use Rattle.std.proofs.Common.{◌<◌, length, sym, subst, ◌∙◌}
 use Rattle.std.specs.Prelude.{◌^◌}
 use Rattle.cmm_tree.specs.Tree.{functions}
 use Rattle.cmm_tree.specs.View.{file_view}

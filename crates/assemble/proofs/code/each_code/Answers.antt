@@ -1,4 +1,4 @@
-use Rattle.std.proofs.Common.{◌≡◌, length, subst, rules, ◌∙◌, arith}
+use Rattle.std.proofs.Common.{length, subst, rules, arith}
 use Rattle.std.proofs.lemmas.Result.{IfOk-weaker}
 use Rattle.assemble.specs.Code.{IsCodeAt}
 use Rattle.fork_join.specs.Calls.{AreGiven}

@@ -1,4 +1,4 @@
-use Rattle.std.proofs.Common.{◌≡◌, length, subst, rules}
+use Rattle.std.proofs.Common.{length, subst, rules}
 use Rattle.std.proofs.lemmas.Result.{IfOk-weaker}
 use Rattle.assemble.specs.Places.{IsLaid, IsLaidAt}
 use Rattle.fork_join.specs.Calls.{AreGiven}

@@ -1,4 +1,4 @@
-use Rattle.std.proofs.Common.{◌≡◌, List, ap, arith, slice_set, [], ◌<◌, length}
+use Rattle.std.proofs.Common.{List, ap, arith, slice_set, [], ◌<◌, length}
 use Rattle.bs_words.specs.Memory.{HeapBlock}
 use Rattle.bs_words.specs.declared.values.Value.{Value}
 use Rattle.cmm_values.specs.Views.{block_view}

@@ -1,4 +1,4 @@
-use Rattle.std.proofs.Common.{◌≡◌, ℕ, ◌+◌, drop, not}
+use Rattle.std.proofs.Common.{◌≡◌, ◌+◌, drop, not}
 use Rattle.std.specs.Prelude.{count_by}
 use Rattle.colouring.specs.Chosen.{is_slot}
 use Rattle.colouring.specs.Tables.{places_by}

@@ -1,4 +1,4 @@
-use Rattle.std.proofs.Common.{◌<◌, ◌≤◌, length, ap, arith}
+use Rattle.std.proofs.Common.{◌<◌, length, ap, arith}
 use Rattle.std.proofs.lemmas.List.{length_push}
 use Rattle.lin_flow.specs.Search.{all_of}
 use Rattle.lin_flow.proofs.Visiting.{spreads_none, spreads_more}

@@ -1,4 +1,4 @@
-use Rattle.text_commands.proofs.Known.{few_functions}
+use Rattle.cmmc_core.proofs.Known.{few_functions}
 use Rattle.rows_commands.proofs.evaluated.told.Goals as goal
 
 pub call_of-requires-clause-few : goal.call_of-requires-clause-few
