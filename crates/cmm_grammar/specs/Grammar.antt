@@ -24,7 +24,7 @@ use Rattle.cmm_grammar.specs.declared.word.DataWord.TheVariants as item
 use Rattle.cmm_grammar.specs.Parts.{ResultPart, BindingPart, CasePart, HandlerPart, HeadPart, FunctionItem, DataItem, expressions, bindings, cases, handlers, sequence_at, sequence}
 use Rattle.cmm_grammar.specs.Rewriting.{array_load, array_store, while_loop}
 use Rattle.cmm_grammar.specs.Words.{is_close, is_colon, is_name, is_integer, is_float, is_string, is_with, is_case, is_no_case, is_and, is_data, is_function, is_alloc, is_symbol_token, is_ret, ends_case, ends_handler, passing, marked, word_of, comp_of, ret_of, head_of, chunk_word_of, width_of, unsigned_chunk, signed_chunk, data_word_of, val_of}
-use Rattle.cmm_grammar.specs.Rule.{AToken, AnExpression, AParameter, ADeclaration, AResult, ABinding, AnIndex, ACase, AHandler, ALabel, AHead, AChunkWord, AWidth, ADataWord, ADatum, ADataItem, AnItem, Listed, Both, Rule, One, Expr, Inside, give, inside_or, labelled_or, maybe, until, repeat}
+use Rattle.cmm_grammar.specs.Rule.{AToken, AnExpression, AParameter, ADeclaration, AResult, ABinding, AnIndex, ACase, AHandler, ALabel, AHead, AChunkWord, AWidth, ADataWord, ADatum, ADataItem, AnItem, Listed, Both, Rule, One, Expr, Inside, ◌>>=◌, ◌>>◌, give, inside_or, labelled_or, maybe, until, repeat}
 
 -- ---- one token
 

@@ -16,7 +16,7 @@ use Rattle.image_form.specs.declared.reading.Limits.{Limits}
 use Rattle.image_form.specs.Tables.{Func, Tables, func_names}
 use Rattle.image_form.specs.declared.image.Image as declared
 use Rattle.image_form.specs.Image.{IsImage, image_bytes, end_of, magic, table_limit, code_limit}
-use Rattle.image_form.specs.Fields.{func_at, sym_at, root_at, ext_at, desc_at, table_at, words_at}
+use Rattle.image_form.specs.Fields.{◌>>=◌, func_at, sym_at, root_at, ext_at, desc_at, table_at, words_at}
 
 -- What a function of the code returned, seen by view, is what reading gives, unless memory ran out.
 abbrev pub Refuses : {Y : Type 0} → ImageError → Result Y ImageRefusal → Type 0
