@@ -451,7 +451,7 @@ impl<'a> Cells<'a> {
         let first = self.len();
         self.handlers(scope, slot, handlers, handlers, first, rest)?;
         let in_handler = false;
-        let behind_body = self.push(Item::Catches {
+        let after_body = self.push(Item::Catches {
             scope,
             slot,
             in_handler,
@@ -459,7 +459,7 @@ impl<'a> Cells<'a> {
             first,
             rest,
         })?;
-        let cell = self.eval(scope, slot, body, behind_body)?;
+        let cell = self.eval(scope, slot, body, after_body)?;
         Ok(cell)
     }
 
@@ -617,8 +617,8 @@ impl<'a> Cells<'a> {
                 name,
                 handler,
             } => {
-                let behind_body = self.after_try_body(scope, slot, *name_at, name, handler, rest)?;
-                self.eval(scope, slot, body, behind_body)
+                let after_body = self.after_try_body(scope, slot, *name_at, name, handler, rest)?;
+                self.eval(scope, slot, body, after_body)
             }
         }
     }

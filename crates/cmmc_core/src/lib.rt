@@ -17,7 +17,7 @@ ghost use Rattle.bs_fault.specs.declared.fault.Fault.{Fault};
 ghost use Rattle.cmm_front.specs.FileOf.{IsFileOf, HasFault};
 ghost use Rattle.cmm_tree.specs.Tree.{FileTree};
 
-pub use text_commands::{CallRefusal, Gate, OpenGate, call_of, told_of_run};
+pub use text_commands::{CallRefusal, Gate, OpenGate, call_of, report_of_run};
 pub use top::cmmc;
 
 /// Law: a text has one file at most, one fault at most that is reported, and not both.

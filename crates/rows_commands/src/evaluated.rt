@@ -7,7 +7,7 @@ use anyhow::{Result, bail};
 use bs_words::List;
 use cmm_eval::Layout;
 use cmm_front::front;
-use cmmc_core::{CallRefusal, call_of, told_of_run};
+use cmmc_core::{CallRefusal, call_of, report_of_run};
 use command_line::{CheckWords, Command, read_words};
 use std::alloc::{AllocError, Global};
 
@@ -63,7 +63,7 @@ fn told(alloc: Global, layout: &Layout, row: &str) -> Result<Vec<u8>> {
     let file = checked.typed().file();
     match call_of(alloc, file, &check) {
         Ok(call) => {
-            let told = told_of_run(alloc, file, layout, &call, check.fuel)?;
+            let told = report_of_run(alloc, file, layout, &call, check.fuel)?;
             Ok(told.into_vec())
         }
         Err(CallRefusal::UnknownEntry) => Ok(b"U3 UnknownEntry\n".to_vec(alloc)?),

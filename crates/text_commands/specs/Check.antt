@@ -15,8 +15,8 @@ use Rattle.text_commands.specs.Compile.{IsOnlyMadeFor}
 use Rattle.text_commands.specs.Lines.{check_text}
 
 -- what is reported of a run of a file: of a function on words, with these frames and addresses
-abbrev pub told_of_run : FileTree → Layout → ℕ → List ℕ → List ℕ → ℕ → List ℕ
-told_of_run file layout entry args answers fuel =
+abbrev pub report_of_run : FileTree → Layout → ℕ → List ℕ → List ℕ → ℕ → List ℕ
+report_of_run file layout entry args answers fuel =
     check_text fuel (cmm_run file layout entry args answers fuel)
 
 -- This is reported of the run of a text: of the function of its file on the words, with the frames and addresses of the
@@ -31,7 +31,7 @@ pub record IsCheckOf (check : CheckTree) (text lines : List ℕ) : Type 0 where
   pub image : Tables
   pub made : IsOnlyMadeFor file image
   pub fits : first_too_large image ≡ None
-  pub told : lines ≡ told_of_run file (layout_of image) entry args answers check.fuel
+  pub told : lines ≡ report_of_run file (layout_of image) entry args answers check.fuel
 
 -- The text has a file, and no function of that name.
 pub record HasNoEntry (check : CheckTree) (text : List ℕ) : Type 0 where

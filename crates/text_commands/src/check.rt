@@ -6,7 +6,7 @@ ghost use Rattle.text_commands.specs.Check.{IsCheckOf};
 ghost use Rattle.text_commands.specs.CheckRefusal.{IsCheckRefusal};
 
 use crate::ready::made_ready;
-use crate::run::told_of_run;
+use crate::run::report_of_run;
 use bs_fault::{Fault, Large};
 use bs_words::List;
 use command_line::CheckWords;
@@ -54,7 +54,7 @@ pub fn check_text<R: Threads + Sync, G: Gate + Sync>(
 {
     let ready = made_ready(rt, alloc, text, check, gate)?;
     let file = ready.checked.typed().file();
-    match told_of_run(alloc, file, &ready.layout, &ready.call, check.fuel) {
+    match report_of_run(alloc, file, &ready.layout, &ready.call, check.fuel) {
         Ok(told) => Ok(told),
         Err(_) => Err(CheckRefusal::OutOfMemory),
     }

@@ -18,5 +18,5 @@ pub use check::{CheckRefusal, check_text};
 pub use compile::{Refusal, compile_text};
 pub use file_compile::{Gate, OpenGate};
 pub use list::list_text;
-pub use run::{outcome_of_run, told_of_run};
+pub use run::{outcome_of_run, report_of_run};
 pub use trial::{Trial, trial_of};

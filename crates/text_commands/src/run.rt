@@ -19,7 +19,7 @@ use std::alloc::{AllocError, Global};
 
 /// What is reported of the run of a call with so much fuel: its outcome, and what it needs of stack, heap and fuel. The
 /// frames and addresses of the file's functions are handed in.
-pub fn told_of_run(
+pub fn report_of_run(
     alloc: Global,
     file: &File,
     layout: &Layout,
@@ -32,7 +32,7 @@ pub fn told_of_run(
     requires fit { FitsEntry (file_view file.now) call.now.entry call.now.args.items }
     ensures { IfOk result (λ told.
         contents told
-        ≡ check.told_of_run (file_view file.now) (layout_view layout.now) call.now.entry
+        ≡ check.report_of_run (file_view file.now) (layout_view layout.now) call.now.entry
         call.now.args.items call.now.answers.items fuel) }
 {
     let run = eval(

@@ -4,5 +4,5 @@ use Rattle.rows_commands.proofs.evaluated.told.Goals as goal
 pub call_of-requires-clause-few : goal.call_of-requires-clause-few
 call_of-requires-clause-few c = rw (c.file-file.ensures.same, c.typed.ensures) (few_functions _ _ c.in-Ok.ensures.file)
 
-pub told_of_run-requires-clause-few : goal.told_of_run-requires-clause-few
-told_of_run-requires-clause-few c = rw (c.file-file.ensures.same, c.typed.ensures) (few_functions _ _ c.in-Ok.ensures.file)
+pub report_of_run-requires-clause-few : goal.report_of_run-requires-clause-few
+report_of_run-requires-clause-few c = rw (c.file-file.ensures.same, c.typed.ensures) (few_functions _ _ c.in-Ok.ensures.file)

@@ -7,11 +7,11 @@ use Rattle.cmm_tree.specs.View.{file_view}
 use Rattle.file_compile.proofs.Known.{few_functions}
 use Rattle.image_form.specs.Tables.{tables}
 use Rattle.text_commands.proofs.Passing.{only_made}
-use Rattle.text_commands.specs.Check.{told_of_run}
+use Rattle.text_commands.specs.Check.{report_of_run}
 use Rattle.text_commands.proofs.check.check_text.Goals as goal
 
-pub told_of_run-requires-clause-few : goal.told_of_run-requires-clause-few
-told_of_run-requires-clause-few g c =
+pub report_of_run-requires-clause-few : goal.report_of_run-requires-clause-few
+report_of_run-requires-clause-few g c =
     let r = c.in_ok-ready.ready in
     let file = file_view r.checked in
     let same : file_view c.file-file.result.now ≡ file = rw (c.file-file.ensures.same, c.typed.ensures) refl in
@@ -36,6 +36,6 @@ returns-in-Ok-clause-told g c =
       fits = is.fits;
       told =
           c.in-Ok.ensures
-          ∙ ap (λ (f : FileTree). told_of_run f (layout_view r.layout) r.call.entry r.call.args.items r.call.answers.items c.args.check.now.fuel) same
-          ∙ ap (λ (l : Layout). told_of_run file l r.call.entry r.call.args.items r.call.answers.items c.args.check.now.fuel) c.in_ok-ready.ensures.layout;
+          ∙ ap (λ (f : FileTree). report_of_run f (layout_view r.layout) r.call.entry r.call.args.items r.call.answers.items c.args.check.now.fuel) same
+          ∙ ap (λ (l : Layout). report_of_run file l r.call.entry r.call.args.items r.call.answers.items c.args.check.now.fuel) c.in_ok-ready.ensures.layout;
     }

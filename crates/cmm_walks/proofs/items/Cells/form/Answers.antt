@@ -61,11 +61,11 @@ returns-in-Exit c =
     (λ cell h. λ s r scope typed. by-shape s c.args.slot c.args.expr.now _ _ _ c.in-Exit.is (exit-shape (names s) c.args.expr.now.at c.in-Exit.label_at c.in-Exit.label c.in-Exit.arguments c.as_slice-in-Exit.result.now c.as_slice-in-Exit.ensures.value) typed (λ q. h s r scope q))
     c.exits.ensures
 
-pub returns-in_ok-behind_body-in-Try : goal.returns-in_ok-behind_body-in-Try
-returns-in_ok-behind_body-in-Try c =
+pub returns-in_ok-after_body-in-Try : goal.returns-in_ok-after_body-in-Try
+returns-in_ok-after_body-in-Try c =
     IfOk-weaker c.eval.result _ _
     (λ cell h. λ s r scope typed. by-shape s c.args.slot c.args.expr.now _ _ _ c.in-Try.is (try-shape (names s) c.args.expr.now.at c.in-Try.name_at c.in-Try.name c.in-Try.body c.in-Try.handler c.deref-in-Try-2.result.now c.deref-in-Try.result.now c.deref-in-Try-2.ensures c.deref-in-Try.ensures) typed
     (λ q.
-    let b = c.in_ok-behind_body-in-Try.ensures s r scope q.1 in
+    let b = c.in_ok-after_body-in-Try.ensures s r scope q.1 in
     then (h s (ready b) (kept-scope b.extends scope) q.0 (kept-placed b.extends c.requires)) b))
     c.eval.ensures
