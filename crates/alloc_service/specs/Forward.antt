@@ -34,7 +34,7 @@ forward table w = mark_or (mark_at table w) w
 abbrev pub root_by : Tables → Marks → ℕ → Bool
 root_by image table w = (w % 2 == 1) || not (mark_at table w == 0) || is_in_data image w || is_in_code image w
 
--- the locations that frames name are roots; those in registers are of the first frame, where it comes
+-- the locations that frames name are roots; registers count where the first frame is among these (`first`)
 abbrev pub roots_by : (ℕ → Bool) → List ℕ → List Region → Bool → List Frame → Bool
 roots_by test registers m first fs =
     cond first (list_all (λ r. test (slice_index registers r)) (registers_of fs)) true

@@ -1,4 +1,4 @@
--- What is after an adapter.
+-- The reader and the writer that the adapters work on.
 use Rattle.bs_io.specs.declared.adapters.ReadSource.{ReadSource}
 use Rattle.bs_io.specs.declared.adapters.WriteSink.{WriteSink}
 

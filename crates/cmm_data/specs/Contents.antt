@@ -27,7 +27,7 @@ abbrev pub integer : ℕ → Option ℕ → List DataByte
 integer count (Some word) = little_endian count word
 integer count None = zeros count
 
--- what is where the address of a symbol is written. No symbol is a block, and one that is not defined
+-- the bytes that are written for the address of a symbol. No symbol is a block, and one that is not defined
 -- is reported as a fault.
 abbrev pub symbol_bytes : Option Value → List DataByte
 symbol_bytes (Some (Word address)) = little_endian 8 address

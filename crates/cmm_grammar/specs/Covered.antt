@@ -9,7 +9,7 @@ pub record IsCovered (f : FunctionTree) : Type 0 where
   pub integers_fit : IntegersFit f.body
   -- its body has at most three nodes for each token
   pub nodes_covered : 18 + 9 * length f.params + nodes_in f.body < 3 * f.tokens
-  -- it has at most two values and names for each token, where a try takes a token less
+  -- it has at most two values and names for each token, where each try counts as one token fewer
   pub tokens_cover :
       12 + 6 * length f.params + (values_in f.body + 2 * all_tries f.body) < 2 * f.tokens
 

@@ -23,7 +23,7 @@ pub record EndsInside (tokens : List TokenTree) : Type 0 where
   pub so_far : Begins nesting tokens
   pub no_end : (d : ℕ) (items : List ItemTree) → AreItems d items tokens → ⊥
 
--- A token comes so after those before it; it and those after it are so many.
+-- A token of which this holds, with those before it; with it so many tokens are left.
 pub record Stands (so : List TokenTree → TokenTree → Type 0) (tokens : List TokenTree) (left : ℕ) : Type 0 where
   pub before : List TokenTree
   pub bad : TokenTree

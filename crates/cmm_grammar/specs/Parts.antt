@@ -69,7 +69,8 @@ abbrev pub handlers : List HandlerPart → Handlers
 handlers [] = NoHandler
 handlers (h ∷ hs) = Handle h.at h.label h.params h.body (handlers hs)
 
--- Expressions one after the other. One expression is itself; more are a sequence, which begins with the first.
+-- Expressions one after the other. One expression is itself; more are a sequence, which has this place, or else that
+-- of the first.
 abbrev pub sequence_at : ℕ → Expression → List Expression → Expression
 sequence_at at e [] = e
 sequence_at at e (f ∷ es) = Seq at (expressions (e ∷ f ∷ es))

@@ -8,7 +8,7 @@ pub record Ready (Body : Type 0) : Type 0 where
   pub params : List Parameter
   pub body : Body
 
--- the handler of a label; where it was left from a handler of the same catch, the bare one is not visible
+-- the handler of a label; where the exit comes from a handler of the same catch, the bare one is not visible
 abbrev pub ready_for : {Body : Type 0} → Bool → LabelTree → List (Ready Body) → Option (Ready Body)
 ready_for {Body} within label handlers =
     find (λ (r : Ready Body). same_label label r.label && not (is_bare label && within)) handlers

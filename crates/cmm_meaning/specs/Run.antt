@@ -62,7 +62,7 @@ activated s frame (Some f) arguments below w =
 abbrev pub made : Made → List ℕ → World → World
 made call answers w = record w { made = w.made ++ call ∷ []; answers = answers }
 
--- an external call that is no frame call and has no result takes no answer; each other one takes the next
+-- of the calls that are no frame calls one without a result takes no answer, and each other one the next
 abbrev pub answered : Ret → Made → List ℕ → World → Evaluation
 answered ret.Unit call answers w = Gives None nobody (made call answers w)
 answered (ret.Comp c) call [] w = Stops (NoAnswer call) w

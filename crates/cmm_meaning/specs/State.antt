@@ -13,7 +13,7 @@ pub data Doing : Type 0 where
   Threw : (value : Value) (memory : Memory) → Doing
 
 -- A call of a function of the file: which, on what, on how many stack bytes, whether the callee takes the place of its
--- caller (a tail call), and round how many tries that the caller has entered.
+-- caller (a tail call), and inside how many tries of its caller.
 pub record Called : Type 0 where
   pub function : ℕ
   pub arguments : List Value
@@ -27,7 +27,7 @@ pub data Callee : Type 0 where
   Outside : (row : External) (frame : Bool) → Callee
 
 -- A call that one function makes: whom, with what, in which memory, and, of a function, on how many stack bytes, whether
--- as a tail call, and round how many tries.
+-- as a tail call, and inside how many tries of its caller.
 pub record Asked : Type 0 where
   pub callee : Callee
   pub arguments : List Value
@@ -83,7 +83,7 @@ pub record Binding : Type 0 where
 pub record Here : Type 0 where
   -- the bindings, the innermost first
   pub names : List Binding
-  -- stack bytes of the activations and tries that called this one
+  -- stack bytes of the activations and tries below this one
   pub below : ℕ
   -- the bytes of this activation's frame
   pub frame : ℕ

@@ -1,4 +1,4 @@
--- The types that the code's tree holds: each node has the type of the scope in which it is.
+-- The types that the code's tree holds: each node holds the type that it has in its scope.
 use Rattle.std.specs.Prelude.{◌≡◌, ℕ, false, List, ◌∷◌, option_map}
 use Rattle.bs_words.specs.declared.types.Ty.{Ty}
 use Rattle.bs_words.specs.declared.types.Ty.TheVariants.{Val}

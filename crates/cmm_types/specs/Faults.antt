@@ -18,7 +18,7 @@ abbrev pub row_length : Expressions → ℕ
 row_length NoMore = 0
 row_length (More e rest) = row_length rest + 1
 
--- the header of a block of so many cells: the number is above the low ten bits, there are 1 to 256
+-- the header of a block of so many cells: the bits above the low ten are that number, there are 1 to 256
 -- cells, and the tag, the low eight bits, is none of 245 to 250
 abbrev pub is_header : ℕ → ℕ → Bool
 is_header header cells =

@@ -56,8 +56,8 @@ pub data InHandlers (params : List Parameter) (e : Expression) : Handlers → Ty
       → InHandlers params e rest
       → InHandlers params e (Handle at label others other rest)
 
--- `InBindings value inner names bindings`: this is what one of the bindings binds, and it comes with the
--- names `inner` in scope: those before the bindings, and those that the earlier bindings bind
+-- `InBindings value inner names bindings`: `value` is what one of the bindings binds, and it is evaluated with
+-- the names `inner` in scope: those before the bindings, and those that the earlier bindings bind
 pub data InBindings (value : Expression) (inner : List Scoped) : List Scoped
     → Bindings
     → Type 0 where

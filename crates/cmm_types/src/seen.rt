@@ -159,7 +159,7 @@ pub fn has_float(params: &[Param]) -> bool
     false
 }
 
-/// Whether a block of so many cells may have this header: the number is above the low ten bits, there
+/// Whether a block of so many cells may have this header: the bits above the low ten are that number, there
 /// are 1 to 256 cells, and the tag, the low eight bits, is none of 245 to 250.
 pub fn is_header(header: u64, cells: usize) -> bool
     ensures { result ≡ is_header header cells }

@@ -26,7 +26,7 @@ pub record IsLive (file : FileTree) (bound point used : ℕ) : Type 0 where
   pub of_file : Contains (functions file) f
   pub live : IsLiveIn f bound point used
 
--- the first of two comes before the second: by the use, then by the frame point, then by the binding
+-- the first of two comes before the second, or is the same: by the use, then by the frame point, then by the binding
 abbrev pub Before : ℕ → ℕ → ℕ → ℕ → ℕ → ℕ → Type 0
 Before bound point used bound' point' used' =
     (used < used') ⊎ (((used ≡ used') × (point < point')) ⊎

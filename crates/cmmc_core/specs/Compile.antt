@@ -3,7 +3,7 @@ use Rattle.std.specs.Prelude.{ℕ, ◌<◌, List, All}
 use Rattle.bs_fault.specs.Limits.{longest_text}
 use Rattle.cmmc_core.specs.Effects.{Side, IsRead}
 
--- The text that was read from a source, bytes all of them, holds this.
+-- This holds of the text that was read from the source, all of it bytes.
 pub record Reads (Holds : List ℕ → Type 0) (source : Side) : Type 0 where
   pub text : List ℕ
   pub are_bytes : All (λ b. b < 256) text

@@ -35,11 +35,11 @@ HasOutput out status = Is 0 status ⊎ (Rose out × (status ≡ 6))
 -- ---- texts
 
 -- What a command comes to by the image that is made for the text's file, where it is asked of that
--- file. Where a file is sized and its image does not fit, the status is 8.
+-- file. Where the command needs an image that fits (`IsSized`), and it does not, the status is 8.
 pub record ImageComplete
     (text : List ℕ) (IsAsked IsSized : FileTree → Type 0) (out : Side) (status : ℕ)
     : Type 0 where
-  -- there is an output, or the file is sized, and a section of its image passes its limit
+  -- there is an output, or the image of the file must fit, and a section of it passes its limit
   pub accepted : (file : FileTree)
       → IsFileOf text file
       → IsAsked file

@@ -35,7 +35,7 @@ effects source out err = record { source = source; out = out; err = err }
 abbrev pub Rose : Side → Type 0
 Rose side = Risen side.faults_before side.faults_after
 
--- nothing was written to it
+-- nothing was read from it, or written to it
 abbrev pub IsKept : Side → Type 0
 IsKept side = Keeps side.before side.after
 

@@ -85,7 +85,7 @@ pub record IsUnfit (run : RunTree) (image : Tables) : Type 0 where
   pub unfit : (words_of_args image entry.params run.args ≡ None)
       ⊎ (words_of_answers image run.answers ≡ None)
 
--- So it is of the image that was read.
+-- The image that was read is unfit in this way.
 pub record GivesUnfit (run : RunTree) (source : Side) : Type 0 where
   pub image : Tables
   pub reads : ReadsImage source image

@@ -81,7 +81,7 @@ pub data Stands (others : List (List ℕ)) (slot : Slot) (text : List ℕ) : Typ
 abbrev pub HasText : List (List ℕ) → Slot → Option (List ℕ) → Type 0
 HasText others slot found = (text : List ℕ) × (found ≡ Some text) × Stands others slot text
 
--- the text by which an option is left out is read as the default, and as nothing else
+-- the text that stands for an option that is left out is read as the default, and as nothing else
 pub record Defaults {X : Type 0} (slot : Slot) (Reads : List ℕ → X → Type 0) (default : X) : Type 0 where
   pub text : List ℕ
   pub is : default_texts slot ≡ text ∷ []

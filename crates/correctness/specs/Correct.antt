@@ -31,7 +31,7 @@ pub record IsGiven (run : Run) (stack heap : ℕ) : Type 0 where
   pub stack_fits : run.stack_need ≤ stack
   pub heap_fits : run.heap_need ≤ heap
 
--- ---- the three parts, for one entry with its words, and one schedule
+-- ---- the two parts, for one entry with its words, and one schedule
 
 -- Forwards: whatever the text's run does with n units, the machine does, and within so many
 -- instructions.

@@ -27,7 +27,7 @@ pub record IsAtAllocation (m : Machine) : Type 0 where
 abbrev pub IsInNeed : Machine → Type 0
 IsInNeed m = IsAtAllocation m → register m.hart s10 < word m.hart.memory domain_start
 
--- So it is at each moment of a run. (Where the instruction is asked before, the limit word only rises.)
+-- So it is at each moment of a run. (Where the mover asks before the instruction, the limit word only rises.)
 abbrev pub AsksOnlyInNeed : Schedule → Now → Type 0
 AsksOnlyInNeed schedule start =
     (moment : ℕ) (m : Machine) → after schedule moment start ≡ Going m → IsInNeed m

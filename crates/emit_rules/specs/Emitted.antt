@@ -117,7 +117,7 @@ abbrev pub left_after : Bool → List Descr → List Descr
 left_after true (d ∷ ds) = ds
 left_after _ ds = ds
 
--- the number of traps that are pushed before a line is found by the number of lines after it
+-- the number of traps that are pushed before a line is looked up by the number of lines after it
 abbrev pub parts : (traps : ℕ → ℕ) → Frame → List Descr → List Line → List Piece
 parts traps f ds [] = []
 parts traps f ds (i ∷ next) =

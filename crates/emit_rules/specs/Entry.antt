@@ -22,7 +22,7 @@ return_offset f = f.bytes - 8
 abbrev pub taken : Frame → List Piece
 taken f = cond (nat_eq f.bytes 0) [] (lowered T1 Sp f.bytes)
 
--- sp is lowered by the frame, and then ra has its place
+-- sp is lowered by the frame, and then ra is stored in its place
 abbrev pub entry : Frame → List Piece
 entry f = taken f ++ cond f.saves (stack_store T1 Ra (return_offset f)) []
 

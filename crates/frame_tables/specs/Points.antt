@@ -108,7 +108,7 @@ pub record HasRoots (m : Lin) (old new : Search) (reached k : ℕ) : Type 0 wher
       ((q : ℕ) × (slice_get (all_of new) q ≡ Some (position p []))) ⊎ HasFirst new p reached
 
 -- The first positions are those that walks come to. Each frame point has one of them, or one with
--- no trap pushed, and so has wherever control goes from any.
+-- no trap pushed; and where control goes from a place that has a position, there is one too.
 pub record IsSearched (m : Lin) (s : Search) (reached : ℕ) (nodes : List place.Place) : Type 0 where
   pub numbered : AreNumbered m
   pub grouped : AreGrouped s

@@ -1,7 +1,7 @@
 //! Frame descriptors: what is live as val after each frame point of a Linear function, exactly.
 //!
 //! A collector that moves heap blocks rewrites exactly the locations that descriptors name. So one
-//! that is missing leaves an old address after, and one too many may be no pointer. OCaml's pass is
+//! that is missing leaves an old address there, and one too many may be no pointer. OCaml's pass is
 //! in `Emit` (`record_frame`), over the sets that `Liveness` leaves at each instruction.
 //!
 //! A raise goes to the handler of the innermost trap that is pushed, which depends on the walk. So

@@ -8,7 +8,7 @@ use Rattle.mach_ir.specs.declared.mach.Mach.{Mach}
 use Rattle.hoist_rules.specs.Hoisted.{MayMove, hoisted}
 
 -- A loop round the code `from`, by the text: its label is there or before, and an exit to it there
--- or after, from which on is `end`.
+-- or after. The code from that exit on is `end`.
 pub record IsLoopRound (m : Mach) (from end : List Instr) : Type 0 where
   pub label : ℕ
   pub head : Instr

@@ -194,11 +194,11 @@ pub record WellFormed (m : Lin) : Type 0 where
   pub params : All (λ (s : Spot). IsHome m s.loc) m.params
   pub locations : AreLocated m
   pub spare : SpareIsPassing m
-  -- each label that is named occurs once
+  -- each label occurs once, and those that are named do
   pub labels : AllPairs (λ k l. k ≢ l) (labels_in m.code)
   pub named : (i : Line) → Contains m.code i → (l : ℕ) → NamesLabel l i.op →
       Contains (labels_in m.code) l
   pub handlers : (i : Line) → Contains m.code i → (l : ℕ) →
       i.op ≡ lin.Flow (flow.PushTrap l) → EntersAt l m.code
-  -- each place is found by one number of pushed traps
+  -- each place is reached with one number of pushed traps; none is popped where none is, and none is left at the end
   pub traps : TrapsBalance m

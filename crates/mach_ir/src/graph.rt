@@ -18,7 +18,7 @@ pub struct Node {
     pub reg: Reg,
     /// The numbers of the registers that the graph joins it with, rising.
     pub neighbours: Seq<u32>,
-    /// The numbers of the registers that a move takes it from or to: one for each move, in the order of
+    /// The numbers of the registers that a move takes it from or to: one for each move (two where it moves it to itself), in the order of
     /// the text. They had better be at one place, so that the move has no words.
     pub moves: Seq<u32>,
     /// How often the code reads or writes it: what a slot would cost.

@@ -1,4 +1,4 @@
--- Where the asks of a schedule are during a run, and where a machine is at a service.
+-- Which asks of a schedule are still to come during a run, and where a machine is at a service.
 use Rattle.std.specs.Prelude.{◌≡◌, ◌<◌, ◌^◌, ◌⊎◌, ℕ, length}
 use Rattle.rv_isa.specs.Registers.{t0, t2}
 use Rattle.rv_machine.specs.Hart.{Hart, register}

@@ -7,7 +7,7 @@ use rv_machine::Cause;
 pub enum RunEnd {
     Returned(Option<Obs>),
     Raised(Obs),
-    /// An external call wanted an answer, and none was left.
+    /// An external call or a frame call wanted more answers than were left.
     Asks,
     /// As many instructions as were allowed have retired.
     More,

@@ -19,7 +19,8 @@ pub enum Schedule {
     /// It asks and plans by the words of this seed.
     Seed(u64),
     /// It asks before the instructions of these numbers, counted from 0 and in any order. The first plan
-    /// is for the first allocation service, and so on; a plan has a new start for each block, by serial.
+    /// is for the first service that moves, of an allocation or of a frame call, and so on; a plan has a
+    /// new start for each block, by serial.
     Lists {
         asks: List<u64>,
         plans: List<List<u64>>,
@@ -27,7 +28,8 @@ pub enum Schedule {
 }
 
 impl Schedule {
-    /// What the mover plans at the allocation service of that number, counted from 0.
+    /// What the mover plans at the service of that number, counted from 0: those of allocations and of
+    /// frame calls count.
     pub(crate) fn plan(&self, service: u64) -> Plan<'_>
         ensures { plan_of result ≡ (schedule_of self.now).plan service }
     {

@@ -27,7 +27,7 @@ abbrev pub after : {A : Type 0} → Moves → (Loc → A) → Loc → A
 after [] held = held
 after (m ∷ ms) held = after ms (moved m held)
 
--- Where a value that a place holds after the moves came before them: the moves are done where each
+-- Where a value that a place holds after the moves was before them: the moves are done where each
 -- place holds its own name. Any other values go the same way.
 abbrev pub origin : Moves → Loc → Loc
 origin done = after done (λ place. place)

@@ -3,7 +3,7 @@
 //! What a function does is by the numbers and components of its registers. Places say only which of
 //! them an operation destroys: those at colours, but where a result is. So where open registers get
 //! places, fixed ones stay, and joined ones are apart, an operation destroys at most what it did, and
-//! nothing that is live is the difference: the function does what it did, step for step. A colouring is
+//! what more it keeps is not live: the function does what it did, step for step. A colouring is
 //! one such placing, and the last resort, each open register in the slot of its origin, is another.
 //!
 //! The crate holds definitions and laws alone.

@@ -97,7 +97,7 @@ pub record IsBefore (plan : ℕ → Option Reg) (m : Mach) (i : Instr) (next mad
   pub made_so : with_moves plan m.code
       ≡ made ++ again plan (length next) i ∷ with_moves plan next
 
--- Exactly the operators are moves that repeat one that is left of those before them.
+-- Exactly those operators are moves that repeat one of those that are left before them.
 pub record IsRepeated (m q : Mach) : Type 0 where
   pub plan : ℕ → Option Reg
   pub is : q ≡ record m { code = with_moves plan m.code }

@@ -52,7 +52,7 @@ abbrev pub root_cells : Tables → List ℕ
 root_cells image = map (λ offset. data_start + offset) image.roots
 
 -- The blocks have moved. Named registers, named slots, root cells and the cells of scanned blocks have the
--- new starts, and nothing else has changed.
+-- new starts. The bytes that the blocks have left are filler, and no other word has changed.
 abbrev pub relocated : List Placed → List Frame → Hart → Hart
 relocated news fs h =
     let f = rewritten h.blocks news in

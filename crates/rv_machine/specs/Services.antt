@@ -50,12 +50,12 @@ value_returned (returns.Comp c) h = Some (observed h c (register h a0))
 
 -- ---- external calls
 
--- what is seen of the arguments, which are in the registers of these numbers and the next ones
+-- What is seen of the arguments, which are in the registers from this number on: a0 to a7 and s2 to s9 are
+-- x10 to x25, one after the other.
 abbrev pub arguments_from : ℕ → List Comp → Hart → List Obs
 arguments_from r [] h = []
 arguments_from r (c ∷ cs) h = observed h c (register h r) ∷ arguments_from (suc r) cs h
 
--- a0 to a7 and s2 to s9 are x10 to x25, one after the other
 abbrev pub call_made : Ext → Hart → Made
 call_made e h = record { name = e.name; shown = arguments_from a0 e.params h }
 

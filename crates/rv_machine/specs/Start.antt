@@ -42,7 +42,7 @@ start_registers args =
     0 ∷ code_start ∷ stack_bottom ∷ 0 ∷ 0 ∷ 0 ∷ 0 ∷ 0 ∷ 0 ∷ stack_bottom ∷ (padded 16 args
     ++ young_top ∷ domain_start ∷ 0 ∷ 0 ∷ 0 ∷ 0 ∷ [])
 
--- a state in which no instruction has retired and no block lies
+-- a state in which no instruction has retired and there is no block
 abbrev pub idle : Tables → List ℕ → ℕ → List Region → ℕ → ℕ → Hart
 idle image registers pc memory stack_base heap = record {
   image = image;

@@ -88,7 +88,7 @@ impl<'a> Model for Machine<'a> {
 }
 
 impl<'a> Machine<'a> {
-    // A machine in which no instruction has retired and no block lies.
+    // A machine in which no instruction has retired and there is no block.
     pub(crate) fn new(
         image: &'a Image,
         registers: [u64; 32],

@@ -150,7 +150,7 @@ impl Backwards {
         }
     }
 
-    /// The operator whose operands are so, the left one in `x` and the right one in `y`.
+    /// The operator whose operands have this shape, the left one in `x` and the right one in `y`.
     pub fn operator_code(
         &mut self,
         shape: Shape,
@@ -180,7 +180,7 @@ impl Backwards {
         self.mark(Mark::If { test, otherwise }, args, &[])
     }
 
-    /// The test of an `if` whose operands are so.
+    /// The test of an `if` whose operands have this shape.
     pub fn branch(
         &mut self,
         shape: Shape,

@@ -231,7 +231,7 @@ power_code op k x y d next =
     ∷ emit.operator operator.Sub right.Register (x ∷ y ∷ []) d
     ∷ next)
 
--- the code of an operator whose operands are so
+-- the code of an operator whose operands have this shape
 abbrev pub operator_code : Shape → IntOp → Reg → Reg → Reg → Code
 operator_code (PowerRight k) op x y d next = power_code op k x y d next
 operator_code s op x y d next =

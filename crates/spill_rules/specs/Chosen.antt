@@ -58,8 +58,8 @@ pub record StoresAt (m : Mach) (k n : ℕ) : Type 0 where
   pub len : length next ≡ k
   pub stored : IsStored m next n
 
--- The plan that spilling chooses. The number of a slot's register is so far above that of its
--- register as the least number above all registers says.
+-- The plan that spilling chooses. The number of a slot's register is that of its register and `free`, which is
+-- the least number above those of all registers.
 pub record IsChosen (m : Mach) (plan : Plan) : Type 0 where
   pub reloads : (k n : ℕ) → (plan.reloads k n ≡ true) ↔ ReloadsAt m k n
   pub spills : (k n : ℕ) → (plan.spills k n ≡ true) ↔ StoresAt m k n

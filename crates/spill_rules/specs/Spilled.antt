@@ -105,7 +105,7 @@ pub record IsKept (m q : Mach) (plan : Plan) : Type 0 where
   pub formed : WellFormed q
   pub placed : WellPlaced q
   pub seated : Seated m → Seated q
-  -- at most an instruction more for each operand and result, and two registers for each of these
+  -- at most an instruction more for each operand and result, and two operands or results for each of these
   pub size : (s : Size) (registers : ℕ) → HasSize m s → s.registers ≤ registers →
       ((r : Reg) → IsRegister m r → plan.slot r.number < registers) →
       HasSize q
