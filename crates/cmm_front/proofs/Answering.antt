@@ -9,7 +9,7 @@ use Rattle.cmm_tree.specs.Tree.{FileTree}
 use Rattle.cmm_tree.specs.View.{file_view}
 use Rattle.cmm_tree.specs.declared.file.File.{File}
 use Rattle.cmm_types.specs.Faults.{TypeFault}
-use Rattle.cmm_walks.specs.AddrLive.{IsLive}
+use Rattle.walk_tables.specs.AddrLive.{IsLive}
 use Rattle.cmm_types.specs.Typing.{IsFaultTold}
 use Rattle.cmm_walks.specs.Refusal.{IsRefusal}
 use Rattle.cmm_front.specs.FileOf.{IsFileOf, unread, untyped, unsettled, IsErrorOf, HasPlace}

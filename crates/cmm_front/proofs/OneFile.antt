@@ -6,7 +6,7 @@ use Rattle.cmm_lex.proofs.Languages.{AreBytes}
 use Rattle.cmm_tree.specs.Tree.{FileTree}
 use Rattle.cmm_types.specs.Faults.{TypeFault}
 use Rattle.bs_fault.specs.Order.{IsLeftmost}
-use Rattle.cmm_walks.specs.AddrLive.{IsLive, Before, IsToldLive}
+use Rattle.walk_tables.specs.AddrLive.{IsLive, Before, IsToldLive}
 use Rattle.cmm_front.specs.FileOf.{IsFileOf, HasFault, unread, untyped, unsettled}
 use Rattle.cmm_front.proofs.Told.{one_leftmost}
 use Rattle.cmm_front.proofs.Readings.{one_file_read, read_or_told, one_fault_told}

@@ -8,7 +8,7 @@ use Rattle.cmm_data.specs.Faults.{data_fault_of}
 use Rattle.cmm_tree.specs.Tree.{FileTree}
 use Rattle.cmm_types.specs.Faults.{TypeFault}
 use Rattle.bs_fault.specs.Order.{IsLeftmost}
-use Rattle.cmm_walks.specs.AddrLive.{IsLive, IsToldLive}
+use Rattle.walk_tables.specs.AddrLive.{IsLive, IsToldLive}
 use Rattle.cmm_reader.specs.Text.{ReadsAs}
 
 -- The text is that of the file: it is read as this file, which has no fault of types or symbols, and no

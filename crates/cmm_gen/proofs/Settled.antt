@@ -8,9 +8,9 @@ use Rattle.cmm_tree.specs.Tree.{Expression, Integer, Symbol, Name, Let, Operator
 use Rattle.cmm_types.specs.Light.{is_light_address}
 use Rattle.cmm_types.specs.Types.{Scoped, unless_float, type_of}
 use Rattle.cmm_types.proofs.Containing.{contains_none, contains_cases}
-use Rattle.cmm_walks.specs.Walks
-use Rattle.cmm_walks.specs.Walks.{Event, Binds, Uses, Passes, is_address, Slotted, names, slot_of, Task, Does, Evaluates, Enters, OneOf, MayRaise, Raises, Handles, operand, takes, count, waiting, filled, all_operands, used_at, tasks_of, entering, handling, behind_raise, Walk, walk_tasks}
-use Rattle.cmm_walks.specs.AddrLive.{IsLive}
+use Rattle.walk_tables.specs.Walks
+use Rattle.walk_tables.specs.Walks.{Event, Binds, Uses, Passes, is_address, Slotted, names, slot_of, Task, Does, Evaluates, Enters, OneOf, MayRaise, Raises, Handles, operand, takes, count, waiting, filled, all_operands, used_at, tasks_of, entering, handling, behind_raise, Walk, walk_tasks}
+use Rattle.walk_tables.specs.AddrLive.{IsLive}
 use Rattle.cmm_gen.specs.Drawn.{Drawn, DrawnFunction}
 use Rattle.cmm_gen.proofs.Trees
 use Rattle.cmm_gen.proofs.Trees.{IsTreeOf, IsBodyOf, IsFunctionTreeOf, AreItemsOf, number, variable, sum, difference, product, choice, cell, attempt}

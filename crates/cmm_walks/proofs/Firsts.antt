@@ -4,12 +4,12 @@ use Rattle.std.proofs.Common.{◌≡◌, ◌⊎◌, ℕ, zero, suc, ◌+◌, ◌
 use Rattle.std.specs.List.{All, list_any}
 use Rattle.std.proofs.lemmas.List.{take_all}
 use Rattle.std.proofs.lemmas.List.Elements.{All-head, All-tail, All-weaker, All-more, All-same}
-use Rattle.cmm_walks.specs.AddrLive.{Before}
-use Rattle.cmm_walks.specs.Table.{step_at, IsWithin, LeadsToBinding, slot_below, AreNodes, AreLinked}
-use Rattle.cmm_walks.specs.First.{with_part, IsLeast, IsLeastTold, place_within, binds_address, IsFirst}
-use Rattle.cmm_walks.specs.declared.node.Step.{Step}
-use Rattle.cmm_walks.specs.declared.node.Step.TheVariants as step
-use Rattle.cmm_walks.specs.declared.node.Node as node
+use Rattle.walk_tables.specs.AddrLive.{Before}
+use Rattle.walk_tables.specs.Table.{step_at, LeadsToBinding, slot_below, AreNodes, AreLinked}
+use Rattle.cmm_walks.specs.First.{IsWithin, with_part, IsLeast, IsLeastTold, place_within, binds_address, IsFirst}
+use Rattle.walk_tables.specs.declared.node.Step.{Step}
+use Rattle.walk_tables.specs.declared.node.Step.TheVariants as step
+use Rattle.walk_tables.specs.declared.node.Node as node
 use Rattle.cmm_walks.specs.declared.limits.Limits as limits
 use Rattle.cmm_walks.specs.declared.seeds.Goal.{Goal}
 use Rattle.cmm_walks.specs.declared.limits.Part.TheVariants as part

@@ -5,13 +5,13 @@ use Rattle.std.specs.List.{All, Contains}
 use Rattle.std.proofs.lemmas.Bool.{cases_eq}
 use Rattle.std.proofs.lemmas.List.{length-append, length-set, length-map, map-set, get_or-map, get_or-set_same, get_or-set_other, take_more, take_all}
 use Rattle.std.proofs.lemmas.List.Elements.{Contains-append_left, Contains-push, Contains-push_cases}
-use Rattle.cmm_walks.specs.Table.{step_at, next_at, next_cells, slot_below, IsNode, IsLinked, AreLinked, AreNodes}
+use Rattle.walk_tables.specs.Table.{step_at, next_at, next_cells, slot_below, IsNode, IsLinked, AreLinked, AreNodes}
 use Rattle.cmm_walks.specs.Groups.{members, Added, NamesSlot, HasSlotAdded, AreBefore, AreMentions}
 use Rattle.cmm_walks.specs.declared.groups.Group as group
-use Rattle.cmm_walks.specs.declared.node.Step.{Step}
-use Rattle.cmm_walks.specs.declared.node.Step.TheVariants as step
-use Rattle.cmm_walks.specs.declared.node.Node as node
-use Rattle.cmm_walks.proofs.Elements.{no_element}
+use Rattle.walk_tables.specs.declared.node.Step.{Step}
+use Rattle.walk_tables.specs.declared.node.Step.TheVariants as step
+use Rattle.walk_tables.specs.declared.node.Node as node
+use Rattle.walk_tables.proofs.Elements.{no_element}
 
 pub members_same : (gs : List group.Group) (k : ℕ) (g : group.Group) → k < length gs → members (set gs k g) k ≡ g.members.items
 members_same gs k g within =

@@ -1,15 +1,30 @@
--- What is reported of more functions.
+-- What is reported of a function, and of more functions.
 use Rattle.std.proofs.Common.{◌≡◌, ℕ, ◌<◌, List, [], ◌∷◌, ◌++◌, map, take, drop, length, get_or, ◌+◌, Option, Some, None, inl, inr, refl, sym, ap, ◌∙◌, subst, arith, add-one, drop-cons}
 use Rattle.std.proofs.lemmas.List.{take_more}
 use Rattle.std.proofs.lemmas.List.Elements.{Contains-append_left, Contains-append_right, Contains-append_cases}
 use Rattle.cmm_tree.specs.Tree.{FunctionTree, ItemTree, AFunction, AData, FileTree, functions_among}
 use Rattle.cmm_tree.specs.View.{item_view}
 use Rattle.cmm_tree.specs.declared.file.Item.{Item}
-use Rattle.cmm_walks.specs.AddrLive.{IsLiveIn, IsLive, IsToldLive, Before}
+use Rattle.walk_tables.specs.AddrLive.{IsLiveIn, IsLive, IsToldLive, Before}
+use Rattle.cmm_walks.specs.First.{IsFirstTold}
 use Rattle.cmm_walks.specs.Refusal.{ToldIn, IsFirstAmong, ToldAmong}
 use Rattle.cmm_types.specs.Typing.{IsItemAnnotated, AreItemsAnnotated}
 use Rattle.cmm_walks.specs.declared.limits.Limits.{Limits}
-use Rattle.cmm_walks.proofs.Elements.{no_element, only, itself}
+use Rattle.walk_tables.specs.Table.{LeadsToBinding}
+use Rattle.walk_tables.specs.declared.node.Node as node
+use Rattle.walk_tables.proofs.Elements.{no_element, only, itself}
+
+-- ---- what is reported of a function
+
+pub told-in : (nodes : List node.Node) (entry : ℕ) (f : FunctionTree) (told : Option Limits)
+    → ((bound point used : ℕ) → IsLiveIn f bound point used ↔ LeadsToBinding nodes bound point used entry)
+    → IsFirstTold nodes entry told
+    → ToldIn f told
+told-in nodes entry f None live none = λ b p u h. none b p u ((live b p u).0 h)
+told-in nodes entry f (Some l) live first = record {
+  live = (live l.bound l.point l.used).1 first.leads;
+  least = λ b p u h. first.least b p u ((live b p u).0 h);
+}
 
 -- ---- the order
 

@@ -8,17 +8,17 @@ use Rattle.std.proofs.lemmas.Bool.Decides.{nat_tests}
 use Rattle.std.proofs.lemmas.List.Elements.{Contains-append_left, Contains-append_right, Contains-append_cases, filter_map-append}
 use Rattle.std.proofs.lemmas.List.{take_more, append-nil}
 use Rattle.std.specs.Option.{option_to_list}
-use Rattle.cmm_walks.specs.Walks.{Event}
-use Rattle.cmm_walks.specs.Walks as event
-use Rattle.cmm_walks.specs.AddrLive.{Unbound}
-use Rattle.cmm_walks.specs.Table.{shown, step_at, next_at, Trail, here, goes, LeadsToUse, LeadsToPoint}
+use Rattle.walk_tables.specs.Walks.{Event}
+use Rattle.walk_tables.specs.Walks as event
+use Rattle.walk_tables.specs.AddrLive.{Unbound}
+use Rattle.walk_tables.specs.Table.{shown, step_at, next_at, Trail, here, goes, LeadsToUse, LeadsToPoint}
 use Rattle.cmm_walks.specs.Groups.{members, NamesSlot, AreMentions}
 use Rattle.cmm_walks.specs.Labels.{unlabelled, label_at, known_label, FirstLabels}
 use Rattle.cmm_walks.specs.Seeds.{within, used_by, point_by, bound_by, later, seed_with, use_seed, point_seed}
 use Rattle.cmm_walks.specs.First.{with_part, part_of, own_limit, up_to}
-use Rattle.cmm_walks.specs.declared.node.Step.{Step}
-use Rattle.cmm_walks.specs.declared.node.Step.TheVariants as step
-use Rattle.cmm_walks.specs.declared.node.Node as node
+use Rattle.walk_tables.specs.declared.node.Step.{Step}
+use Rattle.walk_tables.specs.declared.node.Step.TheVariants as step
+use Rattle.walk_tables.specs.declared.node.Node as node
 use Rattle.cmm_walks.specs.declared.labels.Seed.{Seed}
 use Rattle.cmm_walks.specs.declared.labels.Labels.{Labels}
 use Rattle.cmm_walks.specs.declared.limits.Limits.{Limits}
@@ -26,7 +26,7 @@ use Rattle.cmm_walks.specs.declared.limits.Part.{Part}
 use Rattle.cmm_walks.specs.declared.limits.Part.TheVariants as part
 use Rattle.cmm_walks.specs.declared.seeds.Goal.{Goal}
 use Rattle.cmm_walks.specs.declared.groups.Group as group
-use Rattle.cmm_walks.proofs.Elements.{no_element, only, first_or_rest, unbound_rest}
+use Rattle.walk_tables.proofs.Elements.{no_element, only, first_or_rest, unbound_rest}
 use Rattle.cmm_walks.proofs.Grouped.{step_within}
 use Rattle.cmm_walks.proofs.Spreads.{leads_on}
 

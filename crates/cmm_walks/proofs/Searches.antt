@@ -4,23 +4,23 @@ use Rattle.std.specs.Prelude.{◌==◌, Option, Some, None, filter_map, flat_map
 use Rattle.std.specs.List.{All, Contains, list_any}
 use Rattle.std.proofs.lemmas.Bool.{and_parts, eqb-true, eq-eqb}
 use Rattle.std.proofs.lemmas.List.Elements.{Contains-append_left, Contains-append_right, Contains-append_cases, Contains-get_or, All-contains, All-head, All-tail}
-use Rattle.cmm_walks.specs.Walks.{Event}
-use Rattle.cmm_walks.specs.Walks as event
-use Rattle.cmm_walks.specs.AddrLive.{Unbound}
-use Rattle.cmm_walks.specs.Table.{shown, step_at, next_at, Trail, here, goes, IsWithin, AreNodes, IsNode, slot_below}
+use Rattle.walk_tables.specs.Walks.{Event}
+use Rattle.walk_tables.specs.Walks as event
+use Rattle.walk_tables.specs.AddrLive.{Unbound}
+use Rattle.walk_tables.specs.Table.{shown, step_at, next_at, Trail, here, goes, AreNodes, IsNode, slot_below}
 use Rattle.cmm_walks.specs.Groups.{members, NamesSlot, AreMentions}
 use Rattle.cmm_walks.specs.Labels.{unlabelled, label_at, known_label, Leads, IsUnlabelled, FirstLabels}
 use Rattle.cmm_walks.specs.Seeds.{bound_by, later, seed_with, use_seed, point_seed, binding_seed, binding_seeds}
-use Rattle.cmm_walks.specs.First.{own_limit, up_to, binds_address_to, BindsWithin, Seeded, AreSlotSeeds, IsLeastTold}
-use Rattle.cmm_walks.specs.declared.node.Step.{Step}
-use Rattle.cmm_walks.specs.declared.node.Step.TheVariants as step
-use Rattle.cmm_walks.specs.declared.node.Node as node
+use Rattle.cmm_walks.specs.First.{IsWithin, own_limit, up_to, binds_address_to, BindsWithin, Seeded, AreSlotSeeds, IsLeastTold}
+use Rattle.walk_tables.specs.declared.node.Step.{Step}
+use Rattle.walk_tables.specs.declared.node.Step.TheVariants as step
+use Rattle.walk_tables.specs.declared.node.Node as node
 use Rattle.cmm_walks.specs.declared.labels.Seed.{Seed}
 use Rattle.cmm_walks.specs.declared.labels.Labels.{Labels}
 use Rattle.cmm_walks.specs.declared.limits.Limits.{Limits}
 use Rattle.cmm_walks.specs.declared.seeds.Goal.{Goal}
 use Rattle.cmm_walks.specs.declared.groups.Group as group
-use Rattle.cmm_walks.proofs.Elements.{no_element, first_or_rest, only, unbound_none, unbound_both}
+use Rattle.walk_tables.proofs.Elements.{no_element, first_or_rest, only, unbound_none, unbound_both}
 use Rattle.cmm_walks.proofs.Grouped.{step_within}
 use Rattle.cmm_walks.proofs.Levels.{kept_from, kept_to, all_from, all_to, guarded, seed_from, seed_to, Both, UpTo, later_from, later_up, known_from, known_to, bound_down, bound_up, whole, uses_told, uses_within, points_told, points_within, PointUpTo, Tells}
 

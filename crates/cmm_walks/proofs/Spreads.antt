@@ -8,20 +8,20 @@ use Rattle.std.proofs.lemmas.List.Elements.{All-push, Contains-append_left, Cont
 use Rattle.std.proofs.lemmas.List.Sums.{sum_by-set}
 use Rattle.std.specs.List.Sorted.{IsPermutation}
 use Rattle.std.proofs.lemmas.List.Sorted.{IsPermutation-sym, Contains-permutation, All-permutation}
-use Rattle.cmm_walks.specs.Walks.{Event}
-use Rattle.cmm_walks.specs.Walks as event
-use Rattle.cmm_walks.specs.AddrLive.{Unbound}
-use Rattle.cmm_walks.specs.Table.{shown, step_at, next_at, Trail, here, goes}
+use Rattle.walk_tables.specs.Walks.{Event}
+use Rattle.walk_tables.specs.Walks as event
+use Rattle.walk_tables.specs.AddrLive.{Unbound}
+use Rattle.walk_tables.specs.Table.{shown, step_at, next_at, Trail, here, goes}
 use Rattle.cmm_walks.specs.Groups.{members, AreBefore}
 use Rattle.cmm_walks.specs.Labels.{unlabelled, label_at, binds_slot, Leads, LeadsToSeed, IsUnlabelled, IsKept, Lowered, IsSpreading, Falls, weight, LowersBefore, Settles, FirstLabels}
-use Rattle.cmm_walks.specs.declared.node.Step.{Step}
-use Rattle.cmm_walks.specs.declared.node.Step.TheVariants as step
-use Rattle.cmm_walks.specs.declared.node.Node as node
+use Rattle.walk_tables.specs.declared.node.Step.{Step}
+use Rattle.walk_tables.specs.declared.node.Step.TheVariants as step
+use Rattle.walk_tables.specs.declared.node.Node as node
 use Rattle.cmm_walks.specs.declared.groups.Group as group
 use Rattle.cmm_walks.specs.declared.labels.Seed.{Seed}
 use Rattle.cmm_walks.specs.declared.labels.Labels.{Labels}
 use Rattle.cmm_walks.proofs.Grouped.{next_within}
-use Rattle.cmm_walks.proofs.Elements.{no_element, only, itself, unbound_none, unbound_both, unbound_first, unbound_rest, first_or_rest}
+use Rattle.walk_tables.proofs.Elements.{no_element, only, itself, unbound_none, unbound_both, unbound_first, unbound_rest, first_or_rest}
 
 -- ---- ways
 

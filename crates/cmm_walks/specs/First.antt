@@ -1,17 +1,27 @@
 -- The first of the addresses that are live at frame points.
 use Rattle.std.specs.Prelude.{◌≡◌, ℕ, ◌<◌, ◌≤◌, ◌⊎◌, ◌==◌, ◌&&◌, Bool, true, false, List, Option, Some, None, Contains}
 use Rattle.cmm_walks.specs.Groups.{AreBefore, AreMentions}
-use Rattle.cmm_walks.specs.AddrLive.{Before}
-use Rattle.cmm_walks.specs.Table.{step_at, next_at, AreNodes, IsWithin, LeadsToPoint, LeadsToBinding}
-use Rattle.cmm_walks.specs.declared.node.Step.{Step}
-use Rattle.cmm_walks.specs.declared.node.Step.TheVariants as step
-use Rattle.cmm_walks.specs.declared.node.Node as node
+use Rattle.walk_tables.specs.AddrLive.{Before}
+use Rattle.walk_tables.specs.Table.{step_at, next_at, AreNodes, LeadsToPoint, LeadsToBinding}
+use Rattle.walk_tables.specs.declared.node.Step.{Step}
+use Rattle.walk_tables.specs.declared.node.Step.TheVariants as step
+use Rattle.walk_tables.specs.declared.node.Node as node
 use Rattle.cmm_walks.specs.declared.labels.Seed.{Seed}
 use Rattle.cmm_walks.specs.declared.seeds.Goal.{Goal}
 use Rattle.cmm_walks.specs.declared.first.Search.{Search}
 use Rattle.cmm_walks.specs.declared.limits.Limits as limits
 use Rattle.cmm_walks.specs.declared.limits.Part.{Part}
 use Rattle.cmm_walks.specs.declared.limits.Part.TheVariants as part
+
+-- such a binding, frame point and use, each at a place up to its limit
+pub record IsWithin (nodes : List node.Node) (limits : limits.Limits) (p : ℕ) : Type 0 where
+  pub bound : ℕ
+  pub point : ℕ
+  pub used : ℕ
+  pub bound_within : bound ≤ limits.bound
+  pub point_within : point ≤ limits.point
+  pub used_within : used ≤ limits.used
+  pub leads : LeadsToBinding nodes bound point used p
 
 abbrev pub with_part : limits.Limits → Part → ℕ → limits.Limits
 with_part l part.Used limit = record { bound = l.bound; point = l.point; used = limit }

@@ -1,10 +1,10 @@
 -- Numbers of nodes in groups.
 use Rattle.std.specs.Prelude.{◌≡◌, ℕ, ◌⊎◌, ◌↔◌, List, [], map, slice_index_or, length, Contains}
-use Rattle.cmm_walks.specs.Table.{step_at, next_at}
+use Rattle.walk_tables.specs.Table.{step_at, next_at}
 use Rattle.cmm_walks.specs.declared.groups.Group as group
-use Rattle.cmm_walks.specs.declared.node.Step.{Step}
-use Rattle.cmm_walks.specs.declared.node.Step.TheVariants as step
-use Rattle.cmm_walks.specs.declared.node.Node as node
+use Rattle.walk_tables.specs.declared.node.Step.{Step}
+use Rattle.walk_tables.specs.declared.node.Step.TheVariants as step
+use Rattle.walk_tables.specs.declared.node.Node as node
 
 -- the members of a group; past the last group there are none
 abbrev pub members : List group.Group → ℕ → List ℕ

@@ -1,12 +1,12 @@
 -- Labels of nodes: each node has the least label of the seeds that it leads to.
 use Rattle.std.specs.Prelude.{◌≡◌, ℕ, ◌<◌, ◌≤◌, ◌⊎◌, ◌+◌, ◌==◌, Bool, false, cond, nat_lt, List, [], ◌∷◌, ◌++◌, length, drop, set, sum, slice_index_or, Option, Some, None, Contains}
 use Rattle.std.specs.List.{All}
-use Rattle.cmm_walks.specs.Walks.{Event}
-use Rattle.cmm_walks.specs.AddrLive.{Unbound}
-use Rattle.cmm_walks.specs.Table.{shown, step_at, next_at, Trail}
-use Rattle.cmm_walks.specs.declared.node.Step.{Step}
-use Rattle.cmm_walks.specs.declared.node.Step.TheVariants as step
-use Rattle.cmm_walks.specs.declared.node.Node as node
+use Rattle.walk_tables.specs.Walks.{Event}
+use Rattle.walk_tables.specs.AddrLive.{Unbound}
+use Rattle.walk_tables.specs.Table.{shown, step_at, next_at, Trail}
+use Rattle.walk_tables.specs.declared.node.Step.{Step}
+use Rattle.walk_tables.specs.declared.node.Step.TheVariants as step
+use Rattle.walk_tables.specs.declared.node.Node as node
 use Rattle.cmm_walks.specs.declared.labels.Seed.{Seed}
 use Rattle.cmm_walks.specs.declared.labels.Labels.{Labels}
 

@@ -1,13 +1,5 @@
-pub mod Walks
-pub mod AddrLive
-pub mod Table
 pub mod Groups
 pub mod Labels
 pub mod Seeds
 pub mod First
-pub mod Cells
-pub mod Sound
-pub mod Found
-pub mod Leaving
 pub mod Refusal
-pub mod Made

@@ -5,7 +5,7 @@ use Rattle.bs_fault.specs.declared.fault.Fault.TheVariants.{AddrLive}
 use Rattle.bs_fault.specs.declared.fault.FrontError.{FrontError}
 use Rattle.bs_fault.specs.declared.fault.FrontError.TheVariants as error
 use Rattle.cmm_tree.specs.Tree.{FunctionTree, FileTree}
-use Rattle.cmm_walks.specs.AddrLive.{IsLiveIn, IsToldLive, Before}
+use Rattle.walk_tables.specs.AddrLive.{IsLiveIn, IsToldLive, Before}
 use Rattle.cmm_walks.specs.declared.limits.Limits.{Limits}
 
 -- an address that is live in the function, and no other comes before it

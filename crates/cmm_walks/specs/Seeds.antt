@@ -1,14 +1,14 @@
 -- The seeds of a search for an address.
 use Rattle.std.specs.Prelude.{ℕ, ◌==◌, ◌&&◌, cond, nat_le, nat_lt, List, filter_map, Option, Some, None}
 use Rattle.cmm_walks.specs.Labels.{known_label}
-use Rattle.cmm_walks.specs.Table.{step_at, next_at}
+use Rattle.walk_tables.specs.Table.{step_at, next_at}
 use Rattle.cmm_walks.specs.declared.labels.Seed.{Seed}
 use Rattle.cmm_walks.specs.declared.limits.Part.TheVariants as part
 use Rattle.cmm_walks.specs.declared.limits.Part.{Part}
 use Rattle.cmm_walks.specs.declared.seeds.Goal.{Goal}
-use Rattle.cmm_walks.specs.declared.node.Step.{Step}
-use Rattle.cmm_walks.specs.declared.node.Step.TheVariants as step
-use Rattle.cmm_walks.specs.declared.node.Node as node
+use Rattle.walk_tables.specs.declared.node.Step.{Step}
+use Rattle.walk_tables.specs.declared.node.Step.TheVariants as step
+use Rattle.walk_tables.specs.declared.node.Node as node
 
 -- the label, if the place is within the limit
 abbrev pub within : ℕ → ℕ → ℕ → Option ℕ

@@ -3,16 +3,16 @@ ghost use Rattle.std.specs.Prelude.{◌∷◌, ◌++◌, ℕ, [], List, map, IsT
 ghost use Rattle.bs_words.specs.Contents.{contents};
 ghost use Rattle.cmm_tree.specs.Tree.{FunctionTree, functions_among};
 ghost use Rattle.cmm_tree.specs.View.{function_view, item_view, file_view};
-ghost use Rattle.cmm_walks.specs.AddrLive.{IsLive, Before};
+ghost use Rattle.walk_tables.specs.AddrLive.{IsLive, Before};
 ghost use Rattle.cmm_walks.specs.Refusal.{ToldIn, ToldAmong, IsRefusal};
 ghost use Rattle.cmm_types.specs.Typing.{IsFunctionAnnotated, IsItemAnnotated, AreItemsAnnotated};
 
 use crate::first::first_live;
 use crate::limits::Limits;
-use crate::table::make_table;
 use bs_fault::{Fault, FrontError};
 use cmm_tree::{File, Function, Item};
 use std::alloc::{AllocError, Global};
+use walk_tables::make_table;
 
 /// Whether no other order is needed: the first comes before the second, by the use, then by the frame
 /// point, then by the binding.

@@ -1,7 +1,7 @@
 //! Files that are checked whole.
 ghost use Rattle.std.specs.Prelude.{◌≡◌, ℕ, IfOk, IfErr};
 ghost use Rattle.cmm_tree.specs.View.{file_view};
-ghost use Rattle.cmm_walks.specs.AddrLive.{IsLive};
+ghost use Rattle.walk_tables.specs.AddrLive.{IsLive};
 ghost use Rattle.cmm_walks.specs.Refusal.{IsRefusal};
 
 use crate::check::check_file;
@@ -23,7 +23,7 @@ impl Model for Checked {
     ghost use Rattle.cmm_tree.specs.View.{file_view};
     ghost use Rattle.cmm_tree.specs.contracts.file.File as row;
     ghost use Rattle.cmm_tree.specs.declared.file.File.{File};
-    ghost use Rattle.cmm_walks.specs.AddrLive.{IsLive};
+    ghost use Rattle.walk_tables.specs.AddrLive.{IsLive};
 
     ghost Value = { File };
 

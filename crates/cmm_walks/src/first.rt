@@ -2,15 +2,15 @@
 ghost use Rattle.std.specs.Prelude.{◌≡◌, ◌<◌, suc, length, IfOk};
 ghost use Rattle.std.specs.List.{All, list_any};
 ghost use Rattle.cmm_walks.specs.Labels.{unlabelled, IsUnlabelled};
-ghost use Rattle.cmm_walks.specs.Table.{step_at, slot_below, AreLinked};
+ghost use Rattle.walk_tables.specs.Table.{step_at, slot_below, AreLinked};
 ghost use Rattle.cmm_walks.specs.First.{place_within, binds_address, binds_address_to, own_limit, IsSearch, AreSlotSeeds, IsLeastTold, IsFirstTold};
 
 use crate::groups::{Group, members, nodes_before, nodes_by_slot};
 use crate::labels::{Labels, Seed, step_of};
 use crate::limits::{Limits, Part, with_part};
-use crate::node::{Node, Step};
 use crate::seeds::{Goal, add_bindings, point_seeds, use_seeds};
 use std::alloc::{AllocError, Global};
+use walk_tables::{Node, Step};
 
 /// Whether it binds an address.
 fn binds_address(step: Step) -> bool

@@ -2,10 +2,10 @@
 ghost use Rattle.std.specs.Prelude.{◌≡◌, ◌<◌, ◌↔◌, ◌⊎◌, ℕ, suc, [], length, IfOk, Contains};
 ghost use Rattle.std.specs.List.{All};
 ghost use Rattle.cmm_walks.specs.Groups.{members, Added, HasSlotAdded, AreBefore, AreMentions};
-ghost use Rattle.cmm_walks.specs.Table.{slot_below, AreLinked, AreNodes};
+ghost use Rattle.walk_tables.specs.Table.{slot_below, AreLinked, AreNodes};
 
-use crate::node::{Node, Step};
 use std::alloc::{AllocError, Global};
+use walk_tables::{Node, Step};
 
 /// Numbers of nodes.
 #[derive(Debug, Drop)]

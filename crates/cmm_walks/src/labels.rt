@@ -2,12 +2,12 @@
 ghost use Rattle.std.specs.Prelude.{◌≡◌, ◌<◌, length, IfOk};
 ghost use Rattle.std.specs.List.{All};
 ghost use Rattle.cmm_walks.specs.Groups.{AreBefore};
-ghost use Rattle.cmm_walks.specs.Table.{step_at};
+ghost use Rattle.walk_tables.specs.Table.{step_at};
 ghost use Rattle.cmm_walks.specs.Labels.{label_at, binds_slot, IsUnlabelled, Lowered, IsKept, IsSpreading, LowersBefore, Settles, FirstLabels, known_label};
 
 use crate::groups::{Group, members};
-use crate::node::{Node, Step};
 use std::alloc::{AllocError, Global};
+use walk_tables::{Node, Step};
 
 /// What stands for no label: above each.
 const UNLABELLED: u64 = 0x1_0000_0000;

@@ -1,12 +1,12 @@
 //! What the search for an address begins with: uses, frame points and bindings within limits.
 ghost use Rattle.std.specs.Prelude.{◌≡◌, ◌++◌, filter_map, flat_map, option_to_list, IfOk};
-ghost use Rattle.cmm_walks.specs.Table.{step_at, next_at};
+ghost use Rattle.walk_tables.specs.Table.{step_at, next_at};
 ghost use Rattle.cmm_walks.specs.Seeds.{within, used_label, point_label, bound_label, later, seed_with, use_seed, point_seed, binding_seed, binding_seeds};
 
 use crate::labels::{Labels, Seed, step_of};
 use crate::limits::{Limits, Part};
-use crate::node::{Node, Step};
 use std::alloc::{AllocError, Global};
+use walk_tables::{Node, Step};
 
 /// What is searched for: the least of one part, with all parts within limits.
 #[derive(Clone, Copy, PartialEq, Eq, Debug)]

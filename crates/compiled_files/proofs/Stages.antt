@@ -26,7 +26,7 @@ use Rattle.selection_rules.specs.Select.{selected}
 use Rattle.selection_rules.proofs.Plays.{Meets, returned, threw, running, asking, improper, left_by_exit}
 use Rattle.selection_laws.proofs.Proper.{selected_bounded}
 use Rattle.first_statics.proofs.Known.{accepted_keeps, accepted_proper, front_setting, front_memory, definitions, front_accepts, selectable, selectable_at, front_symbols}
-use Rattle.cmm_walks.specs.AddrLive.{IsLiveIn}
+use Rattle.walk_tables.specs.AddrLive.{IsLiveIn}
 use Rattle.linking.specs.Keeps.{alone_in}
 use Rattle.linking.specs.Program.{place_in, setting_in}
 use Rattle.linking_machine.specs.Known.{AreLowered, HoldsWords, IsGivenWords, IsSelected, SelectedSo}

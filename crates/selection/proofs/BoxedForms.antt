@@ -9,7 +9,7 @@ use Rattle.cmm_tree.specs.declared.expr.Expr.{Expr}
 use Rattle.cmm_tree.specs.declared.expr.Form as form
 use Rattle.cmm_types.specs.Annotated.{IsAnnotated}
 use Rattle.cmm_types.specs.Types.{Scoped}
-use Rattle.cmm_walks.proofs.Shapes.{Shape}
+use Rattle.walk_tables.proofs.Shapes.{Shape}
 
 is-typed : (ns : List Scoped) (b : Box Expr Global) (e : Expr) → e ≡ b.value → IsAnnotated ns b.value → IsAnnotated ns e
 is-typed ns b e q t =

@@ -6,7 +6,7 @@ use Rattle.cmm_tree.specs.declared.expr.Expr.{Expr}
 use Rattle.cmm_tree.specs.declared.expr.Form.{Form}
 use Rattle.cmm_types.specs.Annotated.{IsAnnotated, PartsTyped}
 use Rattle.cmm_types.specs.Types.{Scoped, type_of}
-use Rattle.cmm_walks.proofs.Shapes.{Shape}
+use Rattle.walk_tables.proofs.Shapes.{Shape}
 use Rattle.mach_ir.specs.declared.mach.Instr.{Instr}
 use Rattle.selection_operands.specs.Below.{code_at, node_code}
 use Rattle.selection_scope.specs.Room.{HasRoom}

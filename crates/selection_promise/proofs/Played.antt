@@ -7,7 +7,7 @@ use Rattle.cmm_tree.specs.Measures.{nodes_in}
 use Rattle.cmm_tree.specs.Symbols.{DefinedSymbol}
 use Rattle.cmm_tree.specs.Tree.{FunctionTree}
 use Rattle.cmm_types.specs.Gathered.{function_faults}
-use Rattle.cmm_walks.specs.AddrLive.{IsLiveIn}
+use Rattle.walk_tables.specs.AddrLive.{IsLiveIn}
 use Rattle.cmm_meaning.specs.Alone.{IsProperEnd}
 use Rattle.cmm_meaning.specs.Evaluation.{Evaluation}
 use Rattle.cmm_meaning.specs.Extends.{Extends}

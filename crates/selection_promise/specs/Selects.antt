@@ -8,7 +8,7 @@ use Rattle.cmm_tree.specs.Measures.{all_tries}
 use Rattle.cmm_tree.specs.Symbols.{DefinedSymbol}
 use Rattle.cmm_tree.specs.Tree.{FunctionTree, comps_of}
 use Rattle.cmm_types.specs.Types.{body_type, result_of}
-use Rattle.cmm_walks.specs.AddrLive.{IsLiveIn}
+use Rattle.walk_tables.specs.AddrLive.{IsLiveIn}
 use Rattle.correctness.specs.Measures.{tries}
 use Rattle.mach_ir.specs.Formed.{WellFormed, comps}
 use Rattle.mach_ir.specs.Keeps.{IsNamedIn, NamesSymbol, NamesExternal}

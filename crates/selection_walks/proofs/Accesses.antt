@@ -17,8 +17,8 @@ use Rattle.cmm_types.specs.Standing.{Visible}
 use Rattle.cmm_types.specs.Gathered.{faults_in}
 use Rattle.cmm_types.specs.declared.role.Role.TheVariants as role
 use Rattle.cmm_meaning.specs.Evaluation.{is_left_first}
-use Rattle.cmm_walks.specs.Walks.{Event, Binds, Uses, Task, Does, Evaluates, MayRaise, Slotted, names, is_address, takes, operand, tasks_of, all_operands, two, behind_raise}
-use Rattle.cmm_walks.specs.Walks as walk
+use Rattle.walk_tables.specs.Walks.{Event, Binds, Uses, Task, Does, Evaluates, MayRaise, Slotted, names, is_address, takes, operand, tasks_of, all_operands, two, behind_raise}
+use Rattle.walk_tables.specs.Walks as walk
 use Rattle.mach_ir.specs.Meaning.{passes_frame}
 use Rattle.mach_ir.specs.Walks.{Among, first}
 use Rattle.mach_ir.specs.declared.op.Right.{Right}

@@ -11,7 +11,7 @@ use Rattle.cmm_types.proofs.Containing.{contains_head, contains_tail}
 use Rattle.cmm_types.specs.Standing.{Visible}
 use Rattle.cmm_types.specs.Gathered.{cases_faults}
 use Rattle.cmm_types.specs.Types.{type_without_float, type_of_cases, join}
-use Rattle.cmm_walks.specs.Walks.{Task, Evaluates, Slotted, bodies}
+use Rattle.walk_tables.specs.Walks.{Task, Evaluates, Slotted, bodies}
 use Rattle.mach_ir.specs.Acts.{Target, On, At}
 use Rattle.mach_ir.specs.Meaning.{passes_frame, after_label, code_at, tries_at}
 use Rattle.mach_ir.specs.Walks.{Among, this, other, targets, may_raise}

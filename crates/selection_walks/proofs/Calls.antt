@@ -13,8 +13,8 @@ use Rattle.cmm_types.specs.Types.{Scoped, type_of}
 use Rattle.cmm_types.specs.Standing.{Visible}
 use Rattle.cmm_types.specs.Gathered.{faults_in, row_faults}
 use Rattle.cmm_types.specs.declared.role.Role.{Role}
-use Rattle.cmm_walks.specs.Walks.{Passes, Task, Does, MayRaise, Slotted, takes, operand, tasks_of, all_operands, called, behind_raise}
-use Rattle.cmm_walks.specs.Walks as walk
+use Rattle.walk_tables.specs.Walks.{Passes, Task, Does, MayRaise, Slotted, takes, operand, tasks_of, all_operands, called, behind_raise}
+use Rattle.walk_tables.specs.Walks as walk
 use Rattle.mach_ir.specs.Meaning.{passes_frame}
 use Rattle.mach_ir.specs.Walks.{Among, first, later, may_raise}
 use Rattle.mach_ir.specs.declared.mach.Instr.{Instr}

@@ -18,8 +18,8 @@ use Rattle.cmm_types.specs.Gathered.{faults_in, row_faults, bindings_faults}
 use Rattle.cmm_types.specs.Types.{binding_of, type_of, type_without_float, type_named, type_bound, type_of_result, type_of_last, with_bindings, holds_float, is_mutable}
 use Rattle.cmm_types.specs.declared.role.Role.TheVariants as role
 use Rattle.cmm_meaning.specs.Evaluation.{is_left_first, comps_of_arguments}
-use Rattle.cmm_walks.specs.Walks.{Passes, Task, Does, Evaluates, Enters, Raises, Exits, Slotted, names, takes, all_operands, two, called, in_order, bound_at, slot_of, behind_raise, behind_exit}
-use Rattle.cmm_walks.specs.Walks as walk
+use Rattle.walk_tables.specs.Walks.{Passes, Task, Does, Evaluates, Enters, Raises, Exits, Slotted, names, takes, all_operands, two, called, in_order, bound_at, slot_of, behind_raise, behind_exit}
+use Rattle.walk_tables.specs.Walks as walk
 use Rattle.mach_ir.specs.declared.mach.Instr.{Instr}
 use Rattle.mach_ir.specs.declared.mach.Mach.{Mach}
 use Rattle.mach_ir.specs.declared.reg.Reg.{Reg}

@@ -15,8 +15,8 @@ use Rattle.cmm_types.specs.Standing.{Visible}
 use Rattle.cmm_types.specs.Gathered.{faults_in}
 use Rattle.cmm_types.specs.declared.role.Role.TheVariants as role
 use Rattle.cmm_meaning.specs.Evaluation.{is_left_first}
-use Rattle.cmm_walks.specs.Walks.{Binds, Uses, Task, Does, Evaluates, OneOf, Slotted, names, is_address, takes, operand, all_operands, two, bodies}
-use Rattle.cmm_walks.specs.Walks as walk
+use Rattle.walk_tables.specs.Walks.{Binds, Uses, Task, Does, Evaluates, OneOf, Slotted, names, is_address, takes, operand, all_operands, two, bodies}
+use Rattle.walk_tables.specs.Walks as walk
 use Rattle.mach_ir.specs.Acts.{Target, On, At}
 use Rattle.mach_ir.specs.Meaning.{code_at}
 use Rattle.mach_ir.specs.Walks.{Among, this, other}

@@ -3,7 +3,7 @@ use Rattle.std.proofs.Common.{◌≡◌, ℕ, zero, suc, Bool, true, false, ◌�
 use Rattle.std.specs.Prelude.{length}
 use Rattle.bs_words.specs.declared.types.Comp.TheVariants as comp
 use Rattle.cmm_tree.specs.Tree.{LabelTree}
-use Rattle.cmm_walks.specs.Walks.{Task, behind_raise, behind_exit, takes}
+use Rattle.walk_tables.specs.Walks.{Task, behind_raise, behind_exit, takes}
 use Rattle.mach_ir.specs.Acts.{On}
 use Rattle.mach_ir.specs.Meaning.{passes_frame, tries_at}
 use Rattle.mach_ir.specs.Walks.{Among, first, later, targets, may_raise}

@@ -10,8 +10,8 @@ use Rattle.cmm_tree.specs.Tree.{LabelTree, Named as named, Bare, Done, Again, sa
 use Rattle.cmm_types.specs.Standing.{Visible, labels_of, lasting_labels_of}
 use Rattle.cmm_types.specs.Gathered.{faults_in, handlers_faults}
 use Rattle.cmm_types.specs.Types.{type_of, type_without_float, type_of_handlers, with_parameters, holds_float}
-use Rattle.cmm_walks.specs.Walks.{Task, Evaluates, Catches, Handles, Slotted, behind_exit, or_else, handler_for, parameters_bound, with_slots}
-use Rattle.cmm_walks.specs.Walks as walk
+use Rattle.walk_tables.specs.Walks.{Task, Evaluates, Catches, Handles, Slotted, behind_exit, or_else, handler_for, parameters_bound, with_slots}
+use Rattle.walk_tables.specs.Walks as walk
 use Rattle.mach_ir.specs.Acts.{On, drop_tries}
 use Rattle.mach_ir.specs.Meaning.{after_label, code_at, from_handler, tries_at}
 use Rattle.mach_ir.specs.declared.mach.Instr.{Instr}

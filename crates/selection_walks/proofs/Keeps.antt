@@ -9,7 +9,7 @@ use Rattle.bs_words.specs.declared.values.Value.{Value}
 use Rattle.cmm_tree.specs.Symbols.{DefinedSymbol}
 use Rattle.cmm_tree.specs.Tree.{FunctionTree, comps_of}
 use Rattle.cmm_types.specs.Gathered.{function_faults}
-use Rattle.cmm_walks.specs.AddrLive.{IsLiveIn}
+use Rattle.walk_tables.specs.AddrLive.{IsLiveIn}
 use Rattle.cmm_meaning.specs.State.{Doing}
 use Rattle.cmm_meaning.specs.Evaluation.{fit_parameters, bound_error}
 use Rattle.mach_ir.specs.Keeps.{Proper}

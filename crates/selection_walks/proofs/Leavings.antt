@@ -11,8 +11,8 @@ use Rattle.bs_fault.specs.Reported.{Faultless, here as one_here}
 use Rattle.cmm_tree.specs.Tree.{LabelTree, Named as named, Bare, Done, Again, same_label, Parameter}
 use Rattle.cmm_types.specs.Standing.{Visible, handler_of}
 use Rattle.cmm_types.specs.Gathered.{exit_faults}
-use Rattle.cmm_walks.specs.Walks.{Binds, Passes, Task, Does, Raises, Exits, Slotted, takes, behind_exit, parameters_bound, with_slots}
-use Rattle.cmm_walks.specs.Walks as walk
+use Rattle.walk_tables.specs.Walks.{Binds, Passes, Task, Does, Raises, Exits, Slotted, takes, behind_exit, parameters_bound, with_slots}
+use Rattle.walk_tables.specs.Walks as walk
 use Rattle.mach_ir.specs.Acts.{Target, At}
 use Rattle.mach_ir.specs.Meaning.{code_at}
 use Rattle.mach_ir.specs.Walks.{Among, first, later, OneOf, this, other}

@@ -11,8 +11,8 @@ use Rattle.cmm_tree.specs.Tree.{FunctionTree}
 use Rattle.cmm_types.proofs.Containing.{contains_head, contains_tail}
 use Rattle.cmm_types.specs.Gathered.{faults_in, function_faults}
 use Rattle.cmm_types.specs.Types.{body_type, result_of, type_without_float, with_parameters}
-use Rattle.cmm_walks.specs.AddrLive.{IsLiveIn}
-use Rattle.cmm_walks.specs.Walks.{Evaluates, with_slots, walk_tasks}
+use Rattle.walk_tables.specs.AddrLive.{IsLiveIn}
+use Rattle.walk_tables.specs.Walks.{Evaluates, with_slots, walk_tasks}
 use Rattle.mach_ir.specs.Acts.{Target, On, At}
 use Rattle.mach_ir.specs.Meaning.{passes_frame, code_at, tries_at}
 use Rattle.mach_ir.specs.Walks.{Among, first, later, Leads, goes, Raises, raises, Reached, at_entry, by_step, by_raise, Live, read, on, aside, LiveAcross, across_step, across_raise, IsRegister, is_in_code, NoAddrLive}

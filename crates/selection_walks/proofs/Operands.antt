@@ -13,8 +13,8 @@ use Rattle.cmm_types.specs.Standing.{Visible}
 use Rattle.cmm_types.specs.Gathered.{faults_in, role_faults}
 use Rattle.cmm_types.specs.declared.role.Role.{Role}
 use Rattle.cmm_types.specs.declared.role.Role.TheVariants as role
-use Rattle.cmm_walks.specs.Walks.{Binds, Task, Does, Evaluates, Slotted, names, is_address, behind_raise, behind_exit, operand, tasks_of}
-use Rattle.cmm_walks.specs.Walks as walk
+use Rattle.walk_tables.specs.Walks.{Binds, Task, Does, Evaluates, Slotted, names, is_address, behind_raise, behind_exit, operand, tasks_of}
+use Rattle.walk_tables.specs.Walks as walk
 use Rattle.mach_ir.specs.Walks.{Among, first, later}
 use Rattle.mach_ir.specs.declared.mach.Instr.{Instr}
 use Rattle.mach_ir.specs.declared.mach.Mach.{Mach}

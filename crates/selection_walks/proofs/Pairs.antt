@@ -12,7 +12,7 @@ use Rattle.cmm_types.specs.Types.{Scoped, type_of}
 use Rattle.cmm_types.specs.Standing.{Visible}
 use Rattle.cmm_types.specs.Gathered.{faults_in}
 use Rattle.cmm_meaning.specs.Evaluation.{is_left_first}
-use Rattle.cmm_walks.specs.Walks.{Task, Slotted, names, takes, operand, tasks_of, all_operands, two}
+use Rattle.walk_tables.specs.Walks.{Task, Slotted, names, takes, operand, tasks_of, all_operands, two}
 use Rattle.mach_ir.specs.Walks.{Among, first, later}
 use Rattle.mach_ir.specs.declared.op.Right.{Right}
 use Rattle.mach_ir.specs.declared.mach.Instr.{Instr}

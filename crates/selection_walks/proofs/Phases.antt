@@ -10,9 +10,9 @@ use Rattle.mach_ir.specs.Walks.{Among, first, later, OneOf, this, other, targets
 use Rattle.mach_ir.specs.declared.mach.Instr.{Instr}
 use Rattle.mach_ir.specs.declared.mach.Mach.{Mach}
 use Rattle.mach_ir.specs.declared.reg.Reg.{Reg}
-use Rattle.cmm_walks.specs.Walks.{Event, Binds, Uses, Passes, Task, Does, Next, Walk}
-use Rattle.cmm_walks.specs.Walks as walk
-use Rattle.cmm_walks.specs.AddrLive.{Unbound}
+use Rattle.walk_tables.specs.Walks.{Event, Binds, Uses, Passes, Task, Does, Next, Walk}
+use Rattle.walk_tables.specs.Walks as walk
+use Rattle.walk_tables.specs.AddrLive.{Unbound}
 
 pub data Phase : Type 0 where
   Early : Phase

@@ -1,9 +1,9 @@
 use Rattle.std.proofs.Common.{List, subst, sym}
 use Rattle.cmm_tree.specs.View.{function_view}
 use Rattle.cmm_walks.specs.First.{IsFirstTold}
-use Rattle.cmm_walks.specs.Table.{AreLinked}
-use Rattle.cmm_walks.specs.declared.node.Node as node
-use Rattle.cmm_walks.proofs.Agreeing.{told-in}
+use Rattle.walk_tables.specs.Table.{AreLinked}
+use Rattle.walk_tables.specs.declared.node.Node as node
+use Rattle.cmm_walks.proofs.Least.{told-in}
 use Rattle.cmm_walks.proofs.check.told_in_function.Goals as goal
 
 pub first_live-requires : goal.first_live-requires

@@ -1,5 +1,5 @@
 use Rattle.std.proofs.Common.{◌≡◌, ℕ, suc, subst, sym, arith}
-use Rattle.cmm_walks.specs.Table.{AreNodes}
+use Rattle.walk_tables.specs.Table.{AreNodes}
 use Rattle.cmm_walks.proofs.Firsts.{no_address_told, are_nodes}
 use Rattle.cmm_walks.proofs.first.first_live.Goals as goal
 

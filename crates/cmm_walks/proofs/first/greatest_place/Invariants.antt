@@ -1,7 +1,7 @@
 use Rattle.std.proofs.Common.{take}
 use Rattle.std.specs.List.{All}
 use Rattle.cmm_walks.specs.First.{place_within}
-use Rattle.cmm_walks.specs.declared.node.Node as node
+use Rattle.walk_tables.specs.declared.node.Node as node
 use Rattle.cmm_walks.proofs.first.greatest_place.Given as goal
 
 abbrev pub invariant-loop-node : goal.invariant-loop-node

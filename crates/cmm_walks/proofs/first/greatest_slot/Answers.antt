@@ -1,6 +1,6 @@
 use Rattle.std.proofs.Common.{suc, arith}
 use Rattle.cmm_walks.proofs.Firsts.{slots_kept, slot_more, all_taken}
-use Rattle.cmm_walks.specs.Table.{slot_below}
+use Rattle.walk_tables.specs.Table.{slot_below}
 use Rattle.cmm_walks.proofs.first.greatest_slot.Goals as goal
 
 pub loop-node-preserved : goal.loop-node-preserved

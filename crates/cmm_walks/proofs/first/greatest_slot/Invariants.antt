@@ -1,7 +1,7 @@
 use Rattle.std.proofs.Common.{suc, take}
 use Rattle.std.specs.List.{All}
-use Rattle.cmm_walks.specs.Table.{slot_below}
-use Rattle.cmm_walks.specs.declared.node.Node as node
+use Rattle.walk_tables.specs.Table.{slot_below}
+use Rattle.walk_tables.specs.declared.node.Node as node
 use Rattle.cmm_walks.proofs.first.greatest_slot.Given as goal
 
 abbrev pub invariant-loop-node : goal.invariant-loop-node

@@ -1,6 +1,6 @@
 use Rattle.std.proofs.Common.{sym, subst}
 use Rattle.cmm_walks.specs.Groups.{HasSlotAdded}
-use Rattle.cmm_walks.specs.declared.node.Step.{Step}
+use Rattle.walk_tables.specs.declared.node.Step.{Step}
 use Rattle.cmm_walks.proofs.Grouped.{slot_added, use_added}
 use Rattle.cmm_walks.proofs.groups.add_slot.Goals as goal
 

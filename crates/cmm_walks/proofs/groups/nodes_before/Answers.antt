@@ -1,4 +1,4 @@
-use Rattle.cmm_walks.proofs.Arena.{plus-one}
+use Rattle.walk_tables.proofs.Arena.{plus-one}
 use Rattle.std.proofs.Common.{◌+◌}
 use Rattle.cmm_walks.proofs.Grouped.{next_all, turning_none, turning_more, turned}
 use Rattle.cmm_walks.proofs.groups.nodes_before.Goals as goal

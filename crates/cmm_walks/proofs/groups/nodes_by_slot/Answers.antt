@@ -1,4 +1,4 @@
-use Rattle.cmm_walks.proofs.Arena.{plus-one}
+use Rattle.walk_tables.proofs.Arena.{plus-one}
 use Rattle.std.proofs.Common.{suc, ◌+◌}
 use Rattle.cmm_walks.proofs.Grouped.{one_longer, slot_here, sorting_none, sorting_more, sorted_out}
 use Rattle.cmm_walks.proofs.groups.nodes_by_slot.Goals as goal

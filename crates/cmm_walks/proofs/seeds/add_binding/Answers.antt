@@ -1,9 +1,9 @@
 use Rattle.std.proofs.Common.{ℕ, ◌++◌, ◌∙◌, ap, get_or, Option}
 use Rattle.std.specs.Option.{option_to_list}
-use Rattle.cmm_walks.specs.Table.{step_at, next_at}
+use Rattle.walk_tables.specs.Table.{step_at, next_at}
 use Rattle.cmm_walks.specs.Seeds.{binding_seed}
 use Rattle.cmm_walks.specs.declared.labels.Seed.{Seed}
-use Rattle.cmm_walks.specs.declared.node.Step.{Step}
+use Rattle.walk_tables.specs.declared.node.Step.{Step}
 use Rattle.cmm_walks.proofs.Levels.{kept_after_in}
 use Rattle.cmm_walks.proofs.seeds.add_binding.Goals as goal
 

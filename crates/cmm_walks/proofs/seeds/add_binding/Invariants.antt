@@ -1,6 +1,6 @@
 use Rattle.std.proofs.Common.{◌≡◌, ◌++◌, ℕ, take}
 use Rattle.std.specs.List.{filter_map}
-use Rattle.cmm_walks.specs.Table.{step_at, next_at}
+use Rattle.walk_tables.specs.Table.{step_at, next_at}
 use Rattle.cmm_walks.specs.Seeds.{binding_seed}
 use Rattle.cmm_walks.proofs.seeds.add_binding.Given as goal
 

@@ -1,6 +1,6 @@
 use Rattle.std.proofs.Common.{ℕ, ◌++◌, ◌∙◌, ap, Option}
 use Rattle.std.specs.Option.{option_to_list}
-use Rattle.cmm_walks.specs.Table.{step_at}
+use Rattle.walk_tables.specs.Table.{step_at}
 use Rattle.cmm_walks.specs.Seeds.{use_seed}
 use Rattle.cmm_walks.specs.declared.labels.Seed.{Seed}
 use Rattle.cmm_walks.proofs.Levels.{kept_more}

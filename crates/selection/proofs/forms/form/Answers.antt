@@ -1,5 +1,5 @@
 use Rattle.std.proofs.lemmas.Result.{on_ok_weaker}
-use Rattle.cmm_walks.proofs.Shapes.{seq-shape, exit-shape, alloc-shape, extcall-shape, app-shape, let-shape, switch-shape, catch-shape}
+use Rattle.walk_tables.proofs.Shapes.{seq-shape, exit-shape, alloc-shape, extcall-shape, app-shape, let-shape, switch-shape, catch-shape}
 use Rattle.selection.proofs.BoxedForms.{assign-shape, operator-shape, load-shape, store-shape, checkbound-shape, raise-shape, if-shape, try-shape}
 use Rattle.selection.proofs.Nodes.{parts-of, type-of, code-of, room-of}
 use Rattle.selection_scope.specs.Scoping.{names_in}

@@ -1,5 +1,0 @@
-use Rattle.std.proofs.Common.{length}
-use Rattle.cmm_walks.proofs.items.Cells.+parameters_bound.Given as goal
-
-abbrev pub decreases-parameters_bound : goal.decreases-parameters_bound
-decreases-parameters_bound l = length l.params.now

@@ -1,4 +1,0 @@
-use Rattle.cmm_walks.proofs.items.Cells.+takes.Given as goal
-
-abbrev pub decreases-takes : goal.decreases-takes
-decreases-takes l = l.count

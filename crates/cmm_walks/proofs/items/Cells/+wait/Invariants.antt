@@ -1,5 +1,0 @@
-use Rattle.std.proofs.Common.{length}
-use Rattle.cmm_walks.proofs.items.Cells.+wait.Given as goal
-
-abbrev pub decreases-wait : goal.decreases-wait
-decreases-wait l = length l.exprs.now

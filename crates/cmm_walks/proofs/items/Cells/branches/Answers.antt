@@ -1,7 +1,0 @@
-use Rattle.cmm_walks.specs.Cells.{cells}
-use Rattle.cmm_walks.proofs.Catches.{adds-either}
-use Rattle.cmm_walks.proofs.items.Cells.branches.Goals as goal
-
-pub returns-clause-adds : goal.returns-clause-adds
-returns-clause-adds c = λ s r scope on_true on_false.
-    adds-either (cells c.args.self.now) (cells c.push.new.self) c.in_ok-cell.cell c.args.scope c.args.slot c.args.rest _ _ s c.in_ok-cell.ensures r scope on_true on_false c.requires

@@ -1,6 +1,0 @@
-use Rattle.cmm_walks.specs.Cells.{cells}
-use Rattle.cmm_walks.proofs.Pushed.{adds-enters}
-use Rattle.cmm_walks.proofs.items.Cells.enters.Goals as goal
-
-pub returns : goal.returns
-returns c = λ s r scope typed body. adds-enters (cells c.args.self.now) (cells c.push.new.self) c.in_ok-cell.cell c.args.scope c.args.slot c.args.rest _ _ s c.in_ok-cell.ensures r scope typed body c.requires

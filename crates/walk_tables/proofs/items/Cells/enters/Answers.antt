@@ -1,0 +1,6 @@
+use Rattle.walk_tables.specs.Cells.{cells}
+use Rattle.walk_tables.proofs.Pushed.{adds-enters}
+use Rattle.walk_tables.proofs.items.Cells.enters.Goals as goal
+
+pub returns : goal.returns
+returns c = λ s r scope typed body. adds-enters (cells c.args.self.now) (cells c.push.new.self) c.in_ok-cell.cell c.args.scope c.args.slot c.args.rest _ _ s c.in_ok-cell.ensures r scope typed body c.requires
