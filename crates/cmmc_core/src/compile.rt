@@ -16,7 +16,9 @@ use text_commands::{Gate, Refusal as TextRefusal, compile_text};
 /// Why there is no image.
 #[derive(Debug, Drop)]
 pub enum Refusal {
+    /// A read of the source failed.
     ReadFault,
+    /// The text that was read, or want of memory, is the cause.
     Text(TextRefusal),
 }
 

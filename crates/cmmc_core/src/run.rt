@@ -26,11 +26,17 @@ const LONGEST_IMAGE: u64 = 620_691_524;
 /// Why there is no outcome, or not the whole of it on out.
 #[derive(Debug, Drop)]
 pub enum RunRefusal {
+    /// A read of the source failed.
     ReadFault,
+    /// The bytes that were read are no image. It has their first fault.
     Image(ImageRefusal),
+    /// The image has no function of the entry's name.
     UnknownEntry,
+    /// The arguments do not suit the entry, or a symbol of arguments or answers is no data symbol.
     ArgumentUnfit,
+    /// A write of the outcome failed, or took nothing.
     WriteFault,
+    /// Memory ran out.
     OutOfMemory,
 }
 

@@ -15,7 +15,9 @@ const LONGEST_TEXT: u64 = 16_777_216;
 /// Why a text was not read.
 #[derive(Debug, Drop)]
 pub enum Unread {
+    /// A read of the source failed.
     ReadFault,
+    /// Memory ran out.
     OutOfMemory,
 }
 
