@@ -24,6 +24,12 @@ pub enum Refusal {
 
 /// The spelling of the image of the text that a source holds, whose functions are shared among so
 /// many jobs. At most one byte past the longest text is read.
+///
+/// # Errors
+///
+/// `ReadFault` where a read of the source failed. `Text` with `Fault` where the text that was read has a fault, with
+/// the one that is reported; with `TooLarge` where a section of its image passes its limit, with the first that does;
+/// with `OutOfMemory` where memory ran out, perhaps before all was read.
 pub fn compile_source<R: Threads + Sync, S: Source, G: Gate + Sync>(
     rt: &R,
     alloc: Global,

@@ -22,6 +22,10 @@ pub enum Unread {
 }
 
 /// The bytes that a source holds, up to one past the longest text, which no text has.
+///
+/// # Errors
+///
+/// `ReadFault` where a read of the source failed; `OutOfMemory` where memory ran out.
 pub fn read_text<S: Source>(alloc: Global, source: &mut S) -> Result<List<u8>, Unread>
     ensures read { IfOk result (λ bytes.
         IsRead longest_text (side S.left S.faults source.old source.new) (contents bytes)) }
