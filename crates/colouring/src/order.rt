@@ -16,6 +16,7 @@ const COLOURS: usize = 21;
 /// A node whose place is open, and how urgent it is.
 #[derive(Drop)]
 pub struct Ranked<'a> {
+    /// As `urgency` has it: 0 where it is not urgent.
     pub urgency: u64,
     pub node: &'a Node,
 }
