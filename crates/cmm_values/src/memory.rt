@@ -357,8 +357,13 @@ impl Memory {
         }
     }
 
-    /// A new block with these values in its cells, and the pointer to it; or why that is improper. The outer
-    /// error is that memory is used up, as which a heap of 2^64 bytes or more is answered too.
+    /// A new block with these values in its cells, and the pointer to it.
+    ///
+    /// # Errors
+    ///
+    /// The inner error is `BadValue` exactly where the block is scanned and a value does not fit val, and
+    /// `HiddenPointer` where it is not and a value does not fit int. Nothing has changed then. The outer error is that
+    /// memory is used up, as which a heap of 2^64 bytes or more is answered too.
     pub fn allocate(
         &mut self,
         header: u64,
