@@ -136,6 +136,7 @@ pub struct Case {
 pub struct CaseIndex {
     /// The place of the number, in bytes from the start of the text.
     pub at: u32,
+    /// The number itself. Those of a switch begin at 0.
     pub index: u64,
 }
 

@@ -23,7 +23,7 @@ use text_commands::{CheckRefusal, Gate, check_text};
 pub enum CheckFailure {
     /// A read of the source failed.
     ReadFault,
-    /// The text that was read, or want of memory, is the cause.
+    /// Nothing is reported of the text that was read; or memory ran out, perhaps before all was read.
     Text(CheckRefusal),
 }
 

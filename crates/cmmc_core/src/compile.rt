@@ -18,7 +18,7 @@ use text_commands::{Gate, Refusal as TextRefusal, compile_text};
 pub enum Refusal {
     /// A read of the source failed.
     ReadFault,
-    /// The text that was read, or want of memory, is the cause.
+    /// The text that was read has no image; or memory ran out, perhaps before all was read.
     Text(TextRefusal),
 }
 
