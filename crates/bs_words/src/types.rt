@@ -76,8 +76,8 @@ pub enum Chunk {
 pub enum Loc {
     /// It has no place yet.
     Unset,
-    /// The machine register of that number.
+    /// The machine register of that number, of x0 to x31.
     Machine(u8),
-    /// The stack slot of that number.
+    /// The stack slot of that number, from 0 on; each has 8 bytes.
     Slot(u32),
 }
