@@ -8,5 +8,6 @@ pub enum ServiceEnd {
     Goes,
     /// The blocks do not fit a half of the heap.
     HeapOut,
+    /// The machine stops, for this cause.
     Stopped(Cause),
 }

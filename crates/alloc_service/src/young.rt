@@ -12,6 +12,7 @@ use rv_machine::{BlockPlace, Memory};
 /// What came of taking the young blocks into the table.
 #[derive(Clone, Copy, PartialEq, Eq, Debug)]
 pub enum Taken {
+    /// All the blocks are in the table.
     Entered,
     /// The words do not read as whole blocks.
     Broken,

@@ -12,6 +12,7 @@ pub enum BuildError {
     /// A section would pass its limit. It reports the first one.
     #[error("a section of the image is too large")]
     TooLarge(Large),
+    /// Memory ran out.
     #[error("out of memory")]
     OutOfMemory,
 }

@@ -59,8 +59,10 @@ pub enum Fault {
 /// Why a text was not accepted.
 #[derive(Debug, Drop, Error)]
 pub enum FrontError {
+    /// The one fault that is reported of the text.
     #[error("the text has a fault")]
     Fault(Fault),
+    /// Memory ran out before it was known whether the text has a fault.
     #[error("out of memory")]
     OutOfMemory,
 }

@@ -37,7 +37,10 @@ const CHUNK: usize = 64 * 1024;
 
 /// Reads a source to its end, which has to come within `limit` bytes.
 ///
-/// After want of memory at most `limit` bytes were taken, and they are lost, as after a failed read.
+/// # Errors
+///
+/// `Long` where more bytes came, with those that were taken, one more than the limit; `Read` where a read failed;
+/// `OutOfMemory` where memory ran out. After the last two at most `limit` bytes were taken, and they are lost.
 pub fn read_all<S: Source>(alloc: Global, source: &mut S, limit: u64) -> Result<List<u8>, InFault>
     requires { limit < 2 ^ 64 - 1 }
     ensures all { IfOk result (λ bytes.
@@ -109,7 +112,10 @@ fn read_at<S: Source>(source: &mut S, buffer: &mut [u8], at: usize) -> Result<us
 
 /// Writes all the bytes, in as few writes as the sink allows. It takes no memory.
 ///
-/// After a fault the sink holds its old bytes and some of `bytes`, from their front.
+/// # Errors
+///
+/// `OutFault::Write` where a write failed or took nothing: the sink then has its old bytes and some of `bytes`, from
+/// their front and not all of them.
 pub fn write_all<K: Sink>(sink: &mut K, bytes: &[u8]) -> Result<(), OutFault>
     ensures all { OnOk result (Appends (K.held sink.old) (K.held sink.new) bytes.now) }
     ensures part { OnErr result (AppendsPart (K.held sink.old) (K.held sink.new) bytes.now) }

@@ -1,6 +1,7 @@
 //! The integer operators and comparisons of Cmm.
 
-/// A comparison. Signed or unsigned is said by the operator that holds it.
+/// A comparison: equal, not equal, less, at most, greater, at least. Signed or unsigned is said by the operator that
+/// holds it.
 #[derive(Clone, Copy, PartialEq, Eq, Debug)]
 pub enum CmpOp {
     Eq,
@@ -11,7 +12,8 @@ pub enum CmpOp {
     Ge,
 }
 
-/// An operator on two operands.
+/// An operator on two operands. On words of 64 bits, sums, differences and products wrap, `And`, `Or` and `Xor` go
+/// bit by bit, and the right operand of a shift is the number of bits.
 #[derive(Clone, Copy, PartialEq, Eq, Debug)]
 pub enum IntOp {
     Add,
@@ -26,6 +28,7 @@ pub enum IntOp {
     And,
     Or,
     Xor,
+    /// The shift to the left, which brings in zeros.
     Shl,
     /// The shift to the right that brings in zeros.
     Shr,

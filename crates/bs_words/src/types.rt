@@ -4,9 +4,13 @@ ghost use Rattle.std.specs.Prelude.{◌≡◌};
 /// The component of a parameter or a result. `Float` is read, and refused as a fault.
 #[derive(Clone, Copy, PartialEq, Eq, Debug)]
 pub enum Comp {
+    /// What fits `Ty::Int`.
     Int,
+    /// What fits `Ty::Val`.
     Val,
+    /// What fits `Ty::Addr`.
     Addr,
+    /// No value has it.
     Float,
 }
 
@@ -33,19 +37,26 @@ pub enum Ty {
     Never,
     /// The expression comes back with no value.
     NoValue,
+    /// A word, or a function. No pointer into a block fits it.
     Int,
+    /// An OCaml value: an odd word, a word from 0x10000000 to the end of the data (included), the start of a block,
+    /// or a function.
     Val,
+    /// Any value, so a pointer to any place of a block too.
     Addr,
 }
 
 /// The result that an application or an external call is written with.
 #[derive(Clone, Copy, PartialEq, Eq, Debug)]
 pub enum Ret {
+    /// No value.
     Unit,
+    /// A value of this component.
     Comp(Comp),
 }
 
-/// The width and reading of a load or a store.
+/// The width and reading of a load or a store. The number in a name is that of the bits, the lowest byte first: a
+/// load extends them to a word, `U` by zeros and `I` by the sign, and a store takes the lowest bits of a word.
 #[derive(Clone, Copy, PartialEq, Eq, Debug)]
 pub enum Chunk {
     U8,
@@ -63,9 +74,10 @@ pub enum Chunk {
 /// Where a register of the middle languages is.
 #[derive(Clone, Copy, PartialEq, Eq, Debug)]
 pub enum Loc {
+    /// It has no place yet.
     Unset,
-    /// The machine register of that number.
+    /// The machine register of that number, of x0 to x31.
     Machine(u8),
-    /// The stack slot of that number.
+    /// The stack slot of that number, from 0 on; each has 8 bytes.
     Slot(u32),
 }

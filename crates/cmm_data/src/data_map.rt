@@ -5,6 +5,7 @@ use bs_words::{List, Name, Value};
 #[derive(Debug, Drop)]
 pub struct DataSymbol {
     pub name: Name,
+    /// The address that it stands for.
     pub address: u32,
 }
 

@@ -1,7 +1,8 @@
 //! What the words of the grammar begin.
 use bs_words::{Chunk, IntOp};
 
-/// What the word after a parenthesis begins, of the forms of expressions.
+/// What the word after a parenthesis begins, of the forms of expressions. A variant without a sentence is the form of
+/// the word of its name.
 #[derive(Clone, Copy)]
 pub enum Head {
     Let,
@@ -31,7 +32,9 @@ pub enum Head {
 /// A form of two operands.
 #[derive(Clone, Copy)]
 pub enum Pair {
+    /// An operator: the left operand, then the right one.
     Operator(IntOp),
+    /// `checkbound`: the bound, then the index.
     Checkbound,
     /// A load of an array's element: the array, then the index.
     Element(Chunk),
@@ -40,6 +43,7 @@ pub enum Pair {
 /// A form of three operands.
 #[derive(Clone, Copy)]
 pub enum Triple {
+    /// `if`: the condition, then what is evaluated where it holds and where it does not.
     If,
     /// A store to an array's element: the array, the index, then the value.
     SetElement(Chunk),
@@ -61,12 +65,15 @@ pub enum ChunkWord {
 /// The width of a chunk below a word.
 #[derive(Clone, Copy)]
 pub enum Width {
+    /// `byte`: 1 byte.
     Byte,
+    /// `half`: 2 bytes.
     Half,
+    /// `int32`: 4 bytes.
     Int32,
 }
 
-/// What begins an item of static data.
+/// What begins an item of static data. A variant without a sentence is the word of its name.
 #[derive(Clone, Copy)]
 pub enum DataWord {
     /// A symbol, which the item defines.
@@ -78,7 +85,9 @@ pub enum DataWord {
     Addr,
     Skip,
     Align,
+    /// `string`: the bytes of a string.
     Text,
     Global,
+    /// `float`, which is read and refused.
     Float,
 }

@@ -8,9 +8,13 @@ ghost use Rattle.cmm_lex.specs.Automaton.{accepts, is_dead};
 /// What a token is by its bytes' classes: words may be names or keywords.
 #[derive(Clone, Copy, PartialEq, Eq)]
 pub enum Shape {
+    /// A name or a keyword.
     Word,
+    /// An integer, of any base.
     Integer,
+    /// A decimal integer with `a` after it.
     Pointer,
+    /// Digits with a point, an exponent, or both.
     Float,
     /// An operator or a sign.
     Signs,
@@ -19,6 +23,7 @@ pub enum Shape {
 /// Where in a word.
 #[derive(Clone, Copy)]
 pub enum NamePart {
+    /// Before any `/`.
     Body,
     /// After `/`.
     Slash,
@@ -31,15 +36,19 @@ pub enum NamePart {
 pub enum NumberPart {
     /// After one `0`.
     Zero,
+    /// In decimal digits.
     Decimal,
     /// After `0x`.
     HexadecimalBase,
+    /// In the digits after `0x`.
     Hexadecimal,
     /// After `0o`.
     OctalBase,
+    /// In the digits after `0o`.
     Octal,
     /// After `0b`.
     BinaryBase,
+    /// In the digits after `0b`.
     Binary,
     /// After `.` and any digits.
     Fraction,
@@ -47,18 +56,22 @@ pub enum NumberPart {
     Exponent,
     /// After the exponent's sign.
     ExponentSign,
+    /// In the exponent's digits.
     ExponentDigits,
 }
 
 /// Which operator so far.
 #[derive(Clone, Copy)]
 pub enum OperatorPart {
+    /// `+`
     Plus,
     /// `-`, which may begin a number.
     Minus,
     /// `*` or `/`.
     Product,
+    /// `<`
     Less,
+    /// `>`
     Greater,
     /// `>>`
     Shift,
@@ -73,8 +86,11 @@ pub enum OperatorPart {
 pub enum State {
     /// No byte.
     Start,
+    /// A word so far.
     Name(NamePart),
+    /// An integer, a pointer or a float so far.
     Number(NumberPart),
+    /// An operator so far.
     Operator(OperatorPart),
     /// A whole token, which nothing makes longer.
     Done(Shape),

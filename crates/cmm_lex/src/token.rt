@@ -19,6 +19,7 @@ pub enum TokenKind {
     Integer,
     /// A decimal integer that is written as a value of the heap, as `5a`.
     Pointer,
+    /// A float: digits with a point, an exponent, or both.
     Float,
     /// A string with its quotes.
     String,
@@ -28,6 +29,7 @@ pub enum TokenKind {
     Operator(IntOp),
     /// An operator on floats that is spelled by signs, as `+f`.
     FloatOperator,
+    /// A parenthesis, a bracket or a colon.
     Sign(Sign),
 }
 

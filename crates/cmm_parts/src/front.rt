@@ -18,7 +18,8 @@ use cmm_lex::{Keyword, Sign, Token, TokenKind, integer_word, is_symbol, string_o
 use cmm_tree::Declared;
 use std::alloc::Global;
 
-/// What a token is asked for: most tests ask for one kind of token.
+/// What a token is asked for. A test without a sentence is for a token of the kind, or the keyword or sign, of its
+/// name.
 #[derive(Clone, Copy)]
 pub enum Test {
     Alloc,

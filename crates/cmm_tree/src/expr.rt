@@ -14,7 +14,8 @@ pub struct Expr {
     pub form: Form,
 }
 
-/// What an expression is: one variant for each form of the grammar.
+/// What an expression is: one variant for each form of the grammar. A field whose name ends in `_at` is the place of
+/// that part, in bytes from the start of the text.
 #[derive(Drop)]
 #[cycle(expr)]
 pub enum Form {
@@ -133,7 +134,9 @@ pub struct Case {
 /// A number that chooses a case.
 #[derive(Clone, Copy, PartialEq, Eq, Debug)]
 pub struct CaseIndex {
+    /// The place of the number, in bytes from the start of the text.
     pub at: u32,
+    /// The number itself. Those of a switch begin at 0.
     pub index: u64,
 }
 

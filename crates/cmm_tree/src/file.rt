@@ -11,7 +11,9 @@ pub struct File {
 /// One item of a file.
 #[derive(Drop)]
 pub enum Item {
+    /// A function.
     Function(Function),
+    /// A list of static data.
     Data(DataList),
 }
 
@@ -63,6 +65,7 @@ pub struct DataItem {
 pub enum Datum {
     /// A symbol that is defined at this place.
     Define(Name),
+    /// One byte.
     Byte(Option<u64>),
     /// Two bytes.
     Half(Option<u64>),

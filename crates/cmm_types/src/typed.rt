@@ -72,8 +72,12 @@ impl Typed {
     }
 }
 
-/// Gives each node its type. It answers the leftmost fault of types and symbols, F11 to F19 and F21, if
-/// there is one; of those on one place the one with the lowest number.
+/// Gives each node its type.
+///
+/// # Errors
+///
+/// `Fault` exactly where the file has a fault of types or symbols, F11 to F19 or F21, with the leftmost one, and of
+/// those on one place the one with the lowest number; `OutOfMemory` where memory ran out before that is known.
 pub fn check_types(alloc: Global, file: File) -> Result<Typed, FrontError>
     ensures same { IfOk result (λ typed. file_view typed ≡ file_view file) }
     ensures faultless { IfOk result (λ _. (told : Fault) → ¬ TypeFault (file_view file) told) }

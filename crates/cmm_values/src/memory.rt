@@ -234,7 +234,14 @@ impl Memory {
         )
     }
 
-    /// What is loaded at an address, or why it is improper.
+    /// What is loaded at an address.
+    ///
+    /// # Errors
+    ///
+    /// `BadAddress` where the access is not at a multiple of its bytes, does not lie whole in one block or list of
+    /// static data, or is of a function; else `PartOfPointer` where less than 8 bytes are asked of a cell that holds
+    /// no word, and for 8 bytes `HiddenPointer` or `BadValue` where what the cell holds does not fit int or val, as
+    /// the chunk says.
     pub fn load(&self, chunk: Chunk, address: Value) -> Result<Value, Kind>
         ensures { result ≡ loaded chunk self.now address }
     {
@@ -249,7 +256,15 @@ impl Memory {
         }
     }
 
-    /// Stores a value at an address, or says why that is improper.
+    /// Stores a value at an address.
+    ///
+    /// # Errors
+    ///
+    /// `BadAddress` where the access is not at a multiple of its bytes, does not lie whole in one block or list of
+    /// static data, or is of a function; else `HeaderWrite` where it is to a header; else `PartOfPointer` where it is
+    /// of less than 8 bytes, and the value or what the cell holds is no word; else `HiddenPointer` or `BadValue`
+    /// where the value does not fit the type of the chunk (for 8 bytes), or what the cell would hold does not fit
+    /// that of the cell. Nothing has changed then.
     pub fn store(&mut self, chunk: Chunk, address: Value, value: Value) -> Result<(), Kind>
         ensures { IsStored result self.old self.new (stored chunk self.old address value) }
     {
@@ -342,8 +357,13 @@ impl Memory {
         }
     }
 
-    /// A new block with these values in its cells, and the pointer to it; or why that is improper. The outer
-    /// error is that memory is used up, as which a heap of 2^64 bytes or more is answered too.
+    /// A new block with these values in its cells, and the pointer to it.
+    ///
+    /// # Errors
+    ///
+    /// The inner error is `BadValue` exactly where the block is scanned and a value does not fit val, and
+    /// `HiddenPointer` where it is not and a value does not fit int. Nothing has changed then. The outer error is that
+    /// memory is used up, as which a heap of 2^64 bytes or more is answered too.
     pub fn allocate(
         &mut self,
         header: u64,

@@ -11,6 +11,12 @@ use crate::memory::Memory;
 use bs_words::{IntOp, Kind, Value, add, div, mul, mulh, rem, sar, shl, shr, sub};
 
 /// What the operator gives, in a run with this memory.
+///
+/// # Errors
+///
+/// `DivideByZero` where the divisor of a quotient or a remainder is 0, and `ShiftRange` where the amount of a shift
+/// is 64 or more; else, where a value is no word and the operator has no result for the two, `PointerOrder` of a
+/// comparison and `PointerArithmetic` of any other.
 pub fn apply(op: IntOp, memory: &Memory, left: Value, right: Value) -> Result<Value, Kind>
     ensures { result ≡ apply op (sizes memory.now) left right }
 {
@@ -237,6 +243,10 @@ fn masked_offset(offset: u64, mask: u64) -> Result<Value, Kind>
 }
 
 /// Whether the value, as a condition, holds.
+///
+/// # Errors
+///
+/// `PointerOrder` exactly where the value is a pointer that is not from the header of its block to its end.
 pub fn condition_of(memory: &Memory, value: Value) -> Result<bool, Kind>
     ensures { result ≡ condition_of (sizes memory.now) value }
 {
@@ -258,6 +268,10 @@ fn near_holds(is_near: bool) -> Result<bool, Kind>
 }
 
 /// The word that chooses a case of a switch or is tested against a bound.
+///
+/// # Errors
+///
+/// `PointerArithmetic` exactly where the value is no word.
 pub fn word_in(value: Value) -> Result<u64, Kind>
     ensures { result ≡ word_in value }
 {

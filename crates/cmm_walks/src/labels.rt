@@ -16,6 +16,7 @@ const UNLABELLED: u64 = 0x1_0000_0000;
 #[derive(Clone, Copy, PartialEq, Eq, Debug)]
 pub struct Seed {
     pub label: u32,
+    /// The number of the node.
     pub place: usize,
 }
 

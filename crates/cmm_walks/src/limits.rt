@@ -2,19 +2,25 @@
 ghost use Rattle.std.specs.Prelude.{◌≡◌};
 ghost use Rattle.cmm_walks.specs.First.{with_part};
 
-/// The greatest places that are asked for.
+/// The greatest places that are asked for, in bytes from the start of the text.
 #[derive(Clone, Copy, PartialEq, Eq, Debug)]
 pub struct Limits {
+    /// That of a binding.
     pub bound: u32,
+    /// That of a frame point.
     pub point: u32,
+    /// That of a use.
     pub used: u32,
 }
 
 /// A place that the search is for.
 #[derive(Clone, Copy, PartialEq, Eq, Debug)]
 pub enum Part {
+    /// That of a use.
     Used,
+    /// That of a frame point.
     Point,
+    /// That of a binding.
     Bound,
 }
 

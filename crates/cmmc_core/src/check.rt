@@ -21,7 +21,9 @@ use text_commands::{CheckRefusal, Gate, check_text};
 /// Why nothing is reported of a source.
 #[derive(Debug, Drop)]
 pub enum CheckFailure {
+    /// A read of the source failed.
     ReadFault,
+    /// Nothing is reported of the text that was read; or memory ran out, perhaps before all was read.
     Text(CheckRefusal),
 }
 

@@ -16,12 +16,20 @@ use text_commands::{Gate, Refusal as TextRefusal, compile_text};
 /// Why there is no image.
 #[derive(Debug, Drop)]
 pub enum Refusal {
+    /// A read of the source failed.
     ReadFault,
+    /// The text that was read has no image; or memory ran out, perhaps before all was read.
     Text(TextRefusal),
 }
 
 /// The spelling of the image of the text that a source holds, whose functions are shared among so
 /// many jobs. At most one byte past the longest text is read.
+///
+/// # Errors
+///
+/// `ReadFault` where a read of the source failed. `Text` with `Fault` where the text that was read has a fault, with
+/// the one that is reported; with `TooLarge` where a section of its image passes its limit, with the first that does;
+/// with `OutOfMemory` where memory ran out, perhaps before all was read.
 pub fn compile_source<R: Threads + Sync, S: Source, G: Gate + Sync>(
     rt: &R,
     alloc: Global,

@@ -26,16 +26,30 @@ const LONGEST_IMAGE: u64 = 620_691_524;
 /// Why there is no outcome, or not the whole of it on out.
 #[derive(Debug, Drop)]
 pub enum RunRefusal {
+    /// A read of the source failed.
     ReadFault,
+    /// The bytes that were read are no image. It has their first fault.
     Image(ImageRefusal),
+    /// The image has no function of the entry's name.
     UnknownEntry,
+    /// The arguments do not suit the entry, or a symbol of arguments or answers is no data symbol.
     ArgumentUnfit,
+    /// A write of the outcome failed, or took nothing.
     WriteFault,
+    /// Memory ran out.
     OutOfMemory,
 }
 
 /// Writes the outcome of a run of the image that a source holds. At most one byte past the longest
 /// image is read.
+///
+/// # Errors
+///
+/// `ReadFault` where a read of the source failed; `Image` where no image has the bytes that were read, with their
+/// first fault; `UnknownEntry` where the image has no function of the entry's name; `ArgumentUnfit` where the
+/// arguments do not suit it, or a symbol of arguments or answers is no data symbol; `OutOfMemory` where memory ran
+/// out. Nothing is written then. `WriteFault` where a write failed or took nothing: out then has the front of the
+/// outcome, and not all of it.
 pub fn run_source<S: Source, K: Sink>(
     alloc: Global,
     run: RunWords,
@@ -76,6 +90,13 @@ fn read_whole<S: Source>(alloc: Global, source: &mut S) -> Result<List<u8>, RunR
 }
 
 /// Writes the outcome of a run of an image.
+///
+/// # Errors
+///
+/// `UnknownEntry` where the image has no function of the entry's name; `ArgumentUnfit` where the arguments do not
+/// suit it, or a symbol of arguments or answers is no data symbol; `OutOfMemory` where memory ran out. Nothing is
+/// written then. `WriteFault` where a write failed or took nothing: out then has the front of the outcome, and not
+/// all of it. Nothing else comes.
 pub fn run_on<K: Sink>(
     alloc: Global,
     run: RunWords,

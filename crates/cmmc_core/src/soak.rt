@@ -38,6 +38,7 @@ const ROOM: u32 = 67_108_864;
 pub enum SoakRefusal {
     /// A section of its image would pass its limit.
     TooLarge(Large),
+    /// Memory ran out.
     OutOfMemory,
 }
 

@@ -15,11 +15,17 @@ const LONGEST_TEXT: u64 = 16_777_216;
 /// Why a text was not read.
 #[derive(Debug, Drop)]
 pub enum Unread {
+    /// A read of the source failed.
     ReadFault,
+    /// Memory ran out.
     OutOfMemory,
 }
 
 /// The bytes that a source holds, up to one past the longest text, which no text has.
+///
+/// # Errors
+///
+/// `ReadFault` where a read of the source failed; `OutOfMemory` where memory ran out.
 pub fn read_text<S: Source>(alloc: Global, source: &mut S) -> Result<List<u8>, Unread>
     ensures read { IfOk result (λ bytes.
         IsRead longest_text (side S.left S.faults source.old source.new) (contents bytes)) }

@@ -43,7 +43,7 @@ most_urgent = 18446744073709551615
 -- How urgent a register is, where those from a number on were made by reloading. Such a one comes first,
 -- since a slot for it would only ask for another. One that has fewer neighbours that take a colour than
 -- there are colours is not urgent, as some colour is left to it whatever they take. Of any other, what
--- its slot would cost for each neighbour that it stands in the way of.
+-- its slot would cost for each of these neighbours, in 1024ths of a use.
 abbrev pub urgency : Colouring → ℕ → Node → ℕ
 urgency place fresh x =
     cond (nat_le fresh x.reg.number) most_urgent

@@ -16,6 +16,7 @@ const COLOURS: usize = 21;
 /// A node whose place is open, and how urgent it is.
 #[derive(Drop)]
 pub struct Ranked<'a> {
+    /// As `urgency` has it: 0 where it is not urgent.
     pub urgency: u64,
     pub node: &'a Node,
 }
@@ -47,8 +48,7 @@ fn degree(places: &[Loc], node: &Node) -> usize
 
 /// How urgent a register is: one that reloading made, numbered `fresh` or above, more than any other, since
 /// a slot for it would only ask for another. Of the others, what a slot would cost for each neighbour that
-/// the register stands in the way of, in 1024ths of a use; one with fewer neighbours that take a colour than
-/// there are colours is not urgent.
+/// takes a colour, in 1024ths of a use; one with fewer such neighbours than there are colours is not urgent.
 fn urgency(places: &[Loc], fresh: u32, node: &Node) -> u64
     ensures { result ≡ urgency (places_by places.now) fresh node.now }
 {

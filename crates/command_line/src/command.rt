@@ -81,6 +81,7 @@ pub enum WordsError {
     /// U2: they have, but a value is not in its grammar, or outside its limits.
     #[error("the text of a value is wrong")]
     ValueText,
+    /// Memory ran out.
     #[error("out of memory")]
     OutOfMemory,
 }

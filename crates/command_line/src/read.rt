@@ -305,9 +305,11 @@ fn taken(
 ///
 /// Zeros may lead a number. The order of the words after the first is free.
 ///
-/// `Words` comes exactly where they have the form of no command, whatever memory there is. Where they
-/// have it, `ValueText` comes where a value is not in its grammar or outside its limits, so that the
-/// words are no command. `OutOfMemory` comes only if memory runs out.
+/// # Errors
+///
+/// `Words` exactly where they have the form of no command, whatever memory there is. Where they have it,
+/// `ValueText` where a value is not in its grammar or outside its limits, so that the words are no command, and
+/// `OutOfMemory` where memory ran out.
 pub fn read_words(alloc: Global, words: &[String]) -> Result<Command, WordsError>
     ensures command { IfOk result (λ command. IsCommand (texts words.now) (view command)) }
     ensures only { IfOk result (λ command.

@@ -49,7 +49,7 @@ abbrev pub standing_first : Clock → ℕ → List Reg → Option Reg → Option
 standing_first at time args None = None
 standing_first at time args (Some r) = cond (stands at time args r) (Some r) None
 
--- the result of an earlier operator of the time, if it still stands
+-- the result of an earlier operator of the time, if it and the operands still hold what they held then
 abbrev pub standing : Clock → ℕ → Instr → Option Reg
 standing at time j = standing_first at time j.args (slice_get j.results 0)
 

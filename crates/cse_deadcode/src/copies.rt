@@ -113,7 +113,7 @@ fn with_sources(alloc: Global, code: Seq<Instr>) -> Result<Seq<Instr>, AllocErro
 }
 
 /// The function in which each operand that is a copy of another register is read from that one: a move
-/// of its straight run made it so, both still stand, and neither has a place.
+/// of its straight run made it so, both still hold what it moved, and neither has a place.
 ///
 /// Registers are taken by number, so the function must be well-formed. A copy of a copy is read from
 /// the first source, since the move between them reads that already. The time is that of a few look-ups

@@ -137,6 +137,7 @@ pub fn computation(operator: IntOp, right: Right, args: &[Reg]) -> Computed
 pub enum Event {
     /// Ends the straight run.
     EndsRun,
+    /// Allocates, so that no address is held over it.
     Allocates,
     /// Writes the register of this number.
     Writes(u32),
@@ -146,5 +147,6 @@ pub enum Event {
     WritesColour(u8),
     /// Writes a register that is placed in this slot.
     WritesSlot(u32),
+    /// Computes this by an operator.
     Computes(Computed),
 }

@@ -1,9 +1,9 @@
 //! Three passes that take out what is computed for nothing.
 //!
 //! Common subexpression elimination (OCaml's `asmcomp/CSEgen.ml`): an integer operator that repeats an
-//! earlier one of its straight run, whose operands and result still stand, becomes a move. It is kept,
-//! for each operator on its operands, for each register written, for its origin and for its place, in
-//! which instruction that was done last; what stands is seen by comparing these times.
+//! earlier one of its straight run, whose operands and result still hold what they held then, becomes a
+//! move. It is kept, for each operator on its operands, for each register written, for its origin and for
+//! its place, in which instruction that was done last; what is still held is seen by comparing these times.
 //!
 //! Copy propagation: an operand that a move of its straight run made a copy of another register is
 //! read from that one, by the same times. OCaml's `CSEgen` gives a move's target the number of the

@@ -61,7 +61,7 @@ fn stands(times: &Times, time: usize, args: &[Reg], reg: &Reg) -> bool
         && (operands_stand(times, time, args) && result_stands(times, time, reg))
 }
 
-/// The result of the earlier operator of that time, if it still stands.
+/// The result of the earlier operator of that time, if it and the operands still hold what they held then.
 fn standing(times: &Times, time: usize, earlier: &Instr) -> Option<Reg>
     ensures { result ≡ standing (time_in times.now) time earlier.now }
 {
@@ -77,7 +77,8 @@ fn standing(times: &Times, time: usize, earlier: &Instr) -> Option<Reg>
     }
 }
 
-/// The result of the operator of that time in the code, if it still stands. At 0 there is none.
+/// The result of the operator of that time in the code, if it and the operands still hold what they held
+/// then. At 0 there is none.
 fn standing_at(times: &Times, made: &[Instr], time: usize) -> Option<Reg>
     ensures { result ≡ standing_at (time_in times.now) made.now time }
 {
@@ -142,7 +143,7 @@ fn without_repeats(alloc: Global, code: Seq<Instr>) -> Result<Seq<Instr>, AllocE
 }
 
 /// The function in which each integer operator that repeats an earlier one of its straight run, whose
-/// operands and result still stand, is a move from that one's result.
+/// operands and result still hold what they held then, is a move from that one's result.
 ///
 /// Registers are taken by number, so the function must be well-formed. The time is that of a few look-ups
 /// by number for each register, and in a map for each operator; memory grows as the greatest number does.

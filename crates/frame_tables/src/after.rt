@@ -28,6 +28,7 @@ pub struct Choice {
 /// A frame point that is no tail call.
 #[derive(Clone, Copy)]
 pub struct Point {
+    /// The number of lines before it.
     pub place: u32,
 
     /// How many traps are pushed there.

@@ -316,9 +316,11 @@ fn image_from(alloc: Global, bytes: &[u8]) -> Result<Image, ImageError>
 
 /// The image that the bytes spell.
 ///
-/// It is refused exactly where no image has these bytes, with the first fault from the front. A
-/// fault in a field is reported at the field's first byte, one of a name at its length, and bytes that
-/// end too early at their end. Otherwise it fails only if memory runs out.
+/// # Errors
+///
+/// `Refused` exactly where no image has these bytes, with the first fault from the front. A fault in a field is
+/// reported at the field's first byte, one of a name at its length, and bytes that end too early at their end.
+/// `OutOfMemory` where memory ran out before the answer is known.
 pub fn read_image(alloc: Global, bytes: &[u8]) -> Result<Image, ImageError>
     // What is read is an image, and these are its bytes.
     ensures found { IfOk result (λ image. IsImage image × (image_bytes image ≡ bytes.now)) }

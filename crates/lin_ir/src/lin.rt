@@ -13,7 +13,9 @@ pub struct Spot {
 /// How control goes. A label is that of the place after the line that has it.
 #[derive(Clone, Drop)]
 pub enum Flow {
+    /// The place of that label. It does nothing.
     Label(Label),
+    /// To the label.
     Jump(Label),
     /// A jump that is an exit of the text: it costs a unit.
     Exit(Label),
@@ -23,6 +25,7 @@ pub enum Flow {
     Switch(Seq<Label>),
     /// Pushes a trap whose handler is at the label.
     PushTrap(Label),
+    /// Pops the innermost trap.
     PopTrap,
     /// The entry of a handler, right after its label. The result is the raised value.
     EnterTrap,
@@ -31,7 +34,9 @@ pub enum Flow {
 /// What an instruction of Linear does.
 #[derive(Clone, Drop)]
 pub enum LinOp {
+    /// An operation that Mach has too.
     Op(Op),
+    /// What steers control.
     Flow(Flow),
 }
 

@@ -1,8 +1,8 @@
 //! The step from a Linear line to the machine, for the lines that leave a function or enter it: entries, returns,
 //! calls, raises, tries, allocations and external calls, wherever the blocks lie and whenever the mover asks.
 //!
-//! The lemmas behind the laws are over any code in which t0 is said to be live; the laws take nowhere, since
-//! a clause has to be small.
+//! The lemmas that prove the laws are over any code in which t0 is said to be live; the laws take nowhere,
+//! since a clause has to be small.
 //!
 //! The crate holds definitions and laws alone.
 #![tactic(auto)]

@@ -25,12 +25,13 @@ pub enum Test {
 
 /// The marks of structures, and exits.
 ///
-/// A body that comes to its end goes on at the next mark: an `else`, `case` or `with` takes it to
-/// the end of the structure.
+/// A body that comes to its end goes on at the next mark: an `else`, `case` or `with` takes it to the end of the
+/// structure, whose label is `end`. The `label` of an `Else`, `Case`, `With` or `End` is the mark's own: control that
+/// goes to it goes on after the mark.
 #[derive(Clone, Drop)]
 pub enum Mark {
-    /// An exit to a handler, which ends so many tries. Moves before it have put the values of the
-    /// handler's parameters there.
+    /// An exit to the handler that has the label, which ends so many tries. Moves before it have put the
+    /// values of the handler's parameters there.
     Exit {
         label: Label,
         tries: u32,
@@ -40,6 +41,7 @@ pub enum Mark {
         test: Test,
         otherwise: Label,
     },
+    /// Before what is done where the test fails.
     Else {
         label: Label,
         end: Label,
@@ -52,7 +54,9 @@ pub enum Mark {
         label: Label,
         end: Label,
     },
+    /// Before the body of a catch.
     Catch,
+    /// Before a handler of a catch.
     With {
         label: Label,
         end: Label,
@@ -70,6 +74,7 @@ pub enum Mark {
     Handler {
         label: Label,
     },
+    /// The end of a structure.
     End {
         label: Label,
     },
@@ -78,7 +83,9 @@ pub enum Mark {
 /// What an instruction of Mach does.
 #[derive(Clone, Drop)]
 pub enum MachOp {
+    /// What computes, reads or changes memory, calls or leaves.
     Op(Op),
+    /// A mark of a structure, or an exit.
     Mark(Mark),
 }
 

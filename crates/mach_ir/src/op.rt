@@ -10,22 +10,28 @@ use bs_words::{Chunk, Comp, IntOp, Name, Ret};
 /// How a value is copied: between registers, into a slot, or out of one. The three mean the same.
 #[derive(Clone, Copy, PartialEq, Eq, Debug)]
 pub enum CopyKind {
+    /// Between registers.
     Move,
+    /// Into a slot.
     Spill,
+    /// Out of a slot.
     Reload,
 }
 
-/// The right operand of an operator, a comparison or a bound test: the last register among the
-/// operands, or a constant that the machine has an immediate for.
+/// The right operand of an operator, a comparison or a bound test: the last register among the operands, or a
+/// constant that the machine has an immediate for.
 #[derive(Clone, Copy, PartialEq, Eq, Debug)]
 pub enum Right {
+    /// The last register among the operands.
     Register,
+    /// A word.
     Constant(u64),
 }
 
 /// What reads registers alone, and writes one.
 #[derive(Clone, Drop)]
 pub enum Pure {
+    /// The operand itself.
     Copy(CopyKind),
     /// A word.
     Constant(u64),
@@ -50,7 +56,9 @@ pub enum Access {
 /// Whom a call calls: a function by its symbol, or by the value of the first operand.
 #[derive(Clone, Drop)]
 pub enum Callee {
+    /// The function of that symbol.
     Symbol(Name),
+    /// The function that the first operand holds; the arguments come after it.
     Register,
 }
 
@@ -67,6 +75,7 @@ pub struct External {
 /// dropped.
 #[derive(Clone, Drop)]
 pub enum Calling {
+    /// The function goes on after it, with what the callee gives.
     Call { callee: Callee, result: Ret },
     /// The callee takes the place of this function.
     TailCall { callee: Callee, result: Ret },
@@ -80,6 +89,7 @@ pub enum Leaving {
     /// The first operand is the bound, the second the index. It raises where the index is not below
     /// the bound.
     Checkbound(Right),
+    /// Raises the operand.
     Raise,
     /// With the value of the function, or none.
     Return,
@@ -88,9 +98,13 @@ pub enum Leaving {
 /// An operation of both languages.
 #[derive(Clone, Drop)]
 pub enum Op {
+    /// Computes from registers alone.
     Pure(Pure),
+    /// Reads or changes memory.
     Access(Access),
+    /// Calls.
     Calling(Calling),
+    /// Leaves, or may leave, by a raise or a return.
     Leaving(Leaving),
 }
 

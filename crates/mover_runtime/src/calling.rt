@@ -25,6 +25,11 @@ use rv_machine::{Cause, Machine};
 
 /// Makes the external call before which the machine is, or ends the run where there is no such call
 /// or no answer for it.
+///
+/// # Errors
+///
+/// `OutFault::Write` where a write failed or took nothing: the sink then has a part of the call's line or of the last
+/// one, from its front and not all of it.
 pub fn call<K: Sink>(
     machine: &mut Machine<'_>,
     returns: Ret,
@@ -115,6 +120,11 @@ fn finish<K: Sink>(
 
 /// Makes the frame call before which the machine is, or ends the run: where there is no such call, fewer
 /// than two answers, no whole blocks or frames, no room in the heap, or no trap frame for what it raises.
+///
+/// # Errors
+///
+/// `OutFault::Write` where a write failed or took nothing: the sink then has a part of the call's line or of the last
+/// one, from its front and not all of it.
 pub fn frame_call<K: Sink>(
     machine: &mut Machine<'_>,
     schedule: &Schedule,

@@ -18,8 +18,12 @@ use rv_machine::{CODE_START, Machine, StepEnd};
 /// Before each instruction the mover asks where the schedule says so, and each allocation service and
 /// frame call moves the blocks where it says.
 ///
-/// The machine was just loaded. A write fault ends the run; the sink then holds a part of the text, from
-/// its front.
+/// The machine was just loaded.
+///
+/// # Errors
+///
+/// `OutFault::Write` where a write failed or took nothing, which ends the run: the sink then has a part of the text,
+/// from its front and not all of it.
 pub fn run_image<K: Sink>(
     machine: &mut Machine<'_>,
     answers: &[u64],

@@ -29,6 +29,11 @@ use rv_machine::{Cause, Machine};
 
 /// Does the service before which the machine is, and writes what is reported of it: a line for an external
 /// call that is answered, or the last line of the run. `taken` answers were taken before.
+///
+/// # Errors
+///
+/// `OutFault::Write` where a write failed or took nothing: the sink then has a part of the line, from its front and
+/// not all of it.
 pub fn serve<K: Sink>(
     machine: &mut Machine<'_>,
     schedule: &Schedule,
@@ -161,7 +166,12 @@ fn end_raised<K: Sink>(machine: &Machine<'_>, out: &mut K) -> Result<RunEnd, Out
     Ok(RunEnd::Raised(obs))
 }
 
-/// The machine has stopped.
+/// Ends the run of a machine that has stopped, and writes its last line.
+///
+/// # Errors
+///
+/// `OutFault::Write` where a write failed or took nothing: the sink then has a part of the line, from its front and
+/// not all of it.
 pub fn end_stopped<K: Sink>(cause: Cause, out: &mut K) -> Result<RunEnd, OutFault>
     ensures reported { IfOk result (λ end. end ≡ RunEnd.Stopped cause) }
     ensures text { Writes result (K.held out.old) (K.held out.new)
@@ -172,7 +182,12 @@ pub fn end_stopped<K: Sink>(cause: Cause, out: &mut K) -> Result<RunEnd, OutFaul
     Ok(RunEnd::Stopped(cause))
 }
 
-/// The run has no stack left.
+/// Ends a run that has no stack left, and writes its last line.
+///
+/// # Errors
+///
+/// `OutFault::Write` where a write failed or took nothing: the sink then has a part of the line, from its front and
+/// not all of it.
 pub fn end_stack_out<K: Sink>(out: &mut K) -> Result<RunEnd, OutFault>
     ensures reported { IfOk result (λ end. end ≡ RunEnd.StackOut) }
     ensures text { Writes result (K.held out.old) (K.held out.new) (last_line ends.StackOut) }
@@ -182,7 +197,12 @@ pub fn end_stack_out<K: Sink>(out: &mut K) -> Result<RunEnd, OutFault>
     Ok(RunEnd::StackOut)
 }
 
-/// The blocks do not fit half of the heap.
+/// Ends a run whose blocks do not fit half of the heap, and writes its last line.
+///
+/// # Errors
+///
+/// `OutFault::Write` where a write failed or took nothing: the sink then has a part of the line, from its front and
+/// not all of it.
 pub fn end_heap_out<K: Sink>(out: &mut K) -> Result<RunEnd, OutFault>
     ensures reported { IfOk result (λ end. end ≡ RunEnd.HeapOut) }
     ensures text { Writes result (K.held out.old) (K.held out.new) (last_line ends.HeapOut) }
@@ -192,7 +212,12 @@ pub fn end_heap_out<K: Sink>(out: &mut K) -> Result<RunEnd, OutFault>
     Ok(RunEnd::HeapOut)
 }
 
-/// The run goes on past what was allowed.
+/// Ends a run that goes on past what was allowed, and writes its last line.
+///
+/// # Errors
+///
+/// `OutFault::Write` where a write failed or took nothing: the sink then has a part of the line, from its front and
+/// not all of it.
 pub fn end_more<K: Sink>(out: &mut K) -> Result<RunEnd, OutFault>
     ensures reported { IfOk result (λ end. end ≡ RunEnd.More) }
     ensures text { Writes result (K.held out.old) (K.held out.new) (last_line ends.Running) }

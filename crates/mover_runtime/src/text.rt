@@ -19,6 +19,11 @@ use rv_machine::{Cause, Machine};
 const FIRST_ARGUMENT: u8 = Register::A0 as u8;
 
 /// Writes bytes.
+///
+/// # Errors
+///
+/// `OutFault::Write` where a write failed or took nothing: the sink then has a part of the bytes, from their front
+/// and not all of them.
 pub fn put<K: Sink>(bytes: &[u8], out: &mut K) -> Result<(), OutFault>
     ensures text { Writes result (K.held out.old) (K.held out.new) bytes.now }
     ensures counts { Counts result (K.faults out.old) (K.faults out.new) }
@@ -27,6 +32,11 @@ pub fn put<K: Sink>(bytes: &[u8], out: &mut K) -> Result<(), OutFault>
 }
 
 /// Writes an observation: a word as a signed decimal, or a block as `block` and its serial.
+///
+/// # Errors
+///
+/// `OutFault::Write` where a write failed or took nothing: the sink then has a part of that text, from its front and
+/// not all of it.
 pub fn write_obs<K: Sink>(obs: Obs, out: &mut K) -> Result<(), OutFault>
     ensures text { Writes result (K.held out.old) (K.held out.new) (obs_text obs) }
     ensures counts { Counts result (K.faults out.old) (K.faults out.new) }
@@ -119,6 +129,11 @@ fn put_call<K: Sink>(text: &[u8], name: &Name, shown: &[Obs], out: &mut K) -> Re
 }
 
 /// Writes a line of a text and a call of that name whose arguments show so.
+///
+/// # Errors
+///
+/// `OutFault::Write` where a write failed or took nothing: the sink then has a part of the line, from its front and
+/// not all of it.
 pub fn write_call_line<K: Sink>(
     text: &[u8],
     name: &Name,
@@ -134,6 +149,11 @@ pub fn write_call_line<K: Sink>(
 }
 
 /// Writes a line of that text.
+///
+/// # Errors
+///
+/// `OutFault::Write` where a write failed or took nothing: the sink then has a part of the line, from its front and
+/// not all of it.
 pub fn write_line<K: Sink>(text: &[u8], out: &mut K) -> Result<(), OutFault>
     ensures text { Writes result (K.held out.old) (K.held out.new) (text.now ++ codes "\n") }
     ensures counts { Counts result (K.faults out.old) (K.faults out.new) }
@@ -143,6 +163,11 @@ pub fn write_line<K: Sink>(text: &[u8], out: &mut K) -> Result<(), OutFault>
 }
 
 /// Writes a line of a text and an observation.
+///
+/// # Errors
+///
+/// `OutFault::Write` where a write failed or took nothing: the sink then has a part of the line, from its front and
+/// not all of it.
 pub fn write_obs_line<K: Sink>(text: &[u8], obs: Obs, out: &mut K) -> Result<(), OutFault>
     ensures text { Writes result (K.held out.old) (K.held out.new)
         (text.now ++ obs_text obs ++ codes "\n") }
@@ -154,6 +179,11 @@ pub fn write_obs_line<K: Sink>(text: &[u8], obs: Obs, out: &mut K) -> Result<(),
 
 /// Writes a line of a text and the external call before which the machine is: its name, and what its
 /// arguments show.
+///
+/// # Errors
+///
+/// `OutFault::Write` where a write failed or took nothing: the sink then has a part of the line, from its front and
+/// not all of it.
 pub fn write_made_line<K: Sink>(
     text: &[u8],
     machine: &Machine<'_>,
@@ -185,6 +215,11 @@ fn stopped_text(cause: Cause) -> &'static str
 }
 
 /// Writes the line of a machine that has stopped.
+///
+/// # Errors
+///
+/// `OutFault::Write` where a write failed or took nothing: the sink then has a part of the line, from its front and
+/// not all of it.
 pub fn write_stopped<K: Sink>(cause: Cause, out: &mut K) -> Result<(), OutFault>
     ensures text { Writes result (K.held out.old) (K.held out.new)
         (codes "stopped " ++ cause_text cause ++ codes "\n") }

@@ -44,7 +44,7 @@ pub data Ends (r w : Reg) : Type 0 where
   same_place : w.loc ≡ r.loc → r.loc ≢ loc.Unset → Ends r w
   same_origin : w.origin ≡ r.origin → Ends r w
 
--- What an operator computed still stands at the end of this code: only instructions of its straight
+-- What an operator computed is still held at the end of this code: only instructions of its straight
 -- run come after it, they write no operand of it, and end its result nowhere.
 pub record StillStands (before : List Instr) (j : Instr) (r : Reg) : Type 0 where
   pub others : List Instr
@@ -60,7 +60,8 @@ pub record StillStands (before : List Instr) (j : Instr) (r : Reg) : Type 0 wher
   -- an addr is lost at an allocation
   pub kept : r.comp ≡ comp.Addr → (i : Instr) → Contains run i → allocates i.op ≡ false
 
--- An operator after this code computes what an earlier one did, whose operands and result still stand.
+-- An operator after this code computes what an earlier one did, whose operands and result still hold what
+-- they held then.
 pub record Repeats (before : List Instr) (i : Instr) (r : Reg) : Type 0 where
   pub earlier : Instr
   pub stands : StillStands before earlier r

@@ -1,9 +1,9 @@
 //! Mach functions in which an integer operator that repeats an earlier one of its straight run is a move
 //! from that one's result, and what such a function keeps.
 //!
-//! Both functions run in step, over registers that hold the same: a result that still stands holds what
-//! its operator would give now. More is live in the second only between an operator and its repeat, where
-//! nothing else of its place is written, and no frame point loses it.
+//! Both functions run in step, over registers that hold the same: a result that nothing has ended since holds
+//! what its operator would give now. More is live in the second only between an operator and its repeat,
+//! where nothing else of its place is written, and no frame point loses it.
 //!
 //! The crate holds definitions and laws alone.
 #![tactic(auto)]

@@ -10,6 +10,10 @@ use std::alloc::{AllocError, Global};
 use std::thread::Threads;
 
 /// The lines of a row.
+///
+/// # Errors
+///
+/// A number of the row that is none, a text that is no UTF-8, or want of memory.
 pub fn said_to<R: Threads + Sync, T: Top>(
     table: &mut Table<'_, R, T>,
     row: &str,

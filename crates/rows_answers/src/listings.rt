@@ -13,6 +13,10 @@ use rows_lines::{Table, Top};
 use std::thread::Threads;
 
 /// What is shown of the text that a row asks for, under the stage and the word that says what is shown.
+///
+/// # Errors
+///
+/// An answer that is no UTF-8, or want of memory.
 pub fn said_to<R: Threads + Sync, T: Top>(
     table: &mut Table<'_, R, T>,
     row: &str,

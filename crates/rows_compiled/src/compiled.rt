@@ -11,6 +11,10 @@ use rows_lines::{Table, Top};
 use std::thread::Threads;
 
 /// What the program says to a row, but for the lines that tell the need of stack.
+///
+/// # Errors
+///
+/// An answer that is no UTF-8, or want of memory.
 pub fn said_to<R: Threads + Sync, T: Top>(
     table: &mut Table<'_, R, T>,
     row: &str,

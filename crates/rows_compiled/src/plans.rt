@@ -27,6 +27,10 @@ const ROOM: u32 = 1 << 20;
 const STEPS: u64 = 100_000_000;
 
 /// The outcome of the run of a row.
+///
+/// # Errors
+///
+/// A number of the row that is none, or want of memory.
 pub fn said_to<R: Threads + Sync, T: Top>(
     table: &mut Table<'_, R, T>,
     row: &str,

@@ -27,6 +27,10 @@ pub struct Parts<'a> {
 }
 
 /// The words of a line.
+///
+/// # Errors
+///
+/// Want of memory alone.
 pub fn words_of<'a>(alloc: Global, line: &'a str) -> Result<Vec<&'a str>> {
     let mut words = Vec::new(alloc);
     for word in line.split(' ') {
@@ -37,7 +41,11 @@ pub fn words_of<'a>(alloc: Global, line: &'a str) -> Result<Vec<&'a str>> {
     Ok(words)
 }
 
-/// The registers whose words the text has, or the error that a word is none.
+/// The registers whose words the text has.
+///
+/// # Errors
+///
+/// A word that is no register, or want of memory.
 pub fn registers(alloc: Global, text: &str) -> Result<Vec<Reg>> {
     let mut regs = Vec::new(alloc);
     for word in words_of(alloc, text)? {
@@ -49,7 +57,11 @@ pub fn registers(alloc: Global, text: &str) -> Result<Vec<Reg>> {
     Ok(regs)
 }
 
-/// The line taken apart, whose first word after the results is its name. The error is a result that is no register.
+/// The line taken apart, whose first word after the results is its name.
+///
+/// # Errors
+///
+/// A word among the results that is no register, or want of memory.
 pub fn apart<'a>(alloc: Global, line: &'a str) -> Result<Parts<'a>> {
     let (results, body) = match line.split_once(" = ") {
         Some((before, body)) => (registers(alloc, before)?, body),
@@ -309,6 +321,10 @@ impl<'a> Parts<'a> {
     }
 
     /// The instruction of Mach, if it is one.
+    ///
+    /// # Errors
+    ///
+    /// Want of memory alone.
     pub fn instr(self) -> Result<Option<Instr>> {
         if !self.is_whole(&MARKS) {
             return Ok(None);
@@ -328,6 +344,10 @@ impl<'a> Parts<'a> {
     }
 
     /// The line of Linear, if it is one.
+    ///
+    /// # Errors
+    ///
+    /// Want of memory alone.
     pub fn line(self) -> Result<Option<Line>> {
         if !self.is_whole(&FLOWS) {
             return Ok(None);
@@ -357,6 +377,10 @@ fn new_block(word: &str) -> Option<NewBlock>
 }
 
 /// The locations of registers.
+///
+/// # Errors
+///
+/// Want of memory alone.
 pub fn spots(alloc: Global, regs: &[Reg]) -> Result<Seq<Spot>> {
     let mut spots = Vec::new(alloc);
     for reg in regs {

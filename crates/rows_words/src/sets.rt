@@ -4,6 +4,10 @@ use bs_bits::Bits;
 use std::alloc::Global;
 
 /// What is asked of the sets, in order, on one line.
+///
+/// # Errors
+///
+/// A line without a size, a word of it that asks nothing of sets, a number that is none, or want of memory.
 pub fn told_of_sets(alloc: Global, line: &str) -> Result<String> {
     let mut words = line.split(' ');
     let size = match words.next() {

@@ -1,29 +1,44 @@
 //! The rows of the table, one variant of `Instr` for each format and an enum of its rows inside.
 
-/// The rows of OP: `rd` becomes the operation on `rs1` and `rs2`, each of 64 bits.
+/// The rows of OP: `rd` becomes the operation on `rs1` and `rs2`, each of 64 bits. Sums, differences and products
+/// wrap, and `Xor`, `Or` and `And` go bit by bit. A quotient by 0 is 2^64 - 1, and its remainder `rs1` (the manual's
+/// chapter on the M extension).
 #[derive(Copy, Clone, PartialEq, Eq, Debug)]
 pub enum AluOp {
     Add,
     Sub,
+    /// The shift to the left, by the low 6 bits of `rs2`.
     Sll,
+    /// 1 where `rs1` is less than `rs2` as a signed number, else 0.
     Slt,
+    /// 1 where `rs1` is less than `rs2` as an unsigned number, else 0.
     Sltu,
     Xor,
+    /// The shift to the right that brings in zeros, by the low 6 bits of `rs2`.
     Srl,
+    /// The shift to the right that brings in the sign, by the low 6 bits of `rs2`.
     Sra,
     Or,
     And,
     Mul,
+    /// The high half of the product of signed numbers.
     Mulh,
+    /// The high half of the product of `rs1` as a signed number and `rs2` as an unsigned one.
     Mulhsu,
+    /// The high half of the product of unsigned numbers.
     Mulhu,
+    /// The signed quotient, toward zero.
     Div,
+    /// The unsigned quotient.
     Divu,
+    /// The signed remainder, with the sign of `rs1`.
     Rem,
+    /// The unsigned remainder.
     Remu,
 }
 
-/// The rows of OP-32: the operation on the low 32 bits, its result extended by its sign.
+/// The rows of OP-32: the operation of the row of OP without the `w`, on the low 32 bits, its result extended by its
+/// sign. A shift is by the low 5 bits of `rs2`, and a quotient by 0 is 2^64 - 1 here too.
 #[derive(Copy, Clone, PartialEq, Eq, Debug)]
 pub enum AluWordOp {
     Addw,
@@ -38,7 +53,8 @@ pub enum AluWordOp {
     Remuw,
 }
 
-/// The rows of OP-IMM with a 12-bit immediate.
+/// The rows of OP-IMM with a 12-bit immediate: the operation of the row of OP without the `i`, on `rs1` and the
+/// immediate, extended by its sign (in `Sltiu` too).
 #[derive(Copy, Clone, PartialEq, Eq, Debug)]
 pub enum AluImmOp {
     Addi,
@@ -49,7 +65,7 @@ pub enum AluImmOp {
     Andi,
 }
 
-/// The rows of OP-IMM that shift by a 6-bit amount.
+/// The rows of OP-IMM that shift by a 6-bit amount: to the left, to the right with zeros, to the right with the sign.
 #[derive(Copy, Clone, PartialEq, Eq, Debug)]
 pub enum ShiftOp {
     Slli,
@@ -57,7 +73,8 @@ pub enum ShiftOp {
     Srai,
 }
 
-/// The rows of OP-IMM-32 that shift by a 5-bit amount.
+/// The rows of OP-IMM-32 that shift the low 32 bits by a 5-bit amount, in the order of `ShiftOp`; the result is
+/// extended by its sign.
 #[derive(Copy, Clone, PartialEq, Eq, Debug)]
 pub enum ShiftWordOp {
     Slliw,
@@ -65,7 +82,8 @@ pub enum ShiftWordOp {
     Sraiw,
 }
 
-/// The rows of LOAD.
+/// The rows of LOAD: 1, 2, 4 or 8 bytes (`b`, `h`, `w`, `d`), the lowest first. Fewer than 8 are extended by their
+/// sign, or with `u` by zeros.
 #[derive(Copy, Clone, PartialEq, Eq, Debug)]
 pub enum LoadWidth {
     Lb,
@@ -77,7 +95,7 @@ pub enum LoadWidth {
     Lwu,
 }
 
-/// The rows of STORE.
+/// The rows of STORE: the low 1, 2, 4 or 8 bytes (`b`, `h`, `w`, `d`), the lowest first.
 #[derive(Copy, Clone, PartialEq, Eq, Debug)]
 pub enum StoreWidth {
     Sb,
@@ -86,7 +104,7 @@ pub enum StoreWidth {
     Sd,
 }
 
-/// The rows of BRANCH.
+/// The rows of BRANCH: equal, not equal, less, not less, and the last two on unsigned numbers (`u`).
 #[derive(Copy, Clone, PartialEq, Eq, Debug)]
 pub enum Condition {
     Beq,
@@ -157,6 +175,7 @@ pub enum Instr {
         rs1: u8,
         amount: u8,
     },
+    /// `rd` becomes the operation on `rs1` and `rs2`.
     Op {
         op: AluOp,
         rd: u8,
@@ -176,11 +195,13 @@ pub enum Instr {
         rs1: u8,
         amount: u8,
     },
+    /// `rd` becomes the operation on the low 32 bits of `rs1` and `rs2`.
     OpWord {
         op: AluWordOp,
         rd: u8,
         rs1: u8,
         rs2: u8,
     },
+    /// Asks for a service of the runtime.
     Ecall,
 }

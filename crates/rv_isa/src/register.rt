@@ -3,7 +3,8 @@
 //! Their names are those of the calling convention (RISC-V ELF psABI, "Register Convention"). What they are
 //! used for is the convention of this compiler.
 
-/// An integer register, x0 to x31, in the order of their numbers.
+/// An integer register, x0 to x31, in the order of their numbers. Those that have no sentence hold values of a
+/// function (`COLOURS`), and some of them arguments of a call (`ARGUMENT_REGISTERS`).
 #[derive(Copy, Clone, PartialEq, Eq, Debug)]
 pub enum Register {
     /// Reads 0, and takes nothing.

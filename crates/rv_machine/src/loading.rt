@@ -164,8 +164,13 @@ fn start_memory(alloc: Global, image: &Image, stack: u64, heap: u64) -> Result<M
 
 /// The machine at the entry of the setup, with its arguments, in the state where its run begins.
 ///
-/// It takes all the memory that the run will use. A machine or `OutOfMemory` comes only where the setup
-/// suits the image.
+/// It takes all the memory that the run will use.
+///
+/// # Errors
+///
+/// `UnknownEntry` exactly where the image has no function of the entry's name; else `ArgumentUnfit` exactly where the
+/// arguments do not suit that function, in number or type, or a symbol among them is none of the data; else
+/// `OutOfMemory` where memory ran out.
 pub fn load<'a>(alloc: Global, image: &'a Image, setup: &Setup) -> Result<Machine<'a>, LoadError>
     requires image { IsImage image.now }
     requires stack { IsRoom setup.now.stack }

@@ -42,7 +42,9 @@ pub(crate) struct Room {
 #[derive(Drop)]
 pub struct Machine<'a> {
     pub image: &'a Image,
+    /// x0 to x31.
     pub registers: [u64; 32],
+    /// The address of the next instruction.
     pub pc: u64,
     pub memory: Memory,
     /// The lowest address that the stack pointer may have.
@@ -51,6 +53,7 @@ pub struct Machine<'a> {
     pub heap: u64,
     /// The blocks by serial. `load` takes the memory of the whole table.
     pub blocks: Vec<BlockPlace>,
+    /// How many instructions have retired.
     pub retired: u64,
     /// How many allocation services and frame calls have moved blocks.
     pub services: u64,

@@ -19,7 +19,9 @@ pub struct Setup {
 /// An argument: a word, or the address of a symbol of the data.
 #[derive(Debug, Drop)]
 pub enum Arg {
+    /// A word of 64 bits.
     Word(u64),
+    /// The name of a symbol of the data.
     Symbol(Name),
 }
 
@@ -32,6 +34,7 @@ pub enum LoadError {
     /// The arguments do not suit the entry's parameters.
     #[error("the arguments do not suit the function")]
     ArgumentUnfit,
+    /// Memory ran out.
     #[error("out of memory")]
     OutOfMemory,
 }

@@ -10,5 +10,6 @@ pub enum StepEnd {
     Service,
     /// The instruction would set the stack pointer below the stack's base.
     StackOut,
+    /// The machine has stopped, for this cause.
     Stopped(Cause),
 }

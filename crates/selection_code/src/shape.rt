@@ -22,8 +22,11 @@ pub struct Immediate {
 /// Where the operands of an operator are: in registers both, or one of them is a constant that needs none.
 #[derive(Clone, Copy)]
 pub enum Shape {
+    /// Both are in registers.
     InRegisters,
+    /// The right one is a constant.
     ConstantRight(Immediate),
+    /// The left one is a constant, which is on the right of this operator: that of the exchanged operands.
     ConstantLeft(Immediate),
     /// A quotient or a remainder by the power of two with this exponent, from 1 to 62.
     PowerRight(u32),

@@ -32,6 +32,7 @@ const HEADER_OFFSET: u64 = 0xFFFF_FFFF_FFFF_FFF8;
 #[derive(Clone, Copy)]
 pub struct Address<'e> {
     pub base: &'e Expr,
+    /// In bytes, a word that wraps.
     pub offset: u64,
 }
 

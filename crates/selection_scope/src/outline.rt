@@ -11,10 +11,15 @@ use cmm_tree::{Expr, Form};
 /// the operation that takes it; another one is put into a register.
 #[derive(Clone, Copy)]
 pub enum Outline<'e> {
+    /// An integer, as its word.
     Integer(u64),
+    /// A symbol.
     Symbol(&'e Name),
+    /// A name that is bound.
     Name(&'e Name),
+    /// An operator on two operands, the left one first.
     Operator(IntOp, &'e Expr, &'e Expr),
+    /// Any other form.
     Other,
 }
 

@@ -15,6 +15,7 @@ use std::alloc::{AllocError, Global};
 #[derive(Clone, Copy, Debug)]
 pub struct Move {
     pub reg: Reg,
+    /// The number of instructions before that one.
     pub place: usize,
 }
 

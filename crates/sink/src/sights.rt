@@ -12,9 +12,11 @@ use std::alloc::{AllocError, Global};
 /// Before how many places a number was seen.
 #[derive(Clone, Copy, PartialEq, Eq, Debug)]
 pub enum Sight {
+    /// Before none.
     Unseen,
     /// Before this one alone.
     Once(usize),
+    /// Before two or more.
     Often,
 }
 

@@ -30,11 +30,13 @@ pub struct FileCall {
 /// Why no function of a file is called.
 #[derive(Clone, Copy, PartialEq, Eq, Debug, Drop, Error)]
 pub enum CallRefusal {
+    /// The file has no function of the entry's name.
     #[error("no function has the entry's name")]
     UnknownEntry,
     /// The arguments do not fit the entry, or a symbol among arguments and answers is of no static data.
     #[error("the arguments do not fit the entry")]
     ArgumentUnfit,
+    /// Memory ran out.
     #[error("out of memory")]
     OutOfMemory,
 }

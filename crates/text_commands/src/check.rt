@@ -21,6 +21,7 @@ pub enum CheckRefusal {
     /// The text has a fault.
     #[error("the text has a fault")]
     Fault(Fault),
+    /// The text has no function of the entry's name.
     #[error("no function has the entry's name")]
     UnknownEntry,
     /// The arguments do not fit the entry, or a symbol among arguments and answers is of no static data.
@@ -29,6 +30,7 @@ pub enum CheckRefusal {
     /// A section of the image would pass its limit.
     #[error("the image is too large")]
     TooLarge(Large),
+    /// Memory ran out.
     #[error("out of memory")]
     OutOfMemory,
 }

@@ -21,6 +21,7 @@ pub enum Refusal {
     /// A section of its image would pass its limit.
     #[error("the image is too large")]
     TooLarge(Large),
+    /// Memory ran out.
     #[error("out of memory")]
     OutOfMemory,
 }

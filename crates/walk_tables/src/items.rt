@@ -22,6 +22,7 @@ pub enum Action {
 pub enum Item<'a> {
     /// No name, and nothing left to do.
     Empty,
+    /// A name in scope, which has this slot, and the cell of the scope around it.
     Named {
         name: &'a Name,
         ty: Ty,
@@ -29,6 +30,7 @@ pub enum Item<'a> {
         slot: usize,
         outer: usize,
     },
+    /// A walk does this, and then the rest.
     Does {
         action: Action,
         rest: usize,
@@ -63,12 +65,15 @@ pub enum Item<'a> {
         cases: &'a [Case],
         rest: usize,
     },
+    /// A walk goes on with the rest, or raises.
     MayRaise {
         rest: usize,
     },
+    /// A raise, which leads to the handler of the innermost try around it, if there is one.
     Raises {
         rest: usize,
     },
+    /// An exit leads to the handler of the label.
     Exits {
         label: &'a Label,
         rest: usize,

@@ -22,7 +22,9 @@ pub enum Step {
 /// The nodes that may come next, by number. Most nodes have one or two, which need no memory of their own.
 #[derive(Debug, Drop)]
 pub enum Next {
+    /// None: a walk ends there.
     Nowhere,
+    /// The node of that number.
     One(usize),
     /// An array, so that both can be lent as a slice.
     Two([usize; 2]),

@@ -17,6 +17,7 @@ use std::alloc::AllocError;
 pub struct Found {
     pub ty: Ty,
     pub mutable: bool,
+    /// The number of the slot that walks bind it to, from 0 on.
     pub slot: usize,
 }
 

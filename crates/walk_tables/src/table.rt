@@ -20,6 +20,7 @@ use std::alloc::{AllocError, Global};
 #[derive(Drop)]
 pub struct Table {
     pub nodes: Vec<Node>,
+    /// The number of that node.
     pub entry: usize,
 }
 
