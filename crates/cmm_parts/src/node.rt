@@ -77,7 +77,27 @@ fn integer_in(expr: &Expr) -> Option<u64>
 {
     match &expr.form {
         Form::Integer(word) => Some(*word),
-        _ => None,
+        Form::Pointer(_)
+        | Form::Symbol(_)
+        | Form::Name(_)
+        | Form::Nothing
+        | Form::Float { .. }
+        | Form::Let(_, _)
+        | Form::Assign { .. }
+        | Form::Operator(_, _, _)
+        | Form::Load(_, _)
+        | Form::Store(_, _, _)
+        | Form::Alloc { .. }
+        | Form::App { .. }
+        | Form::Extcall { .. }
+        | Form::Checkbound(_, _)
+        | Form::Raise(_)
+        | Form::Seq(_)
+        | Form::If(_, _, _)
+        | Form::Switch { .. }
+        | Form::Catch(_, _)
+        | Form::Exit { .. }
+        | Form::Try { .. } => None,
     }
 }
 

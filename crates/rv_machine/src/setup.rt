@@ -1,7 +1,6 @@
 //! What a run is given: its entry and arguments, and how much stack and heap it has.
 
 use bs_words::{List, Name};
-use std::alloc::AllocError;
 use thiserror::Error;
 
 /// What a run is given.
