@@ -1,6 +1,6 @@
 -- Which place colouring chooses for each register of a graph: for one after the other, in a fixed order,
 -- the best colour that no neighbour has, or else the slot of its origin.
-use Rattle.std.specs.Prelude.{◌≡◌, ◌↔◌, ◌⊎◌, ℕ, ◌+◌, ◌*◌, ◌/◌, ◌<◌, Bool, true, false, cond, not, nat_eq, nat_lt, nat_le, List, [], ◌∷◌, Option, Some, None, AllPairs, Contains, count_by, sum_by, filter, find}
+use Rattle.std.specs.Prelude.{◌≡◌, ◌↔◌, ◌⊎◌, ℕ, ◌+◌, ◌*◌, ◌/◌, ◌<◌, Bool, true, false, cond, not, nat_eq, nat_lt, nat_le, List, [], ◌∷◌, Option, Some, None, AllPairs, Contains, length, count_by, sum_by, filter, find}
 use Rattle.bs_words.specs.declared.types.Loc.{Loc}
 use Rattle.bs_words.specs.declared.types.Loc.TheVariants as loc
 use Rattle.mach_ir.specs.Graph.{InGraph, place_in}
@@ -47,7 +47,7 @@ most_urgent = 18446744073709551615
 abbrev pub urgency : Colouring → ℕ → Node → ℕ
 urgency place fresh x =
     cond (nat_le fresh x.reg.number) most_urgent
-    (cond (nat_lt (degree place x) 21) 0 (1 + x.uses * 1024 / degree place x))
+    (cond (nat_lt (degree place x) (length colours)) 0 (1 + x.uses * 1024 / degree place x))
 
 -- of two nodes, which comes first: the more urgent one, and of two as urgent that of the lower number
 abbrev pub ComesBefore : Colouring → ℕ → Node → Node → Type 0

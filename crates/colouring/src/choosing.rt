@@ -9,12 +9,8 @@ use crate::order::order;
 use crate::tallies::Tallies;
 use bs_words::Loc;
 use mach_ir::{Colours, Graph, Node, Seq};
+use rv_isa::COLOURS;
 use std::alloc::{AllocError, Global};
-
-/// The colours, those first that are taken first: a0 to a7, s2 to s9, t3 to t6 and s0.
-const COLOURS: [u8; 21] = [
-    10, 11, 12, 13, 14, 15, 16, 17, 18, 19, 20, 21, 22, 23, 24, 25, 28, 29, 30, 31, 8,
-];
 
 /// The place for a register where others have theirs.
 fn choose(graph: &Graph, table: &NodeTable, places: &[Loc], node: &Node) -> Loc

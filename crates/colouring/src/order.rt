@@ -7,11 +7,9 @@ ghost use Rattle.colouring.specs.Tables.{is_open, referred, ranked_nodes, AreRan
 
 use bs_words::Loc;
 use mach_ir::{Graph, Node};
+use rv_isa::COLOURS;
 use std::alloc::{AllocError, Global};
 use std::cmp::Reverse;
-
-/// How many colours there are.
-const COLOURS: usize = 21;
 
 /// A node whose place is open, and how urgent it is.
 #[derive(Drop)]
@@ -56,7 +54,7 @@ fn urgency(places: &[Loc], fresh: u32, node: &Node) -> u64
         return u64::MAX;
     }
     let degree = degree(places, node);
-    if degree < COLOURS {
+    if degree < COLOURS.len() {
         0
     } else {
         1 + u64::from(node.uses) * 1024 / degree as u64

@@ -6,6 +6,7 @@ use Rattle.std.specs.Prelude.{ℕ, ◌+◌, ◌*◌, List, [], ◌∷◌, ◌++�
 use Rattle.bs_words.specs.declared.types.Loc.TheVariants as loc
 use Rattle.mach_ir.specs.declared.op.Right.{Right}
 use Rattle.lin_ir.specs.declared.lin.Spot.{Spot}
+use Rattle.rv_isa.specs.Registers.{a0}
 use Rattle.rv_isa.specs.declared.instr.Condition.TheVariants as condition
 use Rattle.rv_isa.specs.declared.instr.LoadWidth.TheVariants as loads
 use Rattle.rv_isa.specs.declared.instr.StoreWidth.TheVariants as stores
@@ -31,7 +32,7 @@ pop_part = load loads.Ld S1 Sp 8 ∷ addi Sp Sp 16 ∷ []
 
 -- a handler is entered with the raised value in a0, and with sp and s1 as they are to be
 abbrev pub enter_part : (traps : ℕ) → List Spot → List Piece
-enter_part traps results = moved traps (loc.Machine 10) (first results)
+enter_part traps results = moved traps (loc.Machine a0) (first results)
 
 -- caml_bound_error is the first symbol of the data, which begin at 0x10000000
 abbrev pub raise_bound_error : List Piece

@@ -4,6 +4,7 @@ use Rattle.bs_words.specs.declared.types.Comp.{Comp}
 use Rattle.bs_words.specs.declared.types.Comp.TheVariants as comp
 use Rattle.bs_words.specs.declared.types.Loc.{Loc}
 use Rattle.bs_words.specs.declared.types.Loc.TheVariants as loc
+use Rattle.rv_isa.specs.Registers.{t0}
 use Rattle.mach_ir.specs.Acts.{At}
 use Rattle.mach_ir.specs.Forms.{HasForm, IsTested, results_of}
 use Rattle.mach_ir.specs.Placed.{colours}
@@ -77,7 +78,7 @@ pub record IsTight (m : Lin) : Type 0 where
 
 -- t0, the one scratch register that code may name
 abbrev pub spare : Loc
-spare = loc.Machine 5
+spare = loc.Machine t0
 
 -- a colour, or one of the function's slots
 pub data IsHome (m : Lin) : Loc → Type 0 where

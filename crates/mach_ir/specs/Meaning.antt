@@ -9,6 +9,8 @@ use Rattle.bs_words.specs.declared.types.Comp.TheVariants as comp
 use Rattle.bs_words.specs.declared.types.Loc.{Loc}
 use Rattle.bs_words.specs.declared.types.Loc.TheVariants as loc
 use Rattle.bs_words.specs.declared.values.Value.{Value}
+use Rattle.rv_isa.specs.Registers.{number}
+use Rattle.rv_isa.specs.declared.register.Register.TheVariants.{A0, A7, T3}
 use Rattle.cmm_meaning.specs.Setting.{Setting}
 use Rattle.mach_ir.specs.Acts.{Around, Target, On, At, Landing, AtLabel, AtHandler, Act, Goes, Pushes, Jumps, Unwinds, Asks, Replaces, Ends, EndsRaising, Stuck, act, truth_of, branches, switched, drop_tries, takes_raised}
 use Rattle.mach_ir.specs.Acts as acts
@@ -100,9 +102,9 @@ destroyed_by (mach.Op f) = destroyed f
 destroyed_by (mach.Mark (mark.Handler label)) = Everything
 destroyed_by (mach.Mark _) = Nothing
 
--- a0 to a7 are x10 to x17, t3 to t6 are x28 to x31
+-- a0 to a7 and t3 to t6
 abbrev pub is_temporary : ℕ → Bool
-is_temporary n = (nat_le 10 n && nat_le n 17) || nat_le 28 n
+is_temporary n = (nat_le (number A0) n && nat_le n (number A7)) || nat_le (number T3) n
 
 abbrev pub is_destroyed : Destroyed → Loc → Bool
 is_destroyed Everything (loc.Machine n) = true

@@ -2,6 +2,7 @@
 use Rattle.std.specs.Prelude.{◌≡◌, ◌≢◌, ◌⊎◌, ℕ, ◌≤◌, Bool, true, false, List, [], ◌∷◌, ◌++◌, All, Contains, map}
 use Rattle.bs_words.specs.declared.types.Loc.{Loc}
 use Rattle.bs_words.specs.declared.types.Loc.TheVariants as loc
+use Rattle.rv_isa.specs.Registers as registers
 use Rattle.mach_ir.specs.Walks.{Among, Writes, Stands, IsRegister, Joined}
 use Rattle.mach_ir.specs.declared.blocks.NewBlock.{NewBlock}
 use Rattle.mach_ir.specs.declared.op.Access.TheVariants as access
@@ -12,11 +13,9 @@ use Rattle.mach_ir.specs.declared.mach.MachOp.TheVariants as mach
 use Rattle.mach_ir.specs.declared.mach.Instr.{Instr}
 use Rattle.mach_ir.specs.declared.mach.Mach.{Mach}
 
--- The twenty-one colours: a0 to a7, s2 to s9, t3 to t6 and s0.
+-- the numbers of the colours
 abbrev pub colours : List ℕ
-colours =
-    10 ∷ 11 ∷ 12 ∷ 13 ∷ 14 ∷ 15 ∷ 16 ∷ 17 ∷ 18 ∷ 19 ∷ 20 ∷ 21 ∷ 22 ∷ 23 ∷ 24 ∷ 25 ∷
-    28 ∷ 29 ∷ 30 ∷ 31 ∷ 8 ∷ []
+colours = map registers.number registers.colours
 
 -- a register is in a colour, or in the slot that has its origin's number
 pub data IsPlaced (r : Reg) : Type 0 where

@@ -2,6 +2,7 @@
 use Rattle.std.specs.Prelude.{◌≡◌, List, [], ◌∷◌, ◌++◌, map, Contains}
 use Rattle.bs_words.specs.declared.types.Loc.{Loc}
 use Rattle.bs_words.specs.declared.types.Loc.TheVariants as loc
+use Rattle.rv_isa.specs.Registers.{a0, argument_registers, number}
 use Rattle.mach_ir.specs.declared.op.Callee.TheVariants as callee
 use Rattle.mach_ir.specs.declared.op.Calling.TheVariants as calling
 use Rattle.mach_ir.specs.declared.op.Leaving.TheVariants as leaving
@@ -14,15 +15,13 @@ use Rattle.mach_ir.specs.declared.mach.MachOp.TheVariants as mach
 use Rattle.mach_ir.specs.declared.mach.Instr.{Instr}
 use Rattle.mach_ir.specs.declared.mach.Mach.{Mach}
 
--- the places of arguments, in their order: a0 to a7 and s2 to s9
+-- the places of arguments, in their order
 abbrev pub argument_places : List Loc
-argument_places =
-    map loc.Machine
-    (10 ∷ 11 ∷ 12 ∷ 13 ∷ 14 ∷ 15 ∷ 16 ∷ 17 ∷ 18 ∷ 19 ∷ 20 ∷ 21 ∷ 22 ∷ 23 ∷ 24 ∷ 25 ∷ [])
+argument_places = map loc.Machine (map number argument_registers)
 
--- the place of a result and of a raised value: a0
+-- the place of a result and of a raised value
 abbrev pub result_places : List Loc
-result_places = loc.Machine 10 ∷ []
+result_places = loc.Machine a0 ∷ []
 
 -- where a list of operands or results is
 pub data Seats : Type 0 where

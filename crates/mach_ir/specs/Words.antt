@@ -12,6 +12,8 @@ use Rattle.bs_words.specs.declared.types.Comp.{Comp}
 use Rattle.bs_words.specs.declared.types.Comp.TheVariants as comp
 use Rattle.bs_words.specs.declared.types.Loc.{Loc}
 use Rattle.bs_words.specs.declared.types.Loc.TheVariants as loc
+use Rattle.rv_isa.specs.Registers.{number}
+use Rattle.rv_isa.specs.declared.register.Register.TheVariants.{T0, T2, S0, S1, A0, A7, S2, S11, T3, T6}
 use Rattle.mach_ir.specs.Blocks.{bytes_of}
 use Rattle.mach_ir.specs.declared.op.Right.{Right}
 use Rattle.mach_ir.specs.declared.op.Right.TheVariants as right
@@ -47,11 +49,11 @@ is_from_to low high n = nat_le low n && nat_le n high
 -- number after an x (RISC-V ABIs specification, "Integer Register Convention").
 abbrev pub register_name : ℕ → List ℕ
 register_name n =
-    cond (is_from_to 5 7 n) (codes "t" ++ decimal (n - 5))
-    (cond (is_from_to 8 9 n) (codes "s" ++ decimal (n - 8))
-    (cond (is_from_to 10 17 n) (codes "a" ++ decimal (n - 10))
-    (cond (is_from_to 18 27 n) (codes "s" ++ decimal (n - 16))
-    (cond (is_from_to 28 31 n) (codes "t" ++ decimal (n - 25))
+    cond (is_from_to (number T0) (number T2) n) (codes "t" ++ decimal (n - number T0))
+    (cond (is_from_to (number S0) (number S1) n) (codes "s" ++ decimal (n - number S0))
+    (cond (is_from_to (number A0) (number A7) n) (codes "a" ++ decimal (n - number A0))
+    (cond (is_from_to (number S2) (number S11) n) (codes "s" ++ decimal (n - 16))
+    (cond (is_from_to (number T3) (number T6) n) (codes "t" ++ decimal (n - 25))
     (codes "x" ++ decimal n)))))
 
 -- a place; what has none yet prints as given

@@ -2,6 +2,7 @@
 use Rattle.std.specs.Prelude.{◌≡◌, ◌≢◌, ◌+◌, ◌≤◌, ◌==◌, ◌⊎◌, Bool, true, false, cond, List, [], ◌∷◌, ◌++◌, map, length, All, AllPairs, Contains}
 use Rattle.bs_words.specs.declared.types.Loc.{Loc}
 use Rattle.bs_words.specs.declared.types.Loc.TheVariants.{Unset, Machine, Slot}
+use Rattle.rv_isa.specs.Registers.{t0}
 use Rattle.par_moves.specs.declared.moves.Move.{Move}
 
 abbrev pub Moves : Type 0
@@ -9,7 +10,7 @@ Moves = List Move
 
 -- t0
 abbrev pub spare : Loc
-spare = Machine 5
+spare = Machine t0
 
 -- whether two places are one
 abbrev pub same_place : Loc → Loc → Bool

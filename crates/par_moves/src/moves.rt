@@ -3,6 +3,7 @@ ghost use Rattle.std.specs.Prelude.{◌≡◌};
 ghost use Rattle.par_moves.specs.Moves.{same_place, saved, from_spare};
 
 use bs_words::{Comp, Loc};
+use rv_isa::Register;
 
 /// A move of one value of the component `comp`. `Loc::Unset` is a location like any other here.
 #[derive(Clone, Copy, PartialEq, Eq, Debug)]
@@ -13,7 +14,7 @@ pub struct Move {
 }
 
 /// The scratch register t0, where the value that a cycle would lose waits.
-pub const SPARE: Loc = Loc::Machine(5);
+pub const SPARE: Loc = Loc::Machine(Register::T0 as u8);
 
 /// Whether both are one location.
 pub fn is_same(a: Loc, b: Loc) -> bool

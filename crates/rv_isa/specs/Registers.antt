@@ -125,7 +125,3 @@ colours =
 -- what an external call destroys
 abbrev pub destroyed_by_external : List Register
 destroyed_by_external = A0 ∷ A1 ∷ A2 ∷ A3 ∷ A4 ∷ A5 ∷ A6 ∷ A7 ∷ T3 ∷ T4 ∷ T5 ∷ T6 ∷ []
-
--- what a call keeps; it destroys every other register
-abbrev pub kept_by_call : List Register
-kept_by_call = Sp ∷ S1 ∷ S10 ∷ S11 ∷ []

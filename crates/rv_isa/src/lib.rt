@@ -18,4 +18,4 @@ pub use encoding::encode;
 pub use instr::{
     AluImmOp, AluOp, AluWordOp, Condition, Instr, LoadWidth, ShiftOp, ShiftWordOp, StoreWidth,
 };
-pub use register::Register;
+pub use register::{ARGUMENT_REGISTERS, COLOURS, Register};

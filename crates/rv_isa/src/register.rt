@@ -53,69 +53,50 @@ pub enum Register {
     T6,
 }
 
-/// The registers of the arguments of a call, in order.
-pub const ARGUMENT_REGISTERS: [Register; 16] = [
-    Register::A0,
-    Register::A1,
-    Register::A2,
-    Register::A3,
-    Register::A4,
-    Register::A5,
-    Register::A6,
-    Register::A7,
-    Register::S2,
-    Register::S3,
-    Register::S4,
-    Register::S5,
-    Register::S6,
-    Register::S7,
-    Register::S8,
-    Register::S9,
+/// The registers of the arguments of a call, in order, by number.
+pub const ARGUMENT_REGISTERS: [u8; 16] = [
+    Register::A0 as u8,
+    Register::A1 as u8,
+    Register::A2 as u8,
+    Register::A3 as u8,
+    Register::A4 as u8,
+    Register::A5 as u8,
+    Register::A6 as u8,
+    Register::A7 as u8,
+    Register::S2 as u8,
+    Register::S3 as u8,
+    Register::S4 as u8,
+    Register::S5 as u8,
+    Register::S6 as u8,
+    Register::S7 as u8,
+    Register::S8 as u8,
+    Register::S9 as u8,
 ];
 
-/// The twenty-one registers that hold the values of a function.
-pub const COLOURS: [Register; 21] = [
-    Register::A0,
-    Register::A1,
-    Register::A2,
-    Register::A3,
-    Register::A4,
-    Register::A5,
-    Register::A6,
-    Register::A7,
-    Register::S2,
-    Register::S3,
-    Register::S4,
-    Register::S5,
-    Register::S6,
-    Register::S7,
-    Register::S8,
-    Register::S9,
-    Register::T3,
-    Register::T4,
-    Register::T5,
-    Register::T6,
-    Register::S0,
+/// The twenty-one registers that hold the values of a function, by number, those first that are taken first.
+pub const COLOURS: [u8; 21] = [
+    Register::A0 as u8,
+    Register::A1 as u8,
+    Register::A2 as u8,
+    Register::A3 as u8,
+    Register::A4 as u8,
+    Register::A5 as u8,
+    Register::A6 as u8,
+    Register::A7 as u8,
+    Register::S2 as u8,
+    Register::S3 as u8,
+    Register::S4 as u8,
+    Register::S5 as u8,
+    Register::S6 as u8,
+    Register::S7 as u8,
+    Register::S8 as u8,
+    Register::S9 as u8,
+    Register::T3 as u8,
+    Register::T4 as u8,
+    Register::T5 as u8,
+    Register::T6 as u8,
+    Register::S0 as u8,
 ];
-
-/// What an external call destroys.
-pub const DESTROYED_BY_EXTERNAL: [Register; 12] = [
-    Register::A0,
-    Register::A1,
-    Register::A2,
-    Register::A3,
-    Register::A4,
-    Register::A5,
-    Register::A6,
-    Register::A7,
-    Register::T3,
-    Register::T4,
-    Register::T5,
-    Register::T6,
-];
-
-/// What a call keeps. It destroys every other register.
-pub const KEPT_BY_CALL: [Register; 4] = [Register::Sp, Register::S1, Register::S10, Register::S11];
 
 impl Register {
     ghost use Rattle.std.specs.Prelude.{◌≡◌, ◌<◌};

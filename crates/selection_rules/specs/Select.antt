@@ -746,7 +746,7 @@ colour_regs n (colour ∷ rest) =
 
 -- the first number after those
 abbrev pub first : ℕ
-first = 21
+first = length colours
 
 abbrev pub selected : FunctionTree → Mach
 selected f =

@@ -16,39 +16,15 @@ use crate::scope::Scope;
 use bs_words::{Comp, Loc, Ret, Ty};
 use cmm_tree::Expr;
 use mach_ir::{Reg, Seq};
+use rv_isa::{ARGUMENT_REGISTERS, COLOURS};
 use std::alloc::{AllocError, Global};
-
-/// The places of arguments, in their order: a0 to a7 and s2 to s9.
-const ARGUMENT_PLACES: [Loc; 16] = [
-    Loc::Machine(10),
-    Loc::Machine(11),
-    Loc::Machine(12),
-    Loc::Machine(13),
-    Loc::Machine(14),
-    Loc::Machine(15),
-    Loc::Machine(16),
-    Loc::Machine(17),
-    Loc::Machine(18),
-    Loc::Machine(19),
-    Loc::Machine(20),
-    Loc::Machine(21),
-    Loc::Machine(22),
-    Loc::Machine(23),
-    Loc::Machine(24),
-    Loc::Machine(25),
-];
-
-/// The colours: a0 to a7, s2 to s9, t3 to t6 and s0.
-const COLOURS: [u8; 21] = [
-    10, 11, 12, 13, 14, 15, 16, 17, 18, 19, 20, 21, 22, 23, 24, 25, 28, 29, 30, 31, 8,
-];
 
 /// The place of the argument at a position. Past the last it is unset.
 fn argument_place(position: u32) -> Loc
     ensures { result ≡ slice_index_or argument_places position loc.Unset }
 {
-    match ARGUMENT_PLACES.get(position as usize) {
-        Some(place) => *place,
+    match ARGUMENT_REGISTERS.get(position as usize) {
+        Some(register) => Loc::Machine(*register),
         None => Loc::Unset,
     }
 }
