@@ -3,6 +3,7 @@ pub mod Places
 pub mod General
 pub mod Level
 pub mod Walking
+pub mod LiveByGraph
 pub mod Turns
 pub mod Leads
 pub mod Grows
