@@ -15,9 +15,8 @@ use Rattle.mach_ir.specs.declared.mach.Mach.{Mach}
 use Rattle.mach_laws.specs.Expand.{expand}
 use Rattle.mach_laws.specs.Graph.{place_of, numbers, next_places}
 use Rattle.mach_laws.proofs.Walking.{place_is, among_numbers, in_numbers, place_within}
-use Rattle.mach_laws.proofs.Places.{ending_short, ending_of, args_in}
+use Rattle.mach_laws.proofs.Places.{ending_short, ending_of, args_in, contains_of}
 use Rattle.mach_laws.proofs.Among.{left_among, among_of}
-use Rattle.split_rules.proofs.Formed.{contains_of}
 use Rattle.split_rules.specs.Writes.{Comes, from_entry, from_write, past, past_raise}
 use Rattle.spill_rules.specs.Chosen.{IsReloaded, ReloadsAt, StoresAt, IsChosen, IsSpilled}
 use Rattle.spill_rules.specs.Spilled.{Plan, reload, spill, reloads_of, spills_of, operands_of, spilled_instr}
