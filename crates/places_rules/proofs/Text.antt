@@ -5,14 +5,14 @@ use Rattle.std.specs.List.{All, AllPairs}
 use Rattle.std.proofs.lemmas.List.Elements.{All-map}
 use Rattle.mach_ir.specs.Forms.{HasForm, results_of}
 use Rattle.mach_ir.specs.Formed.{comps, MarkHasForm, IsFormed, formed_op, formed_mark, AreDistinct, labels_in, WellFormed}
-use Rattle.mach_ir.specs.Meaning.{after_label, from_handler, tries_at}
+use Rattle.mach_ir.specs.Meaning.{after_label, tries_at}
 use Rattle.mach_ir.specs.Walks.{InCode, in_args, in_results, further, IsRegister, is_param, is_colour, is_in_code}
 use Rattle.mach_ir.specs.declared.reg.Reg.{Reg}
 use Rattle.mach_ir.specs.declared.mach.MachOp.{MachOp}
 use Rattle.mach_ir.specs.declared.mach.Instr.{Instr}
 use Rattle.mach_ir.specs.declared.mach.Mach.{Mach}
 use Rattle.mach_laws.proofs.InPlace as text
-use Rattle.mach_laws.proofs.Places.{label_expand, handler_expand, tries_expand}
+use Rattle.mach_laws.proofs.Places.{label_expand, tries_expand}
 use Rattle.bs_words.proofs.Lists.{mapped}
 use Rattle.places_rules.specs.Places.{Placing, placed, all_placed, placed_instr, placed_code, with_places}
 use Rattle.places_rules.proofs.Lists.{was, pairs_mapped}
@@ -26,12 +26,6 @@ module _ (place : Placing) where
   same_label l code =
       ap (after_label l) (as_expanded place code) ∙ label_expand (alone place) (keeps_marks place) l code
       ∙ sym (as_expanded place (after_label l code))
-
-  pub same_handler : (l : ℕ) (code : List Instr) →
-      from_handler l (placed_code place code) ≡ placed_code place (from_handler l code)
-  same_handler l code =
-      ap (from_handler l) (as_expanded place code) ∙ handler_expand (alone place) (keeps_marks place) l code
-      ∙ sym (as_expanded place (from_handler l code))
 
   pub same_tries : (code : List Instr) → tries_at (placed_code place code) ≡ tries_at code
   same_tries code = ap tries_at (as_expanded place code) ∙ tries_expand (alone place) (keeps_marks place) code
