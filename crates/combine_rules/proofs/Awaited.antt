@@ -25,10 +25,9 @@ use Rattle.mach_ir.specs.declared.mach.MachOp.TheVariants as mach
 use Rattle.mach_ir.specs.declared.mach.Instr.{Instr}
 use Rattle.mach_ir.specs.declared.mach.Mach.{Mach}
 use Rattle.mach_laws.specs.Expand.{Ending}
-use Rattle.mach_laws.proofs.Places.{ending_next, stands_of, straight_cons}
+use Rattle.mach_laws.proofs.Places.{ending_next, stands_of, straight_cons, contains_of}
 use Rattle.mach_laws.proofs.Among.{left_among, split_among, number_among}
 use Rattle.mach_laws.proofs.Instructions.{same_op, no_mark, no_comps, length_comps}
-use Rattle.split_rules.proofs.Formed.{contains_of}
 
 -- ---- allocations that are formed
 

@@ -38,10 +38,9 @@ use Rattle.mach_ir.specs.declared.mach.MachOp.TheVariants as mach
 use Rattle.mach_ir.specs.declared.mach.Instr.{Instr}
 use Rattle.mach_ir.specs.declared.mach.Mach.{Mach}
 use Rattle.mach_laws.specs.Expand.{Ending}
-use Rattle.mach_laws.proofs.Places.{ending_next, tries_expand, stands_of, ending_of}
+use Rattle.mach_laws.proofs.Places.{ending_next, tries_expand, stands_of, ending_of, contains_of, stands_in}
 use Rattle.mach_laws.proofs.Among.{left_among}
 use Rattle.mach_laws.proofs.Instructions.{same_op, no_mark, length_comps}
-use Rattle.split_rules.proofs.Formed.{contains_of, stands_in}
 
 -- ---- labels, places, tries and marks
 

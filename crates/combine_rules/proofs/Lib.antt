@@ -14,4 +14,3 @@ pub mod Trailing
 pub mod Whole
 pub mod Formed
 pub mod Placed
-pub mod Known

@@ -26,8 +26,7 @@ use Rattle.mach_ir.specs.declared.mach.Instr.{Instr}
 use Rattle.mach_ir.specs.declared.mach.Mach.{Mach}
 use Rattle.mach_laws.specs.Expand.{expand, Ending, all}
 use Rattle.mach_laws.proofs.Level as level
-use Rattle.mach_laws.proofs.Places.{ending_next, ending_label, ending_from_handler}
-use Rattle.split_rules.proofs.Formed.{contains_of, stands_in}
+use Rattle.mach_laws.proofs.Places.{ending_next, ending_label, ending_from_handler, contains_of, stands_in}
 
 nothing_there : (i : Instr) (xs : List Instr) → i ∷ xs ≡ [] → ⊥
 nothing_there i xs e = cc

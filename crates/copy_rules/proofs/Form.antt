@@ -16,10 +16,10 @@ use Rattle.mach_ir.specs.declared.mach.MachOp.TheVariants as mach
 use Rattle.mach_ir.specs.declared.mach.Instr.{Instr}
 use Rattle.mach_ir.specs.declared.mach.Mach.{Mach}
 use Rattle.mach_laws.specs.Expand.{expand, KeepsMarks}
-use Rattle.mach_laws.proofs.Places.{stands_behind, args_in, results_in}
-use Rattle.repeat_rules.proofs.Known.{contains_of}
-use Rattle.repeat_rules.proofs.OneForOne as one
-use Rattle.repeat_rules.proofs.OneForOne.{in_append, in_code_stands, same_op, StandsFor, both, each_in, all_in, before_of, same_length, same_labels}
+use Rattle.mach_laws.proofs.Places.{stands_behind, args_in, results_in, contains_of}
+use Rattle.mach_laws.proofs.InPlace as text
+use Rattle.mach_laws.proofs.InPlace.{AreAlike, same_op, both, each_in, all_in, same_labels}
+use Rattle.repeat_rules.proofs.OneForOne.{in_append, in_code_stands, StandsFor, before_of, same_length}
 
 -- ---- lists
 
@@ -58,8 +58,11 @@ module _ (plan : ℕ → Reg → Reg) where
   pub alike : (k : ℕ) (i : Instr) → StandsFor i (again plan k i)
   alike k i = record { op = same_op refl; results = refl }
 
+  pub same_ops : (k : ℕ) (i : Instr) → AreAlike i.op (again plan k i).op
+  same_ops k i = (alike k i).op
+
   pub keeps_marks : KeepsMarks (in_place plan)
-  keeps_marks = one.keeps_marks (again plan) alike
+  keeps_marks = text.keeps_marks (again plan) same_ops
 
   same_count : (code : List Instr) → operand_count (expand f code) ≡ operand_count code
   same_count [] = refl
@@ -180,11 +183,11 @@ module _ (m : Mach) (plan : ℕ → Reg → Reg)
               (λ i next s. All-contains (λ (i : Instr). AreDistinct i.results) m.code i formed.distinct (contains_of s));
           returns = each_in (again plan) m.code (λ (j : Instr). j.op ≡ mach.Op (op.Leaving leaving.Return) → comps j.args ≡ results_of m.result)
               (λ i next s e. same_comps i next s ∙ formed.returns i (contains_of s) e);
-          labels_once = subst (λ ls. AllPairs (λ k l. k ≢ l) ls) (sym (same_labels (again plan) (alike plan) m.code)) formed.labels_once;
-          labels_below = subst (λ ls. All (λ l. l < m.labels) ls) (sym (same_labels (again plan) (alike plan) m.code)) formed.labels_below;
-          labels = one.labels_stand (again plan) (alike plan) m formed;
-          nested = one.nested (again plan) (alike plan) m formed;
-          cases = one.cases (again plan) (alike plan) m formed;
+          labels_once = subst (λ ls. AllPairs (λ k l. k ≢ l) ls) (sym (same_labels (again plan) (same_ops plan) m.code)) formed.labels_once;
+          labels_below = subst (λ ls. All (λ l. l < m.labels) ls) (sym (same_labels (again plan) (same_ops plan) m.code)) formed.labels_below;
+          labels = text.labels_stand (again plan) (same_ops plan) m q refl formed.labels;
+          nested = text.nested (again plan) (same_ops plan) m q refl formed.nested;
+          cases = text.cases (again plan) (same_ops plan) m q refl formed.cases;
         }
 
     still_seated : Seated m → Seated q

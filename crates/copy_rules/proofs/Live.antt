@@ -16,12 +16,12 @@ use Rattle.mach_ir.specs.declared.mach.MachOp.{MachOp}
 use Rattle.mach_ir.specs.declared.mach.Instr.{Instr}
 use Rattle.mach_ir.specs.declared.mach.Mach.{Mach}
 use Rattle.mach_laws.specs.Expand.{Ending, all, expand}
-use Rattle.mach_laws.proofs.Places.{stands_of, ending_of, args_in}
+use Rattle.mach_laws.proofs.Places.{stands_of, ending_of, args_in, contains_of, stands_in}
 use Rattle.mach_laws.proofs.Among.{number_among, among_of}
-use Rattle.repeat_rules.proofs.Known.{contains_of, stands_in}
 use Rattle.repeat_rules.specs.Repeated.{allocates}
 use Rattle.repeat_rules.proofs.OneForOne as one
-use Rattle.repeat_rules.proofs.OneForOne.{in_append, in_front, both}
+use Rattle.mach_laws.proofs.InPlace.{both}
+use Rattle.repeat_rules.proofs.OneForOne.{in_append, in_front}
 use Rattle.repeat_rules.proofs.Standing.{straight_frame}
 use Rattle.copy_rules.proofs.Form.{alike, in_map, was_register}
 use Rattle.copy_rules.proofs.Standing.{Standing, Earlier, just_now, earlier, earlier_of, not_at_label, not_at_handler, ReadAt, from_source, as_it_is, read_at}

@@ -12,10 +12,10 @@ use Rattle.mach_ir.specs.declared.reg.Reg.{Reg}
 use Rattle.mach_ir.specs.declared.mach.MachOp.{MachOp}
 use Rattle.mach_ir.specs.declared.mach.Instr.{Instr}
 use Rattle.mach_ir.specs.declared.mach.Mach.{Mach}
-use Rattle.repeat_rules.proofs.Known.{contains_of, stands_in}
 use Rattle.repeat_rules.specs.Kept.{OwnOrigins}
 use Rattle.repeat_rules.proofs.OneForOne as one
-use Rattle.repeat_rules.proofs.OneForOne.{both}
+use Rattle.mach_laws.proofs.InPlace.{both}
+use Rattle.mach_laws.proofs.Places.{contains_of, stands_in}
 use Rattle.copy_rules.proofs.Form.{alike, was_register, IsFormKept, form_kept}
 use Rattle.copy_rules.proofs.Kept.{does_propagated}
 use Rattle.copy_rules.proofs.Live.{IsOpen, meets_back, no_addr_back}

@@ -5,28 +5,27 @@ use Rattle.bs_words.specs.Memory.{Memory}
 use Rattle.bs_words.specs.declared.values.Value.{Value}
 use Rattle.bs_words.proofs.Lists.{head_same, tail_same}
 use Rattle.cmm_meaning.specs.State.{Doing}
-use Rattle.mach_ir.specs.Acts.{Around, Target, On, At, Landing, AtLabel, AtHandler, Act, Goes, Pushes, Jumps, Unwinds, Asks, Replaces, Ends, EndsRaising, Stuck}
+use Rattle.mach_ir.specs.Acts.{Around, Target, On, At, Landing, AtLabel, AtHandler, Replaces}
 use Rattle.mach_ir.specs.Formed.{IsFormed, WellFormed}
 use Rattle.mach_ir.specs.Runs.{Place, entered}
-use Rattle.mach_ir.specs.Meaning.{State, File, put_all, clear, killed, written, values, past_frame, passes_frame, mach_act, after_label, at_handler, code_at, tries_at, landing_code, start, tries_past}
-use Rattle.mach_ir.specs.Walks.{Among, OneOf, this, targets, may_raise, goes, raises, Live, LiveAcross}
+use Rattle.mach_ir.specs.Meaning.{State, File, put_all, clear, killed, written, values, past_frame, passes_frame, after_label, at_handler, code_at, tries_at, landing_code, start, tries_past}
+use Rattle.mach_ir.specs.Walks.{Among, OneOf, targets, may_raise, goes, raises, Live, LiveAcross}
 use Rattle.mach_ir.specs.Keeps.{ValsWritten, wrote_unless, Begins, Does}
-use Rattle.mach_ir.specs.declared.mach.MachOp.{MachOp}
 use Rattle.mach_ir.specs.declared.reg.Reg.{Reg}
 use Rattle.mach_ir.specs.declared.mach.Instr.{Instr}
 use Rattle.mach_ir.specs.declared.mach.Mach.{Mach}
 use Rattle.mach_laws.specs.Expand.{Ending, expand}
 use Rattle.mach_laws.proofs.General as general
 use Rattle.mach_laws.proofs.General.{at}
-use Rattle.mach_laws.proofs.Leads.{IsTry, is_try, MayLand, lands_at_label, lands_at_handler, Within, goes_in, pushes_in, jumps_in, unwinds_in, asks_in, within}
+use Rattle.mach_laws.proofs.Leads.{IsTry, MayLand, lands_at_label, lands_at_handler, try_on}
 use Rattle.mach_laws.proofs.Level as level
-use Rattle.mach_laws.proofs.Places.{tries_expand, ending_next, ending_label, ending_land, stands_of}
+use Rattle.mach_laws.proofs.Places.{tries_expand, ending_next, ending_label, ending_land, stands_of, contains_of, land_expand}
 use Rattle.mach_laws.proofs.Simulate.{Agrees}
 use Rattle.mach_laws.proofs.Among.{split_among}
-use Rattle.split_rules.proofs.Known.{values_same, past_same, cleared, not_cleared, among_or_not, PutsBoth, put_both, IsRaised, Told, told_jump, told_unwind, told_ask, IsSilent, told, label_silent, try_silent}
-use Rattle.split_rules.proofs.Formed.{contains_of}
+use Rattle.mach_laws.proofs.Raised.{IsRaised, IsSilent, label_silent, try_silent, told}
+use Rattle.split_rules.proofs.Known.{values_same, past_same, cleared, not_cleared, among_or_not, PutsBoth, put_both}
 use Rattle.dead_rules.specs.Dropped.{may_go, IsUsed, on, aside, without, dropped, AreDead}
-use Rattle.dead_rules.proofs.Live.{used_live, label_is, handler_is, none_killed, lift, live_back, across_back, was_register, used_by}
+use Rattle.dead_rules.proofs.Live.{used_live, label_is, none_killed, lift, live_back, across_back, was_register, used_by}
 use Rattle.dead_rules.proofs.Text.{pure_of, pure_no_frame, goes_on, Fate, falls, remains, fate, keeps_marks}
 
 module _ (m : Mach) (drops : ℕ → Bool) (dead : AreDead m drops) (formed : WellFormed m) where
@@ -89,15 +88,6 @@ module _ (m : Mach) (drops : ℕ → Bool) (dead : AreDead m drops) (formed : We
 
   -- ---- where it goes
 
-  handlers_same : (tries : List ℕ) → at_handler q.code tries ≡ expand f (at_handler m.code tries)
-  handlers_same [] = refl
-  handlers_same (l ∷ tries) = handler_is m drops dead l
-
-  lands_same : (this_code that_code : List Instr) (to : Landing) → tries_at that_code ≡ tries_at this_code →
-      landing_code q.code that_code to ≡ expand f (landing_code m.code this_code to)
-  lands_same this_code that_code (AtLabel l) e = label_is m drops dead l
-  lands_same this_code that_code AtHandler e = ap (at_handler q.code) e ∙ handlers_same (tries_at this_code)
-
   tries_same : (i : Instr) (next : List Instr) → tries_at (i ∷ expand f next) ≡ tries_at (i ∷ next)
   tries_same i next = ap (tries_past i.op) (tries_expand f (keeps_marks drops) next)
 
@@ -105,9 +95,6 @@ module _ (m : Mach) (drops : ℕ → Bool) (dead : AreDead m drops) (formed : We
       IsUsed m n (at_handler m.code tries) → IsUsed m n (i ∷ next)
   caught r [] e u = elim u [ ]
   caught r (l ∷ tries) e u = aside (raises r e) u
-
-  try_on : (g : MachOp) → IsTry g → OneOf On (targets g)
-  try_on g is_try = this
 
   -- ---- each instruction
 
@@ -178,7 +165,7 @@ module _ (m : Mach) (drops : ℕ → Bool) (dead : AreDead m drops) (formed : We
     lands to may y s w = (
       (refl, landed to may),
       subst (λ code. Agrees q (written m i) (at code b' y))
-          (sym (lands_same (i ∷ next) (i ∷ expand f next) to (tries_same i next)))
+          (sym (land_expand f (keeps_marks drops) m.code (i ∷ next) (i ∷ expand f next) to (tries_same i next)))
           (agrees_by (landing_code m.code (i ∷ next) to) (ending_land to (i ∷ next) m.code) a' b' y (written m i)
           (landed to may) (silent_wrote i y.raised a' b' s) w),
     )
@@ -186,48 +173,43 @@ module _ (m : Mach) (drops : ℕ → Bool) (dead : AreDead m drops) (formed : We
     pushed : IsTry i.op → Same next a' b'
     pushed t n u = still n (on (try_silent m (form_of ending) t n) (goes On (try_on i.op t)) u)
 
-    acts_same : (y : Around) (act : Act) → Within i.op act → Told (IsSilent m i) act →
-        general.Acts c m q f (keeps_marks drops) refl Suit Round i i next [] y y a' b' act act
-    acts_same y (Goes vs to after) (goes_in o) t =
-        general.both_go
-        (λ d e.
-        let p = put_both c.setting.end i.results vs (clear (killed m i) a') (clear (killed m i) b') d e in
-        (p.file, p.puts, past_to vs d p after to o))
-    acts_same y (Jumps to after) (jumps_in l) (told_jump s) = general.both_jump (tries_same i next) (lands to l after s)
-    acts_same y (Unwinds after) (unwinds_in r) (told_unwind s) =
-        general.both_unwind (tries_same i next) (lands AtHandler (lands_at_handler r) after s)
-    acts_same y (Pushes after) (pushes_in t) u =
-        general.both_push refl refl
-        (λ w. (
-          (refl, pushed t),
-          agrees_by next (ending_next ending) a' b' after (written m i) (pushed t)
-              (silent_wrote i after.raised a' b' (inl (try_silent m (form_of ending) t))) w,
-        ))
-    acts_same y (Asks whom vs go) (asks_in w) (told_ask t) =
-        general.both_ask (record { memory = refl; tries = refl }) (λ d. acts_same y (go d) (w d) (t d))
-    acts_same y (Replaces whom vs kept) w t = general.both_replace (record { memory = refl; tries = refl })
-    acts_same y (Ends d) w t = general.both_end
-    acts_same y (EndsRaising d) w t = general.both_raise
-    acts_same y Stuck w t = general.stuck_first
+    same_operation : level.SameOperation c m q f (keeps_marks drops) refl Suit Same (IsSilent m i) i i next [] a' b'
+    same_operation =
+        record {
+          goes = λ vs d e.
+              let p = put_both c.setting.end i.results vs (clear (killed m i) a') (clear (killed m i) b') d e in
+              (p.file, p.puts, λ y to o. past_to vs d p y to o);
+          lands = λ y to l s. lands to l y s;
+          tries = tries_same i next;
+          pushes = λ t. (
+            refl,
+            λ y w. (
+              (refl, pushed t),
+              agrees_by next (ending_next ending) a' b' y (written m i) (pushed t)
+                  (silent_wrote i y.raised a' b' (inl (try_silent m (form_of ending) t))) w,
+            ),
+          );
+        }
 
     -- an instruction that is left
     left_there : (y : Around) (vs : List Value) → values a i.args ≡ Some vs → f (length next) i ≡ i ∷ [] →
         (may_go i.op ≡ true → drops (length next) ≡ false) →
         general.Replaces c m q f (keeps_marks drops) refl Suit Round i next y y a b vs
     left_there y vs e shape kept =
-        record {
+        level.replaces c m q f (keeps_marks drops) refl Suit Same y
+        (record {
           pre = [];
           main = i;
           post = [];
           shape = shape;
+          same_op = refl;
           between = b;
           passing = general.passed;
           vals = λ known. vals_before i next a b y ending same known;
-          read = vs;
           reads = sym (values_same a b i.args (λ n z. same n (used_by m drops dead ending kept z))) ∙ e;
-          alike = acts_same y (mach_act c.setting i.op vs y) (within c.setting i.op vs y)
-              (told m (form_of ending) c.setting vs y);
-        }
+          told = told m (form_of ending) c.setting vs y;
+          same = same_operation;
+        })
 
     -- one that goes
     left_out : (y : Around) (vs : List Value) → f (length next) i ≡ [] → may_go i.op ≡ true → drops (length next) ≡ true →

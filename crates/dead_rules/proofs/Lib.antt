@@ -2,4 +2,3 @@ pub mod Text
 pub mod Live
 pub mod Kept
 pub mod Whole
-pub mod Known

@@ -19,8 +19,7 @@ use Rattle.mach_ir.specs.declared.reg.Reg.{Reg}
 use Rattle.mach_ir.specs.declared.mach.Instr.{Instr}
 use Rattle.mach_ir.specs.declared.mach.Mach.{Mach}
 use Rattle.mach_laws.specs.Expand.{expand}
-use Rattle.mach_laws.proofs.Places.{tries_expand, ending_next, ending_of, stands_behind, stands_within, head_of, tail_of, straight_cons, straight_none}
-use Rattle.split_rules.proofs.Formed.{contains_of, stands_in}
+use Rattle.mach_laws.proofs.Places.{tries_expand, ending_next, ending_of, stands_behind, stands_within, head_of, tail_of, straight_cons, straight_none, contains_of, stands_in}
 use Rattle.bs_words.proofs.Lists.{none_in, first_in, later_in, in_cons, head_same, tail_same, none_there}
 use Rattle.dead_rules.specs.Dropped.{may_go, without, dropped, AreDead, IsDropped, IsLive, IsKept}
 use Rattle.dead_rules.proofs.Kept.{does_dropped}

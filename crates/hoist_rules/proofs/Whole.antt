@@ -28,9 +28,8 @@ use Rattle.mach_ir.specs.declared.reg.Reg.{Reg}
 use Rattle.mach_ir.specs.declared.mach.Instr.{Instr}
 use Rattle.mach_ir.specs.declared.mach.Mach.{Mach}
 use Rattle.mach_laws.specs.Expand.{expand, Ending, all}
-use Rattle.mach_laws.proofs.Places.{tries_expand, ending_next, stands_of, stands_behind, stands_within, head_of, tail_of, straight_cons, straight_none}
+use Rattle.mach_laws.proofs.Places.{tries_expand, ending_next, stands_of, stands_behind, stands_within, head_of, tail_of, straight_cons, straight_none, contains_of, stands_in}
 use Rattle.mach_laws.proofs.Instructions.{no_op}
-use Rattle.dead_rules.proofs.Known.{contains_of, stands_in}
 use Rattle.dead_rules.specs.Dropped.{may_go, without}
 use Rattle.dead_rules.proofs.Text.{pure_of, pure_straight, label_stays, handler_stays, mark_stays, Fate, falls, remains, fate, keeps_marks, same_labels}
 use Rattle.hoist_rules.specs.Hoisted.{MayMove, moved, hoisted, MayAllMove}

@@ -1,16 +1,15 @@
 -- Which registers of a function meet: what comes from its parameters and from each instruction.
 use Rattle.std.proofs.Common.{◌≡◌, ◌↔◌, ℕ, suc, ◌+◌, ◌<◌, ◌≤◌, Bool, true, false, cond, ◌&&◌, nat_eq, ◌⊎◌, inl, inr}
-use Rattle.std.proofs.Common.{⊎_elim, List, [], ◌∷◌, None, length, map, drop, get_or, refl, sym, ap, ◌∙◌, subst, arith}
+use Rattle.std.proofs.Common.{⊎_elim, List, [], ◌∷◌, None, length, drop, get_or, refl, sym, ap, ◌∙◌, subst, arith}
 use Rattle.std.specs.List.{All, Contains}
 use Rattle.std.specs.Prelude.{Option}
 use Rattle.std.proofs.lemmas.Bool.{cases_lt, eq-eqb, eqb-true}
 use Rattle.std.proofs.lemmas.List.Elements.{Contains-get_or}
 use Rattle.bs_bits.specs.Set.{has}
 use Rattle.dataflow.specs.Rows.{row}
-use Rattle.mach_ir.specs.Acts.{Target}
 use Rattle.mach_ir.specs.Graph.{IsLiveMap}
 use Rattle.mach_ir.specs.Meaning.{code_at, killed, written}
-use Rattle.mach_ir.specs.Walks.{Among, first, later, OneOf, this, other, targets, goes, raises, Writes, Live}
+use Rattle.mach_ir.specs.Walks.{Among, targets, goes, raises, Writes, Live}
 use Rattle.mach_ir.specs.Walks.{read, on, aside, LiveAfter, after_step, InCode, in_args, in_results, further}
 use Rattle.mach_ir.specs.Walks.{IsRegister, is_colour, is_in_code, Stands, here, below, IsMove, is_move}
 use Rattle.mach_ir.specs.Walks.{Meets, at_write, at_params, Joined}
@@ -27,11 +26,11 @@ use Rattle.mach_ir.specs.declared.mach.Mach.{Mach}
 use Rattle.mach_laws.specs.Expand.{Ending, all, more}
 use Rattle.mach_laws.specs.Graph.{place_of, numbers, next_places}
 use Rattle.mach_laws.proofs.Places.{ending_from_handler, stands_of}
-use Rattle.mach_laws.proofs.Walking.{place_is, ending_at, ending_drop}
+use Rattle.mach_laws.proofs.Among.{among_of, number_among}
+use Rattle.mach_laws.proofs.Walking.{among_numbers, in_numbers, place_is, ending_at, ending_drop, ending_place, target_of, in_targets}
 use Rattle.liveness.proofs.Bounds.{split_in, killed_is_colour}
-use Rattle.bs_words.proofs.Lists.{none_in, first_in, later_in, in_cons}
+use Rattle.bs_words.proofs.Lists.{drop_none}
 use Rattle.interfere.specs.Moves.{move_between, move_of, is_from_to}
-use Rattle.liveness.proofs.Steps.{among_numbers, in_numbers}
 use Rattle.interfere.specs.Moves as moves
 use Rattle.interfere.specs.Pairs.{Table, Has, EitherWay, one_way, other_way, Adds, ForOne, MeetsSet, MeetsPlaces}
 use Rattle.interfere.specs.declared.moves.Move.{Move}
@@ -100,18 +99,6 @@ no_move_told i k n none = by (is_from_to (move_of i) k n) refl
 told_no_move : (i : Instr) (k n : ℕ) → is_from_to (move_of i) k n ≡ false → IsMove k n i → ⊥
 told_no_move i k n e move = let h = move_told move in absurd (cc)
 
--- ---- members of lists
-
--- a register of this number that is among these
-pub register_among : {n : ℕ} {rs : List Reg} → Among n rs → (r : Reg) × Contains rs r × (r.number ≡ n)
-register_among (first {r = r} {rs = rs} e) = (r, first_in r rs, e)
-register_among (later {r = r} {rs = rs} a) = let q = register_among a in (q.0, later_in r q.0 rs q.1, q.2)
-
-pub among_register : (rs : List Reg) (r : Reg) → Contains rs r → Among r.number rs
-among_register [] r c = absurd (none_in r c)
-among_register (q ∷ rs) r c =
-    ⊎_elim (λ e. first (ap (λ (r : Reg). r.number) e)) (λ d. later (among_register rs r d)) (in_cons q r rs c)
-
 -- ---- places
 
 -- the place of an instruction that is in a code
@@ -124,27 +111,11 @@ in_ending all c = c
 in_ending (more e) c = further (in_ending e c)
 
 module _ (m : Mach) where
-  ending_of : (p : ℕ) {rest : List Instr} → drop p m.code ≡ rest → Ending rest m.code
-  ending_of p e = subst (λ rest. Ending rest m.code) e (ending_drop p m.code)
-
-  target_of : (next : List Instr) (ts : List Target) (q : ℕ) → Contains (map (λ t. place_of m (code_at m.code next t)) ts) q →
-      (t : Target) × OneOf t ts × (place_of m (code_at m.code next t) ≡ q)
-  target_of next [] q c = absurd (none_in q c)
-  target_of next (t ∷ ts) q c =
-      ⊎_elim (λ e. (t, this, e)) (λ d. let g = target_of next ts q d in (g.0, other g.1, g.2))
-      (in_cons (place_of m (code_at m.code next t)) q (map (λ t. place_of m (code_at m.code next t)) ts) c)
-
-  in_targets : (next : List Instr) {t : Target} {ts : List Target} → OneOf t ts →
-      Contains (map (λ t. place_of m (code_at m.code next t)) ts) (place_of m (code_at m.code next t))
-  in_targets next {t} (this {ts = ts}) = first_in (place_of m (code_at m.code next t)) _
-  in_targets next {t} (other {u = u} {ts = ts} o) =
-      later_in (place_of m (code_at m.code next u)) (place_of m (code_at m.code next t)) _ (in_targets next o)
-
   -- ---- numbers of registers
 
   module _ (bound : ℕ) (above : (r : Reg) → IsRegister m r → r.number < bound) where
     among_below : {n : ℕ} {rs : List Reg} → ((r : Reg) → Contains rs r → IsRegister m r) → Among n rs → n < bound
-    among_below are a = let r = register_among a in subst (λ n. n < bound) r.2 (above r.0 (are r.0 r.1))
+    among_below {rs = rs} are a = let r = number_among rs a in subst (λ n. n < bound) r.2 (above r.0 (are r.0 r.1))
 
     live_register : {n : ℕ} {rest : List Instr} → Live m n rest → Ending rest m.code → n < bound
     live_register (read a) e = among_below (λ r c. is_in_code (in_ending e (in_args c))) a
@@ -163,7 +134,7 @@ module _ (m : Mach) where
         (among_numbers n (written m i) (subst (λ ns. Contains ns n) same (Contains-get_or writes j d lt)))
       where
         by : (r : Reg) → Contains i.results r ⊎ Contains (killed m i) r → IsRegister m r
-        by r (inl c) = is_in_code (in_ending (ending_of p e) (in_results c))
+        by r (inl c) = is_in_code (in_ending (ending_place m p e) (in_results c))
         by r (inr c) = is_colour (killed_is_colour m i r c)
 
   -- ---- one instruction
@@ -189,13 +160,13 @@ module _ (m : Mach) where
     module _ (p : ℕ) (i : Instr) (next : List Instr) (at : drop p m.code ≡ i ∷ next) where
       meet_here : (n k : ℕ) → MeetsPlaces (move_of i) rows (numbers (written m i)) (next_places m (i ∷ next)) n k → MeetHere i next n k
       meet_here n k h =
-          let t = target_of next (targets i.op) h.item h.among in
+          let t = target_of m next (targets i.op) h.item h.among in
           let by = h.there in
           let meets = by.there in
           record {
             write = among_numbers n (written m i) (subst (Contains (numbers (written m i))) meets.written by.among);
             after = after_step (goes t.0 t.1)
-                (live_at k h.item (code_at m.code next t.0) (ending_at t.0 (ending_of p at)) t.2 meets.live);
+                (live_at k h.item (code_at m.code next t.0) (ending_at t.0 (ending_place m p at)) t.2 meets.live);
             no_move = told_no_move i k n meets.no_move;
           }
 
@@ -206,13 +177,13 @@ module _ (m : Mach) where
           by (after_step (goes t o) l) =
               record {
                 item = place_of m (code_at m.code next t);
-                among = in_targets next o;
+                among = in_targets m next o;
                 there = record {
                   item = n;
                   among = in_numbers h.write;
                   there = record {
                     written = refl;
-                    live = at_live k (code_at m.code next t) (ending_at t (ending_of p at)) l;
+                    live = at_live k (code_at m.code next t) (ending_at t (ending_place m p at)) l;
                     no_move = no_move_told i k n h.no_move;
                   };
                 };
@@ -241,25 +212,21 @@ module _ (m : Mach) where
         whole = λ n k e. h.whole n k (either_map from n k e);
       }
     where
-      whole_code : (xs : List Instr) → drop 0 xs ≡ xs
-      whole_code [] = refl
-      whole_code (x ∷ xs) = refl
-
       to : (n k : ℕ) → ForOne (λ (r : Reg). MeetsSet None set r.number) m.params n k → MeetsSoFar 0 n k
       to n k g =
           let t = g.there in
-          by_entry (subst (λ n. Among n m.params) t.written (among_register m.params g.item g.among))
-          (subst (Live m k) (whole_code m.code) ((is.exact 0 k).0 (subst (λ s. has s k ≡ true) same t.live)))
+          by_entry (subst (λ n. Among n m.params) t.written (among_of g.item m.params g.among))
+          (subst (Live m k) (drop_none m.code) ((is.exact 0 k).0 (subst (λ s. has s k ≡ true) same t.live)))
 
       from : (n k : ℕ) → MeetsSoFar 0 n k → ForOne (λ (r : Reg). MeetsSet None set r.number) m.params n k
       from n k (by_entry a l) =
-          let r = register_among a in
+          let r = number_among m.params a in
           record {
             item = r.0;
             among = r.1;
             there = record {
               written = r.2;
-              live = subst (λ s. has s k ≡ true) (sym same) ((is.exact 0 k).1 (subst (Live m k) (sym (whole_code m.code)) l));
+              live = subst (λ s. has s k ≡ true) (sym same) ((is.exact 0 k).1 (subst (Live m k) (sym (drop_none m.code)) l));
               no_move = refl;
             };
           }
@@ -321,7 +288,7 @@ module _ (m : Mach) where
     where
       meets : (n k : ℕ) → MeetsSoFar p n k → Meets m n k
       meets n k (by_entry a l) = at_params a l
-      meets n k (by_instr q i next lt e h) = at_write i next (stands_of (ending_of q e)) h.write h.after h.no_move
+      meets n k (by_instr q i next lt e h) = at_write i next (stands_of (ending_place m q e)) h.write h.after h.no_move
 
       met : (n k : ℕ) → Meets m n k → MeetsSoFar p n k
       met n k (at_write i next s w l none) =

@@ -1,42 +1,30 @@
 -- Places of a function and where they lead, as lists of numbers.
-use Rattle.std.proofs.Common.{◌≡◌, ℕ, zero, suc, ◌-◌, ◌<◌, ◌≤◌, Bool, true, false, ⊎_elim, List, [], ◌∷◌, map, length, drop, refl, sym, ap, ◌∙◌, subst, arith}
-use Rattle.std.proofs.lemmas.List.{length-drop}
+use Rattle.std.proofs.Common.{◌≡◌, ℕ, zero, suc, ◌-◌, ◌<◌, ◌≤◌, Bool, true, false, List, [], ◌∷◌, map, length, drop, refl, subst, arith}
 use Rattle.std.proofs.lemmas.List.Elements.{All-contains, Contains-get_or}
 use Rattle.std.specs.List.{All, Contains}
 use Rattle.std.specs.Prelude.{slice_index_or}
 use Rattle.bs_words.specs.Contents.{contents}
-use Rattle.bs_words.proofs.Lists.{none_in, first_in, later_in, in_cons}
+use Rattle.bs_words.proofs.Lists.{none_in}
 use Rattle.dataflow.specs.Flow.{IsPlace}
 use Rattle.dataflow.specs.Flow as flows
 use Rattle.dataflow.specs.declared.flow.Flow as flow
 use Rattle.dataflow.specs.declared.flow.Place as place
 use Rattle.mach_ir.specs.Acts.{Target, On}
 use Rattle.mach_ir.specs.Meaning.{Nothing, Everything, destroyed_by, code_at, from_handler, tries_at}
-use Rattle.mach_ir.specs.Walks.{Among, first, later, OneOf, this, other, next_if, targets, may_raise, goes, raises, Leads, Raises, Live, read, on, aside}
+use Rattle.mach_ir.specs.Walks.{OneOf, this, other, next_if, targets, may_raise, goes, raises, Leads, Raises, Live, read, on, aside}
 use Rattle.mach_ir.specs.declared.mach.Mark.TheVariants as mark
 use Rattle.mach_ir.specs.declared.mach.MachOp.{MachOp}
 use Rattle.mach_ir.specs.declared.mach.MachOp.TheVariants as mach
-use Rattle.mach_ir.specs.declared.reg.Reg.{Reg}
 use Rattle.mach_ir.specs.declared.mach.Instr.{Instr}
 use Rattle.mach_ir.specs.declared.mach.Mach.{Mach}
 use Rattle.mach_laws.specs.Expand.{Ending}
-use Rattle.mach_laws.specs.Graph.{place_of, numbers, handler_places, next_places, raise_places, numbers_read, numbers_written, IsFlowOf}
+use Rattle.mach_laws.specs.Graph.{place_of, numbers, next_places, raise_places, numbers_read, numbers_written, IsFlowOf}
 use Rattle.mach_laws.proofs.Places.{ending_from_handler}
-use Rattle.mach_laws.proofs.Walking.{ending_at, place_is, ending_drop}
+use Rattle.mach_laws.proofs.Walking.{in_numbers, ending_at, place_is, place_at, place_within, ending_place, target_of, in_targets, handler_of, in_handlers}
 use Rattle.liveness.proofs.Bounds.{no_items}
 
 pub each : {A : Type 0} (P : A → Type 0) (xs : List A) → ((y : A) → Contains xs y → P y) → All P xs
 each P xs h = λ k d lt. h (slice_index_or xs k d) (Contains-get_or xs k d lt)
-
--- ---- numbers of registers
-
-pub among_numbers : (n : ℕ) (rs : List Reg) → Contains (numbers rs) n → Among n rs
-among_numbers n [] c = absurd (none_in n c)
-among_numbers n (r ∷ rs) c = ⊎_elim (λ e. first e) (λ d. later (among_numbers n rs d)) (in_cons r.number n (numbers rs) c)
-
-pub in_numbers : {n : ℕ} {rs : List Reg} → Among n rs → Contains (numbers rs) n
-in_numbers {n} (first {r = r} {rs = rs} e) = subst (Contains (r.number ∷ numbers rs)) e (first_in r.number (numbers rs))
-in_numbers {n} (later {r = r} {rs = rs} a) = later_in r.number n (numbers rs) (in_numbers a)
 
 -- ---- what destroys every colour goes on, if anywhere
 
@@ -63,49 +51,6 @@ destroys_on (mach.Mark (mark.Handler l)) t e o = only_next true t o
 destroys_on (mach.Mark (mark.End l)) t e o = absurd (differ e)
 
 module _ (m : Mach) where
-  pub place_back : (p : ℕ) (rest : List Instr) → p ≤ length m.code → drop p m.code ≡ rest → place_of m rest ≡ p
-  place_back p rest le e =
-      let long : length (drop p m.code) ≡ length m.code - p = length-drop p m.code in
-      let same : length (drop p m.code) ≡ length rest = ap length e in
-      omega (arith, le, long, same)
-
-  pub place_within : (rest : List Instr) → place_of m rest ≤ length m.code
-  place_within rest = by (length m.code) (length rest)
-    where
-      by : (a b : ℕ) → a - b ≤ a
-      by a b = omega arith
-
-  pub ending_place : (p : ℕ) {rest : List Instr} → drop p m.code ≡ rest → Ending rest m.code
-  ending_place p e = subst (λ rest. Ending rest m.code) e (ending_drop p m.code)
-
-  pub target_of : (next : List Instr) (ts : List Target) (q : ℕ) → Contains (map (λ t. place_of m (code_at m.code next t)) ts) q →
-      (t : Target) × OneOf t ts × (place_of m (code_at m.code next t) ≡ q)
-  target_of next [] q c = absurd (none_in q c)
-  target_of next (t ∷ ts) q c =
-      ⊎_elim (λ e. (t, this, e)) (λ d. let g = target_of next ts q d in (g.0, other g.1, g.2))
-      (in_cons (place_of m (code_at m.code next t)) q (map (λ t. place_of m (code_at m.code next t)) ts) c)
-
-  in_targets : (next : List Instr) {t : Target} {ts : List Target} → OneOf t ts →
-      Contains (map (λ t. place_of m (code_at m.code next t)) ts) (place_of m (code_at m.code next t))
-  in_targets next {t} (this {ts = ts}) = first_in (place_of m (code_at m.code next t)) _
-  in_targets next {t} (other {u = u} {ts = ts} o) =
-      later_in (place_of m (code_at m.code next u)) (place_of m (code_at m.code next t)) _ (in_targets next o)
-
-  handler_of : (b : Bool) (tries : List ℕ) (q : ℕ) → Contains (handler_places m b tries) q →
-      (l : ℕ) × (others : List ℕ) × (b ≡ true) × (tries ≡ l ∷ others) × (place_of m (from_handler l m.code) ≡ q)
-  handler_of false tries q c = absurd (none_in q c)
-  handler_of true [] q c = absurd (none_in q c)
-  handler_of true (l ∷ tries) q c =
-      ⊎_elim (λ e. (l, tries, refl, refl, e)) (λ d. absurd (none_in q d))
-      (in_cons (place_of m (from_handler l m.code)) q [] c)
-
-  in_handlers : (b : Bool) (tries : List ℕ) (l : ℕ) (others : List ℕ) → b ≡ true → tries ≡ l ∷ others →
-      Contains (handler_places m b tries) (place_of m (from_handler l m.code))
-  in_handlers b tries l others e h =
-      subst (λ b. Contains (handler_places m b tries) (place_of m (from_handler l m.code))) (sym e)
-      (subst (λ ts. Contains (handler_places m true ts) (place_of m (from_handler l m.code))) (sym h)
-      (first_in (place_of m (from_handler l m.code)) []))
-
   -- ---- steps
 
   -- a step leads from a place to another
@@ -121,19 +66,19 @@ module _ (m : Mach) where
   pub steps_of : (o q : ℕ) (rest : List Instr) → drop o m.code ≡ rest → Contains (next_places m rest) q → Steps o q
   steps_of o q [] e c = absurd (none_in q c)
   steps_of o q (i ∷ next) e c =
-      let t = target_of next (targets i.op) q c in
+      let t = target_of m next (targets i.op) q c in
       record {
         instr = i;
         next = next;
         is = e;
         target = t.0;
         one = t.1;
-        to = sym (ap (λ k. drop k m.code) t.2) ∙ place_is m (ending_at t.0 (ending_place o e));
-        lands = subst (λ q. q ≤ length m.code) t.2 (place_within (code_at m.code next t.0));
+        to = place_at m (ending_at t.0 (ending_place m o e)) t.2;
+        lands = subst (λ q. q ≤ length m.code) t.2 (place_within m (code_at m.code next t.0));
       }
 
   pub steps_to : {i : Instr} {next to : List Instr} → Leads m i next to → Contains (next_places m (i ∷ next)) (place_of m to)
-  steps_to {i} {next} (goes t o) = in_targets next o
+  steps_to {i} {next} (goes t o) = in_targets m next o
 
   pub record Raised (o q : ℕ) : Type 0 where
     pub instr : Instr
@@ -147,19 +92,19 @@ module _ (m : Mach) where
   pub raised_of : (o q : ℕ) (rest : List Instr) → drop o m.code ≡ rest → Contains (raise_places m rest) q → Raised o q
   raised_of o q [] e c = absurd (none_in q c)
   raised_of o q (i ∷ next) e c =
-      let h = handler_of (may_raise i.op) (tries_at (i ∷ next)) q c in
+      let h = handler_of m (may_raise i.op) (tries_at (i ∷ next)) q c in
       record {
         instr = i;
         next = next;
         is = e;
         to = from_handler h.0 m.code;
-        lands_at = sym (ap (λ k. drop k m.code) h.4) ∙ place_is m (ending_from_handler h.0 m.code);
+        lands_at = place_at m (ending_from_handler h.0 m.code) h.4;
         raise = raises h.2 h.3;
-        lands = subst (λ q. q ≤ length m.code) h.4 (place_within (from_handler h.0 m.code));
+        lands = subst (λ q. q ≤ length m.code) h.4 (place_within m (from_handler h.0 m.code));
       }
 
   pub raises_to : {i : Instr} {next to : List Instr} → Raises m i next to → Contains (raise_places m (i ∷ next)) (place_of m to)
-  raises_to {i} {next} (raises {l = l} {tries = tries} b e) = in_handlers (may_raise i.op) (tries_at (i ∷ next)) l tries b e
+  raises_to {i} {next} (raises {l = l} {tries = tries} b e) = in_handlers m (may_raise i.op) (tries_at (i ∷ next)) l tries b e
 
   pub leads_ending : {i : Instr} {next to : List Instr} → Ending (i ∷ next) m.code → Leads m i next to → Ending to m.code
   leads_ending e (goes t o) = ending_at t e

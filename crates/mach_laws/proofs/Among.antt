@@ -1,7 +1,9 @@
 -- Numbers of registers in rows of registers.
-use Rattle.std.proofs.Common.{ℕ, [], List, ◌∷◌, ◌++◌, ◌⊎◌, inl, inr, ⊎_elim, ap, ◌≡◌, subst, arith}
+use Rattle.std.proofs.Common.{ℕ, [], List, ◌∷◌, ◌++◌, Option, Some, None, ◌⊎◌, inl, inr, ⊎_elim, ap, ◌≡◌, subst, arith}
 use Rattle.std.specs.List.{Contains}
+use Rattle.bs_words.specs.declared.values.Value.{Value}
 use Rattle.mach_ir.specs.Formed.{AreDistinct}
+use Rattle.mach_ir.specs.Keeps.{wrote_unless}
 use Rattle.mach_ir.specs.Walks.{Among, first, later}
 use Rattle.mach_ir.specs.declared.reg.Reg.{Reg}
 use Rattle.bs_words.proofs.Lists.{none_in, in_cons, first_in, later_in}
@@ -38,3 +40,8 @@ among_number {rs = rs} e z = subst (λ k. Among k rs) e z
 
 pub none_distinct : AreDistinct []
 none_distinct i j d below within = absurd (omega arith)
+
+-- what is written, unless a value is raised
+pub unless_among : (raised : Option Value) (rs : List Reg) (n : ℕ) → Among n (wrote_unless raised rs) → Among n rs
+unless_among None rs n a = a
+unless_among (Some v) rs n a = elim a [ ]

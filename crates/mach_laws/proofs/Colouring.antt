@@ -4,7 +4,7 @@ use Rattle.std.specs.List.{Contains}
 use Rattle.mach_ir.specs.Graph.{InGraph, JoinedIn, IsGraph, IsColourable}
 use Rattle.mach_ir.specs.Meaning.{Destroyed, Nothing, Temporaries, Everything, destroyed_by, is_destroyed, is_at_one_of, killed_among, killed_by, killed, written}
 use Rattle.mach_ir.specs.Placed.{Colouring, IsColouring, NoNeedlessSlot, WellPlaced}
-use Rattle.mach_ir.specs.Walks.{Among, first, later, goes, raises, Live, read, on, aside, LiveAfter, after_step, InCode, in_args, in_results, further, IsRegister, is_param, is_colour, is_in_code, Stands, here, below, Meets, at_write, at_params, Joined, one_way, other_way}
+use Rattle.mach_ir.specs.Walks.{Among, first, later, goes, raises, Live, read, on, aside, LiveAfter, after_step, InCode, in_args, in_results, further, IsRegister, is_param, is_colour, is_in_code, Meets, at_write, at_params, Joined, one_way, other_way}
 use Rattle.mach_ir.specs.declared.graph.Node.{Node}
 use Rattle.mach_ir.specs.declared.graph.Graph.{Graph}
 use Rattle.mach_ir.specs.declared.reg.Reg.{Reg}
@@ -12,7 +12,7 @@ use Rattle.mach_ir.specs.declared.mach.Instr.{Instr}
 use Rattle.mach_ir.specs.declared.mach.Mach.{Mach}
 use Rattle.bs_words.proofs.Lists.{none_in, first_in, later_in, in_cons}
 use Rattle.mach_laws.specs.Expand.{Ending, all, more}
-use Rattle.mach_laws.proofs.Places.{ending_from_handler}
+use Rattle.mach_laws.proofs.Places.{ending_from_handler, ending_of}
 use Rattle.mach_laws.proofs.Walking.{ending_at}
 use Rattle.mach_laws.proofs.Among.{split_among}
 
@@ -55,10 +55,6 @@ module _ (m : Mach) where
       Contains i.args r ⊎ Contains i.results r → InCode r code
   in_code all c = ⊎_elim in_args in_results c
   in_code (more e) c = further (in_code e c)
-
-  ending_of : {i : Instr} {next code : List Instr} → Stands i next code → Ending (i ∷ next) code
-  ending_of here = all
-  ending_of (below s) = more (ending_of s)
 
   of_args : {n : ℕ} {i : Instr} {next : List Instr} → Ending (i ∷ next) m.code → Among n i.args → IsNumber m n
   of_args e a =

@@ -3,7 +3,7 @@ use Rattle.std.proofs.Common.{◌≡◌, ℕ, inl, List, [], ◌∷◌, Some, re
 use Rattle.bs_words.specs.declared.values.Value.{Value}
 use Rattle.mach_ir.specs.Acts.{Around, Target, On, At}
 use Rattle.mach_ir.specs.Runs.{Place, Tally}
-use Rattle.mach_ir.specs.Meaning.{File, written, values, past_frame, passes_frame, tries_at, landing_code}
+use Rattle.mach_ir.specs.Meaning.{File, written, values, past_frame, passes_frame, tries_at, landing_code, mach_act}
 use Rattle.mach_ir.specs.Keeps.{ValsWritten, Proper, Follows}
 use Rattle.mach_ir.specs.declared.mach.Instr.{Instr}
 use Rattle.mach_ir.specs.declared.mach.Mach.{Mach}
@@ -11,6 +11,7 @@ use Rattle.mach_laws.specs.Expand.{KeepsMarks, no_label, not_labelled, no_handle
 use Rattle.mach_laws.proofs.General as general
 use Rattle.mach_laws.proofs.General.{at}
 use Rattle.mach_laws.proofs.Level as level
+use Rattle.mach_laws.proofs.Raised.{silent_told}
 use Rattle.mach_laws.proofs.Simulate.{Agrees}
 
 abbrev itself : ℕ → Instr → List Instr
@@ -54,11 +55,11 @@ module _ (c : Place) (p : Mach) where
     past i next x d (At l) = general.elsewhere refl (λ w. ((refl, refl), w))
 
     same : (i : Instr) (next : List Instr) (a : File) →
-        level.SameOperation c p p itself keeps_marks is_code Suit SameFiles i i next [] a a
+        level.SameOperation c p p itself keeps_marks is_code Suit SameFiles (Unit {0}) i i next [] a a
     same i next a =
         record {
           goes = λ vs d e. (d, e, λ x to o. past i next x d to);
-          lands = λ x to l w. (
+          lands = λ x to l s w. (
             (refl, refl),
             moved (λ code. Agrees p (written p i) (at (landing_code p.code (i ∷ code) to) a x)) next w,
           );
@@ -80,6 +81,7 @@ module _ (c : Place) (p : Mach) where
           passing = general.passed;
           vals = moved (λ code. ValsWritten p (at (i ∷ code) a x)) next;
           reads = e;
+          told = silent_told tt (mach_act c.setting i.op vs x);
           same = same i next (past_frame (passes_frame i.op) a);
         })
 

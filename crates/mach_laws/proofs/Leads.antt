@@ -4,7 +4,7 @@ use Rattle.std.proofs.Common.{◌≡◌, ℕ, true, List, Option}
 use Rattle.bs_words.specs.declared.types.Ret.{Ret}
 use Rattle.bs_words.specs.declared.values.Value.{Value}
 use Rattle.mach_ir.specs.Known.{Doing, Callee, Setting}
-use Rattle.mach_ir.specs.Acts.{Around, Target, At, Landing, AtLabel, AtHandler, Act, Goes, Pushes, Jumps, Unwinds, Asks, Replaces, Ends, EndsRaising, Stuck}
+use Rattle.mach_ir.specs.Acts.{Around, Target, On, At, Landing, AtLabel, AtHandler, Act, Goes, Pushes, Jumps, Unwinds, Asks, Replaces, Ends, EndsRaising, Stuck}
 use Rattle.mach_ir.specs.Meaning.{mach_act}
 use Rattle.mach_ir.specs.Walks.{OneOf, this, targets, may_raise}
 use Rattle.mach_ir.specs.declared.mach.Mark.TheVariants as mark
@@ -15,6 +15,9 @@ use Rattle.mach_laws.proofs.Turns.{Turns, turns}
 
 pub data IsTry : MachOp → Type 0 where
   is_try : {l : ℕ} → IsTry (mach.Mark (mark.Try l))
+
+pub try_on : (f : MachOp) → IsTry f → OneOf On (targets f)
+try_on f is_try = this
 
 -- where an exit or a raise of this operation may come to
 pub data MayLand (f : MachOp) : Landing → Type 0 where

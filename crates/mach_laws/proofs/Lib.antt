@@ -1,10 +1,13 @@
 pub mod Simulate
 pub mod Places
+pub mod InPlace
 pub mod General
 pub mod Level
 pub mod Walking
+pub mod LiveByGraph
 pub mod Turns
 pub mod Leads
+pub mod Raised
 pub mod Grows
 pub mod Colouring
 pub mod Identity

@@ -1,5 +1,5 @@
 -- The places of code that is replaced instruction by instruction.
-use Rattle.std.proofs.Common.{◌≡◌, ℕ, Bool, true, false, cond, ⊎_elim, List, [], ◌∷◌, ◌++◌, length, refl, sym, ap, ◌∙◌, ◌≤◌, arith, ◌<◌}
+use Rattle.std.proofs.Common.{◌≡◌, ℕ, Bool, true, false, cond, ⊎_elim, List, [], ◌∷◌, ◌++◌, length, refl, sym, ap, ◌∙◌, subst, ◌≤◌, arith, ◌<◌}
 use Rattle.std.proofs.lemmas.Bool.{cases_Bool, true≢false}
 use Rattle.std.proofs.lemmas.List.Elements.{All-head, All-tail, All-cons, All-nil}
 use Rattle.std.specs.List.{Contains}
@@ -15,6 +15,7 @@ use Rattle.mach_ir.specs.Walks.{Stands, here, below, InCode, in_args, further, i
 use Rattle.mach_ir.specs.Places.{is_open}
 use Rattle.mach_ir.specs.Placed.{is_straight, AreStraight}
 use Rattle.mach_ir.specs.declared.reg.Reg.{Reg}
+use Rattle.bs_words.proofs.Lists.{none_in, first_in, later_in, in_cons}
 use Rattle.mach_laws.specs.Expand.{expand, NoLabel, no_label, not_labelled, NoHandler, no_handler, not_handled, bounds_try, NoBound, no_bound, not_bound, KeepsMarks, Ending, all, more}
 
 label_past : (l : ℕ) (xs ys : List Instr) → NoLabel l xs → after_label l (xs ++ ys) ≡ after_label l ys
@@ -56,6 +57,17 @@ module _ (f : ℕ → Instr → List Instr) (m : KeepsMarks f) (l : ℕ) where
       handler_past l (f (length is) i) (expand f is) (m.no_other l (length is) i e)
       ∙ handler_expand is ∙ ap (λ b. expand f (cond b (i ∷ is) (from_handler l is))) (sym e))
       (cases_Bool (is_handler_of l i.op))
+
+module _ (f : ℕ → Instr → List Instr) (m : KeepsMarks f) (code : List Instr) where
+  handlers_expand : (tries : List ℕ) → at_handler (expand f code) tries ≡ expand f (at_handler code tries)
+  handlers_expand [] = refl
+  handlers_expand (l ∷ tries) = handler_expand f m l code
+
+  -- It lands at the same place, where the tries are the same.
+  pub land_expand : (this that : List Instr) (to : Landing) → tries_at that ≡ tries_at this →
+      landing_code (expand f code) that to ≡ expand f (landing_code code this to)
+  land_expand this that (AtLabel l) e = label_expand f m l code
+  land_expand this that AtHandler e = ap (at_handler (expand f code)) e ∙ handlers_expand (tries_at this)
 
 -- what bounds no try leaves the tries as they are
 tries_stay : (op : MachOp) → bounds_try op ≡ false → (ts : List ℕ) → tries_past op ts ≡ ts
@@ -141,6 +153,16 @@ stands_behind (x ∷ run) i next = below (stands_behind run i next)
 pub stands_within : {i j : Instr} {next rest code : List Instr} → Stands j rest code → Stands i next rest → Stands i next code
 stands_within here s = below s
 stands_within (below t) s = below (stands_within t s)
+
+pub contains_of : {i : Instr} {next code : List Instr} → Stands i next code → Contains code i
+contains_of {i} {next = next} here = first_in i next
+contains_of {i} (below {j = j} {is = xs} s) = later_in j i xs (contains_of s)
+
+pub stands_in : (code : List Instr) (i : Instr) → Contains code i → (next : List Instr) × Stands i next code
+stands_in [] i c = absurd (none_in i c)
+stands_in (j ∷ is) i c =
+    ⊎_elim (λ e. (is, subst (λ (i : Instr). Stands i is (j ∷ is)) e here)) (λ d. let s = stands_in is i d in (s.0, below s.1))
+    (in_cons j i is c)
 
 -- ---- straight code
 

@@ -1,19 +1,17 @@
--- What is live by the flow graph of a function is what is live by its walks.
-use Rattle.std.proofs.Common.{◌≡◌, ◌↔◌, ℕ, zero, suc, ◌-◌, ◌≤◌, Bool, true, false, ◌⊎◌, inl, inr, ⊎_elim, List, [], ◌∷◌, length, map, drop, refl, sym, ap, ◌∙◌, subst, arith}
+-- Places of a function and where they lead, as numbers.
+use Rattle.std.proofs.Common.{◌≡◌, ℕ, zero, suc, ◌-◌, ◌≤◌, Bool, true, false, ⊎_elim, List, [], ◌∷◌, length, map, drop, refl, sym, ap, ◌∙◌, subst, arith}
+use Rattle.std.proofs.lemmas.List.{length-drop}
 use Rattle.std.specs.List.{Contains}
-use Rattle.mach_ir.specs.Known.{Graph, graph, ReadsIn, LiveBefore, IsLiveness, Flow}
 use Rattle.mach_ir.specs.Acts.{Target, On, At}
-use Rattle.mach_ir.specs.Graph.{IsLiveMap}
-use Rattle.mach_ir.specs.Meaning.{code_at, from_handler, tries_at, written}
-use Rattle.mach_ir.specs.Walks.{Among, first, later, OneOf, this, other, targets, may_raise, goes, raises, Live, read, on, aside}
-use Rattle.mach_ir.specs.declared.graph.LiveMap.{LiveMap}
+use Rattle.mach_ir.specs.Meaning.{code_at, from_handler}
+use Rattle.mach_ir.specs.Walks.{Among, first, later, OneOf, this, other}
 use Rattle.mach_ir.specs.declared.reg.Reg.{Reg}
 use Rattle.mach_ir.specs.declared.mach.Instr.{Instr}
 use Rattle.mach_ir.specs.declared.mach.Mach.{Mach}
 use Rattle.bs_words.proofs.Lists.{none_in, first_in, later_in, in_cons, drop_none}
 use Rattle.mach_laws.specs.Expand.{Ending, all, more}
-use Rattle.mach_laws.specs.Graph.{place_of, numbers, handler_places, next_places, raise_places, numbers_read, numbers_written, flow_graph, IsFlowOf}
-use Rattle.mach_laws.proofs.Places.{ending_next, ending_label, ending_from_handler, ending_short}
+use Rattle.mach_laws.specs.Graph.{place_of, numbers, handler_places}
+use Rattle.mach_laws.proofs.Places.{ending_next, ending_label, ending_short}
 
 -- ---- numbers of places
 
@@ -42,38 +40,57 @@ pub ending_at : {i : Instr} {next code : List Instr} (t : Target) → Ending (i 
 ending_at On e = ending_next e
 ending_at {code = code} (At l) e = ending_label l code
 
+-- ---- numbers of registers
+
+pub among_numbers : (n : ℕ) (rs : List Reg) → Contains (numbers rs) n → Among n rs
+among_numbers n [] c = absurd (none_in n c)
+among_numbers n (r ∷ rs) c = ⊎_elim (λ e. first e) (λ d. later (among_numbers n rs d)) (in_cons r.number n (numbers rs) c)
+
+pub in_numbers : {n : ℕ} {rs : List Reg} → Among n rs → Contains (numbers rs) n
+in_numbers {n} (first {r = r} {rs = rs} e) = subst (Contains (r.number ∷ numbers rs)) e (first_in r.number (numbers rs))
+in_numbers {n} (later {r = r} {rs = rs} a) = later_in r.number n (numbers rs) (in_numbers a)
+
+-- ---- the places of a function
+
 module _ (m : Mach) where
   pub place_is : {rest : List Instr} → Ending rest m.code → drop (place_of m rest) m.code ≡ rest
   place_is e = drop_ending e
 
-  ending_of : (p : ℕ) {rest : List Instr} → drop p m.code ≡ rest → Ending rest m.code
-  ending_of p e = subst (λ rest. Ending rest m.code) e (ending_drop p m.code)
+  -- the code at the place of a rest is that rest
+  pub place_at : {rest : List Instr} {q : ℕ} → Ending rest m.code → place_of m rest ≡ q → drop q m.code ≡ rest
+  place_at e s = sym (ap (λ k. drop k m.code) s) ∙ place_is e
 
-  -- ---- one step
+  pub place_back : (p : ℕ) (rest : List Instr) → p ≤ length m.code → drop p m.code ≡ rest → place_of m rest ≡ p
+  place_back p rest le e =
+      let long : length (drop p m.code) ≡ length m.code - p = length-drop p m.code in
+      let same : length (drop p m.code) ≡ length rest = ap length e in
+      omega (arith, le, long, same)
 
-  among_of : (n : ℕ) (rs : List Reg) → Contains (numbers rs) n → Among n rs
-  among_of n [] c = absurd (none_in n c)
-  among_of n (r ∷ rs) c =
-      ⊎_elim (λ e. first e) (λ d. later (among_of n rs d)) (in_cons r.number n (numbers rs) c)
+  pub place_within : (rest : List Instr) → place_of m rest ≤ length m.code
+  place_within rest = by (length m.code) (length rest)
+    where
+      by : (a b : ℕ) → a - b ≤ a
+      by a b = omega arith
 
-  in_numbers : {n : ℕ} {rs : List Reg} → Among n rs → Contains (numbers rs) n
-  in_numbers {n} (first {r = r} {rs = rs} e) = subst (Contains (r.number ∷ numbers rs)) e (first_in r.number (numbers rs))
-  in_numbers {n} (later {r = r} {rs = rs} a) = later_in r.number n (numbers rs) (in_numbers a)
+  pub ending_place : (p : ℕ) {rest : List Instr} → drop p m.code ≡ rest → Ending rest m.code
+  ending_place p e = subst (λ rest. Ending rest m.code) e (ending_drop p m.code)
 
-  target_of : (next : List Instr) (ts : List Target) (q : ℕ) → Contains (map (λ t. place_of m (code_at m.code next t)) ts) q →
+  -- ---- where a step leads
+
+  pub target_of : (next : List Instr) (ts : List Target) (q : ℕ) → Contains (map (λ t. place_of m (code_at m.code next t)) ts) q →
       (t : Target) × OneOf t ts × (place_of m (code_at m.code next t) ≡ q)
   target_of next [] q c = absurd (none_in q c)
   target_of next (t ∷ ts) q c =
       ⊎_elim (λ e. (t, this, e)) (λ d. let g = target_of next ts q d in (g.0, other g.1, g.2))
       (in_cons (place_of m (code_at m.code next t)) q (map (λ t. place_of m (code_at m.code next t)) ts) c)
 
-  in_targets : (next : List Instr) {t : Target} {ts : List Target} → OneOf t ts →
+  pub in_targets : (next : List Instr) {t : Target} {ts : List Target} → OneOf t ts →
       Contains (map (λ t. place_of m (code_at m.code next t)) ts) (place_of m (code_at m.code next t))
   in_targets next {t} (this {ts = ts}) = first_in (place_of m (code_at m.code next t)) _
   in_targets next {t} (other {u = u} {ts = ts} o) =
       later_in (place_of m (code_at m.code next u)) (place_of m (code_at m.code next t)) _ (in_targets next o)
 
-  handler_of : (b : Bool) (tries : List ℕ) (q : ℕ) → Contains (handler_places m b tries) q →
+  pub handler_of : (b : Bool) (tries : List ℕ) (q : ℕ) → Contains (handler_places m b tries) q →
       (l : ℕ) × (others : List ℕ) × (b ≡ true) × (tries ≡ l ∷ others) × (place_of m (from_handler l m.code) ≡ q)
   handler_of false tries q c = absurd (none_in q c)
   handler_of true [] q c = absurd (none_in q c)
@@ -81,116 +98,9 @@ module _ (m : Mach) where
       ⊎_elim (λ e. (l, tries, refl, refl, e)) (λ d. absurd (none_in q d))
       (in_cons (place_of m (from_handler l m.code)) q [] c)
 
-  in_handlers : (b : Bool) (tries : List ℕ) (l : ℕ) (others : List ℕ) → b ≡ true → tries ≡ l ∷ others →
+  pub in_handlers : (b : Bool) (tries : List ℕ) (l : ℕ) (others : List ℕ) → b ≡ true → tries ≡ l ∷ others →
       Contains (handler_places m b tries) (place_of m (from_handler l m.code))
   in_handlers b tries l others e h =
       subst (λ b. Contains (handler_places m b tries) (place_of m (from_handler l m.code))) (sym e)
       (subst (λ ts. Contains (handler_places m true ts) (place_of m (from_handler l m.code))) (sym h)
       (first_in (place_of m (from_handler l m.code)) []))
-
-  -- ---- walks
-
-  abbrev g : Graph
-  g = flow_graph m
-
-  -- a walk of n steps from each place, given to what goes one step before it
-  abbrev Known : ℕ → ℕ → Type 0
-  Known r n = (p : ℕ) (rest : List Instr) → drop p m.code ≡ rest → ReadsIn g r n p → Live m r rest
-
-  read_live : (r : ℕ) (rest : List Instr) → Contains (numbers_read rest) r → Live m r rest
-  read_live r [] c = absurd (none_in r c)
-  read_live r (i ∷ next) c = read (among_of r i.args c)
-
-  stepped : (r n p : ℕ) → Known r n → (rest : List Instr) → drop p m.code ≡ rest →
-      (Contains (numbers_written m rest) r → ⊥) → (q : ℕ) → Contains (next_places m rest) q → ReadsIn g r n q →
-      Live m r rest
-  stepped r n p ih [] e w q c h = absurd (none_in q c)
-  stepped r n p ih (i ∷ next) e w q c h =
-      let t = target_of next (targets i.op) q c in
-      on (λ a. w (in_numbers a)) (goes t.0 t.1)
-      (ih q (code_at m.code next t.0)
-      (sym (ap (λ k. drop k m.code) t.2) ∙ place_is (ending_at t.0 (ending_of p e))) h)
-
-  raised : (r n p : ℕ) → Known r n → (rest : List Instr) → drop p m.code ≡ rest → (q : ℕ) →
-      Contains (raise_places m rest) q → ReadsIn g r n q → Live m r rest
-  raised r n p ih [] e q c h = absurd (none_in q c)
-  raised r n p ih (i ∷ next) e q c h =
-      let t = handler_of (may_raise i.op) (tries_at (i ∷ next)) q c in
-      aside (raises t.2 t.3)
-      (ih q (from_handler t.0 m.code)
-      (sym (ap (λ k. drop k m.code) t.4) ∙ place_is (ending_from_handler t.0 m.code)) h)
-
-  to_live : (r n : ℕ) → Known r n
-  to_live r zero = λ p rest e h. read_live r rest (subst (λ xs. Contains (numbers_read xs) r) e h)
-  to_live r (suc n) = λ p rest e h.
-      ⊎_elim
-      (λ s.
-      let q = (s.1).0 in
-      stepped r n p (to_live r n) rest e (subst (λ xs. Contains (numbers_written m xs) r → ⊥) e s.0) q
-      (subst (λ xs. Contains (next_places m xs) q) e (s.1).1) (s.1).2)
-      (λ s. raised r n p (to_live r n) rest e s.0 (subst (λ xs. Contains (raise_places m xs) s.0) e s.1) s.2) h
-
-  from_live : {r : ℕ} {rest : List Instr} → Live m r rest → (p : ℕ) → drop p m.code ≡ rest → LiveBefore g p r
-  from_live {r} (read {i = i} {next = next} a) p e =
-      (0, subst (λ xs. Contains (numbers_read xs) r) (sym e) (in_numbers a))
-  from_live {r} (on {i = i} {next = next} w (goes t o) l) p e =
-      let to = code_at m.code next t in
-      let h = from_live l (place_of m to) (place_is (ending_at t (ending_of p e))) in (
-        suc h.0,
-        inl (
-          subst (λ xs. Contains (numbers_written m xs) r → ⊥) (sym e) (λ c. w (among_of r (written m i) c)),
-          (place_of m to, subst (λ xs. Contains (next_places m xs) (place_of m to)) (sym e) (in_targets next o), h.1),
-        ),
-      )
-  from_live {r} (aside {i = i} {next = next} (raises {l = l} {tries = tries} b t) live) p e =
-      let to = from_handler l m.code in
-      let h = from_live live (place_of m to) (place_is (ending_from_handler l m.code)) in (
-        suc h.0,
-        inr (
-          place_of m to,
-          subst (λ xs. Contains (raise_places m xs) (place_of m to)) (sym e)
-              (in_handlers (may_raise i.op) (tries_at (i ∷ next)) l tries b t),
-          h.1,
-        ),
-      )
-
-  -- What is live before a place by the graph is what some walk from there reads before it writes it.
-  pub live_by_graph : (p r : ℕ) → LiveBefore (flow_graph m) p r ↔ Live m r (drop p m.code)
-  live_by_graph p r = (λ h. to_live r h.0 p (drop p m.code) refl h.1, λ l. from_live l p refl)
-
-  -- ---- tables
-
-  module _ (f : Flow) (is : IsFlowOf m f) (r : ℕ) where
-    to_graph : (n p : ℕ) → ReadsIn (graph f) r n p → ReadsIn g r n p
-    to_graph zero p h = subst (λ xs. Contains xs r) (is.reads p) h
-    to_graph (suc n) p h =
-        ⊎_elim
-        (λ s.
-        inl (
-          subst (λ xs. Contains xs r → ⊥) (is.writes p) s.0,
-          ((s.1).0, subst (λ xs. Contains xs (s.1).0) (is.next p) (s.1).1, to_graph n (s.1).0 (s.1).2),
-        ))
-        (λ s. inr (s.0, subst (λ xs. Contains xs s.0) (is.aside p) s.1, to_graph n s.0 s.2)) h
-
-    from_graph : (n p : ℕ) → ReadsIn g r n p → ReadsIn (graph f) r n p
-    from_graph zero p h = subst (λ xs. Contains xs r) (sym (is.reads p)) h
-    from_graph (suc n) p h =
-        ⊎_elim
-        (λ s.
-        inl (
-          subst (λ xs. Contains xs r → ⊥) (sym (is.writes p)) s.0,
-          ((s.1).0, subst (λ xs. Contains xs (s.1).0) (sym (is.next p)) (s.1).1, from_graph n (s.1).0 (s.1).2),
-        ))
-        (λ s. inr (s.0, subst (λ xs. Contains xs s.0) (sym (is.aside p)) s.1, from_graph n s.0 s.2)) h
-
-  -- The answer of liveness on the table of a function is its live map.
-  pub live_map : (f : Flow) → IsFlowOf m f → (live : LiveMap) → IsLiveness f live.before.rows.items → IsLiveMap m live
-  live_map f is live h =
-      record {
-        len = h.len ∙ is.places;
-        exact = λ p r.
-            let x = h.exact p r in let y = live_by_graph p r in (
-              λ e. let s = x.0 e in y.0 (s.0, to_graph f is r s.0 p s.1),
-              λ l. let s = y.1 l in x.1 (s.0, from_graph f is r s.0 p s.1),
-            );
-      }

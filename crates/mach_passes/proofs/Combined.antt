@@ -20,8 +20,8 @@ use Rattle.mach_ir.specs.declared.mach.MachOp.{MachOp}
 use Rattle.mach_ir.specs.declared.mach.MachOp.TheVariants as mach
 use Rattle.hoist_rules.specs.Known.{TriesAtMost, OffsetFits, EndsInReturn, at_return, further, IsCarried, code_words, code_points, exits, other_operands}
 use Rattle.hoist_rules.proofs.Known.{exits_both}
-use Rattle.split_rules.proofs.Formed.{contains_of, stands_in}
 use Rattle.mach_laws.proofs.Instructions.{instr}
+use Rattle.mach_laws.proofs.Places.{contains_of, stands_in}
 
 -- ---- measures
 

@@ -10,8 +10,7 @@ use Rattle.mach_ir.specs.Meaning.{tries_at, tries_past}
 use Rattle.mach_ir.specs.declared.mach.Instr.{Instr}
 use Rattle.mach_ir.specs.declared.mach.Mach.{Mach}
 use Rattle.mach_laws.specs.Expand.{expand}
-use Rattle.mach_laws.proofs.Places.{tries_expand}
-use Rattle.split_rules.proofs.Formed.{contains_of, stands_in}
+use Rattle.mach_laws.proofs.Places.{tries_expand, contains_of, stands_in}
 
 exits_later : (b : Bool) (n : ℕ) → n ≤ cond b (suc n) n
 exits_later true n = omega arith

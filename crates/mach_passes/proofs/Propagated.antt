@@ -2,7 +2,7 @@
 use Rattle.std.proofs.Common.{◌≡◌, ◌+◌, cond, List, [], ◌∷◌, length, map, refl, sym, ap, ◌∙◌, subst, arith}
 use Rattle.std.proofs.lemmas.List.{length-map}
 use Rattle.std.specs.List.{Contains}
-use Rattle.copy_rules.proofs.Form.{Fits, fits, alike}
+use Rattle.copy_rules.proofs.Form.{Fits, fits, same_ops}
 use Rattle.copy_rules.specs.Kept.{IsKept}
 use Rattle.copy_rules.specs.Propagated.{again, IsPropagated}
 use Rattle.hoist_rules.specs.Known.{same_spot, IsCarried, copy_words, words_with, operands_with}
@@ -14,7 +14,7 @@ use Rattle.mach_ir.specs.declared.mach.Instr.{Instr}
 use Rattle.mach_ir.specs.declared.mach.Mach.{Mach}
 use Rattle.mach_ir.specs.declared.mach.MachOp.{MachOp}
 use Rattle.mach_ir.specs.declared.mach.MachOp.TheVariants as mach
-use Rattle.repeat_rules.proofs.OneForOne.{tries_same}
+use Rattle.mach_laws.proofs.InPlace.{tries_same}
 use Rattle.bs_words.proofs.Lists.{first_in}
 use Rattle.mach_passes.proofs.Replaced.{Replaces, replaced_carried}
 
@@ -71,5 +71,5 @@ pub propagated_carried : {m q : Mach} → IsKept m q → IsPropagated m q → Is
 propagated_carried {m} {q} kept s =
     subst (IsCarried 0 m) (sym s.is)
     (replaced_carried (again s.plan) m (λ i next at. replaces (s.plan (length next)) (fits m s.plan s.reads i next at))
-    (tries_same (again s.plan) (alike s.plan))
+    (tries_same (again s.plan) (same_ops s.plan))
     (λ low r k c i u. low r k c (kept.registers k (subst (λ (x : Mach). IsRegister x k) (sym s.is) i)) u))

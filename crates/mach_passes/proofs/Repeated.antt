@@ -14,8 +14,8 @@ use Rattle.mach_ir.specs.declared.mach.MachOp.TheVariants as mach
 use Rattle.hoist_rules.proofs.Known.{at_most_copy}
 use Rattle.repeat_rules.specs.Kept.{IsKept}
 use Rattle.repeat_rules.specs.Repeated.{is_operator, again, from_earlier, IsRepeated}
-use Rattle.repeat_rules.proofs.Form.{Fate, unchanged, moved, fate, alike}
-use Rattle.repeat_rules.proofs.OneForOne.{tries_same}
+use Rattle.repeat_rules.proofs.Form.{Fate, unchanged, moved, fate, same_ops}
+use Rattle.mach_laws.proofs.InPlace.{tries_same}
 use Rattle.mach_passes.proofs.Replaced.{Replaces, replaced_carried}
 
 -- ---- an operator and a move
@@ -72,5 +72,5 @@ replaces plan k i = by (fate plan k i)
 pub repeated_carried : {m q : Mach} → IsKept m q → IsRepeated m q → IsCarried 0 m q
 repeated_carried {m} {q} kept s =
     subst (IsCarried 0 m) (sym s.is)
-    (replaced_carried (again s.plan) m (λ i next at. replaces s.plan (length next) i) (tries_same (again s.plan) (alike s.plan))
+    (replaced_carried (again s.plan) m (λ i next at. replaces s.plan (length next) i) (tries_same (again s.plan) (same_ops s.plan))
     (λ low r k c i u. low r k c (kept.registers k (subst (λ (x : Mach). IsRegister x k) (sym s.is) i)) u))

@@ -14,8 +14,8 @@ use Rattle.mach_laws.specs.Expand.{expand}
 use Rattle.hoist_rules.specs.Known.{OffsetFits, EndsInReturn, at_return, further, IsCarried, instr_words, code_words, code_points, one_if, exits, operands_with, other_operands}
 use Rattle.hoist_rules.proofs.Known.{exits_both, returns_alone}
 use Rattle.places_rules.specs.Places.{ColoursLow}
-use Rattle.repeat_rules.proofs.OneForOne.{one_each, both, all_in}
-use Rattle.split_rules.proofs.Formed.{contains_of}
+use Rattle.mach_laws.proofs.InPlace.{one_each, both, all_in}
+use Rattle.mach_laws.proofs.Places.{contains_of}
 
 -- what the instruction in the place of another owes
 pub record Replaces (i j : Instr) : Type 0 where

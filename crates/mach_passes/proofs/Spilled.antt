@@ -19,12 +19,11 @@ use Rattle.mach_ir.specs.declared.mach.MachOp.TheVariants as mach
 use Rattle.mach_ir.specs.declared.mach.Instr.{Instr}
 use Rattle.mach_ir.specs.declared.mach.Mach.{Mach}
 use Rattle.mach_laws.specs.Expand.{expand}
-use Rattle.mach_laws.proofs.Places.{tries_expand}
+use Rattle.mach_laws.proofs.Places.{tries_expand, contains_of, stands_in}
 use Rattle.mach_laws.proofs.Instructions.{return_results}
 use Rattle.hoist_rules.proofs.Known.{at_most_copy, ends_second}
 use Rattle.places_rules.proofs.Open.{slot_open}
 use Rattle.places_rules.specs.Places.{ColoursLow}
-use Rattle.split_rules.proofs.Formed.{contains_of, stands_in}
 use Rattle.sink_rules.specs.Known.{IsSpilled, ParamsPlaced, IsNeededSlot, IsChosenKept, Plan, in_slot, copied, reload, spill, reloads_of, spills_of, operands_of, results_of, spilled_instr, spilled}
 use Rattle.sink_rules.proofs.Known.{spilled_kept, IsCopy, is_reload, is_spill, IsMain, was_main, keeps_marks}
 

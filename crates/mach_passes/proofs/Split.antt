@@ -22,7 +22,7 @@ use Rattle.mach_laws.proofs.Among.{left_among, among_of}
 use Rattle.mach_laws.proofs.Places.{args_in, results_in}
 use Rattle.places_rules.proofs.Lists.{was}
 use Rattle.places_rules.specs.Places.{ColoursLow}
-use Rattle.repeat_rules.proofs.OneForOne.{one_each}
+use Rattle.mach_laws.proofs.InPlace.{one_each}
 use Rattle.split_rules.specs.Order.{IsByFirst, kept, given}
 use Rattle.split_rules.specs.Renamed.{Naming, numbered, all_numbered, renamed_instr, renamed_code, renamed}
 use Rattle.split_rules.specs.Split.{IsNaming, AreByFirst, IsSplit}

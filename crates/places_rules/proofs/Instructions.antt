@@ -6,7 +6,9 @@ use Rattle.mach_ir.specs.Meaning.{File, put_if, put_all, with_held, values}
 use Rattle.mach_ir.specs.Walks.{Among, first, later}
 use Rattle.mach_ir.specs.declared.reg.Reg.{Reg}
 use Rattle.mach_ir.specs.declared.mach.Instr.{Instr}
-use Rattle.mach_laws.specs.Expand.{KeepsMarks, no_label, not_labelled, no_handler, not_handled, no_bound, not_bound, expand}
+use Rattle.mach_laws.specs.Expand.{KeepsMarks, expand}
+use Rattle.mach_laws.proofs.InPlace as text
+use Rattle.mach_laws.proofs.InPlace.{AreAlike, same_op}
 use Rattle.places_rules.specs.Places.{Placing, placed, all_placed, placed_instr, placed_code}
 
 module _ (place : Placing) where
@@ -42,6 +44,12 @@ module _ (place : Placing) where
 
   -- ---- the code, instruction by instruction
 
+  abbrev pub again : ℕ → Instr → Instr
+  again n i = placed_instr place i
+
+  pub same_ops : (n : ℕ) (i : Instr) → AreAlike i.op (again n i).op
+  same_ops n i = same_op refl
+
   abbrev pub alone : ℕ → Instr → List Instr
   alone n i = placed_instr place i ∷ []
 
@@ -50,12 +58,4 @@ module _ (place : Placing) where
   as_expanded (i ∷ is) = ap (λ xs. placed_instr place i ∷ xs) (as_expanded is)
 
   pub keeps_marks : KeepsMarks alone
-  keeps_marks =
-      record {
-        mark = λ l n i e. (placed_instr place i, refl, refl);
-        none = λ l n i e. not_labelled e no_label;
-        handler = λ l n i e. (placed_instr place i, [], refl, refl);
-        no_other = λ l n i e. not_handled e no_handler;
-        bound = λ n i e. (placed_instr place i, refl, refl);
-        unbound = λ n i e. not_bound e no_bound;
-      }
+  keeps_marks = text.keeps_marks again same_ops

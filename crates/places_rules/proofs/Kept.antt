@@ -1,37 +1,35 @@
 -- A function whose open registers have been given places, joined ones apart, does what it did: what is live holds the same.
 use Rattle.std.proofs.Common.{◌≡◌, ℕ, true, inl, inr, ◌⊎◌, ⊎_elim, List, [], ◌∷◌, Option, Some, None, refl, sym, ap, ◌∙◌, subst}
-use Rattle.std.specs.List.{Contains}
 use Rattle.std.proofs.lemmas.Option.{none-some}
 use Rattle.std.proofs.lemmas.List.Elements.{All-contains}
 use Rattle.bs_words.specs.Memory.{Memory}
 use Rattle.bs_words.specs.declared.values.Value.{Value}
-use Rattle.bs_words.proofs.Lists.{first_in, later_in, head_same, tail_same}
+use Rattle.bs_words.proofs.Lists.{head_same, tail_same}
 use Rattle.mach_ir.specs.Known.{Doing}
-use Rattle.mach_ir.specs.Acts.{Around, Target, On, At, Landing, AtLabel, AtHandler, Act, Goes, Pushes, Jumps, Unwinds, Asks, Replaces, Ends, EndsRaising, Stuck}
+use Rattle.mach_ir.specs.Acts.{Around, Target, On, At, Landing, AtLabel, AtHandler, Replaces}
 use Rattle.mach_ir.specs.Formed.{IsFormed, WellFormed}
-use Rattle.mach_ir.specs.Runs.{Place, first_tally, entered}
-use Rattle.mach_ir.specs.Meaning.{Held, State, File, put_all, clear, killed, written, values, past_frame, passes_frame, mach_act, after_label, at_handler, code_at, tries_at, landing_code, start, begun}
+use Rattle.mach_ir.specs.Runs.{Place, entered}
+use Rattle.mach_ir.specs.Meaning.{Held, State, File, clear, killed, written, values, past_frame, passes_frame, after_label, at_handler, code_at, tries_at, landing_code, start}
 use Rattle.mach_ir.specs.Placed.{WellPlaced}
-use Rattle.mach_ir.specs.Walks.{Among, OneOf, this, targets, may_raise, goes, raises, Live, read, on, aside, after_step, LiveAcross, across_step, across_raise, Stands, here, below}
+use Rattle.mach_ir.specs.Walks.{Among, OneOf, targets, may_raise, goes, raises, Live, read, on, aside, after_step, LiveAcross, across_step, across_raise}
 use Rattle.mach_ir.specs.Keeps.{ValsWritten, wrote_unless, Begins, Does}
-use Rattle.mach_ir.specs.declared.mach.MachOp.{MachOp}
 use Rattle.mach_ir.specs.declared.reg.Reg.{Reg}
 use Rattle.mach_ir.specs.declared.mach.Instr.{Instr}
 use Rattle.mach_ir.specs.declared.mach.Mach.{Mach}
 use Rattle.mach_laws.specs.Expand.{Ending, expand}
 use Rattle.mach_laws.proofs.General as general
 use Rattle.mach_laws.proofs.General.{at}
-use Rattle.mach_laws.proofs.Leads.{IsTry, is_try, MayLand, lands_at_label, lands_at_handler, Within, goes_in, pushes_in, jumps_in, unwinds_in, asks_in, within}
+use Rattle.mach_laws.proofs.Leads.{IsTry, MayLand, lands_at_label, lands_at_handler, try_on}
 use Rattle.mach_laws.proofs.Level as level
-use Rattle.mach_laws.proofs.Places.{ending_next, ending_label, ending_land, stands_of}
+use Rattle.mach_laws.proofs.Places.{ending_next, ending_label, ending_land, stands_of, contains_of, land_expand}
 use Rattle.mach_laws.proofs.Simulate.{Agrees}
 use Rattle.mach_laws.proofs.Among.{left_among, right_among, split_among}
+use Rattle.mach_laws.proofs.Raised.{IsRaised, IsSilent, label_silent, try_silent, told}
 use Rattle.places_rules.specs.Places.{Placing, IsPlacing, placed, all_placed, placed_instr, placed_code, with_places}
 use Rattle.places_rules.proofs.Files.{values_same, past_same, cleared, not_cleared, among_or_not, PutsBoth, put_both}
 use Rattle.places_rules.proofs.Walked.{fewer_killed, fewer_written, still_written, live_before, across_back}
 use Rattle.places_rules.proofs.Instructions.{among_back, same_values, same_put, alone, as_expanded, keeps_marks}
-use Rattle.places_rules.proofs.Raised.{IsRaised, Told, told_jump, told_unwind, told_ask, IsSilent, told, label_silent, try_silent}
-use Rattle.places_rules.proofs.Text.{same_label, same_handler, same_tries, was_register}
+use Rattle.places_rules.proofs.Text.{same_label, same_tries, was_register}
 
 module _ (m : Mach) (place : Placing) (formed : WellFormed m) (well : WellPlaced m) (is : IsPlacing m place) where
   abbrev q : Mach
@@ -40,10 +38,6 @@ module _ (m : Mach) (place : Placing) (formed : WellFormed m) (well : WellPlaced
   -- what is live holds the same
   abbrev Same : List Instr → File → File → Type 0
   Same rest a b = (n : ℕ) → Live m n rest → a n ≡ b n
-
-  contains_of : {i : Instr} {next code : List Instr} → Stands i next code → Contains code i
-  contains_of {i} {next = next} here = first_in i next
-  contains_of {i} (below {j = j} {is = xs} s) = later_in j i xs (contains_of s)
 
   form_of : {i : Instr} {next : List Instr} → Ending (i ∷ next) m.code → IsFormed i
   form_of {i} e = All-contains IsFormed m.code i formed.instrs (contains_of (stands_of e))
@@ -111,14 +105,11 @@ module _ (m : Mach) (place : Placing) (formed : WellFormed m) (well : WellPlaced
   is_code : q.code ≡ expand (alone place) m.code
   is_code = as_expanded place m.code
 
-  handlers_same : (tries : List ℕ) → at_handler q.code tries ≡ placed_code place (at_handler m.code tries)
-  handlers_same [] = refl
-  handlers_same (l ∷ tries) = same_handler place l m.code
-
   lands_same : (this_code that_code : List Instr) (to : Landing) → tries_at that_code ≡ tries_at this_code →
       landing_code q.code that_code to ≡ placed_code place (landing_code m.code this_code to)
-  lands_same this_code that_code (AtLabel l) e = same_label place l m.code
-  lands_same this_code that_code AtHandler e = ap (at_handler q.code) e ∙ handlers_same (tries_at this_code)
+  lands_same this_code that_code to e =
+      ap (λ code. landing_code code that_code to) is_code ∙ land_expand (alone place) (keeps_marks place) m.code this_code that_code to e
+      ∙ sym (as_expanded place (landing_code m.code this_code to))
 
   moved : (P : List Instr → Type 0) (next : List Instr) → P (placed_code place next) → P (expand (alone place) next)
   moved P next = subst P (as_expanded place next)
@@ -128,17 +119,10 @@ module _ (m : Mach) (place : Placing) (formed : WellFormed m) (well : WellPlaced
   tries_same i next =
       moved (λ code. tries_at (placed_instr place i ∷ code) ≡ tries_at (i ∷ next)) next (same_tries place (i ∷ next))
 
-  ending_target : {i : Instr} {next : List Instr} (t : Target) → Ending (i ∷ next) m.code → Ending (code_at m.code next t) m.code
-  ending_target On e = ending_next e
-  ending_target (At l) e = ending_label l m.code
-
   caught : {n : ℕ} {i : Instr} {next : List Instr} → may_raise i.op ≡ true → (tries : List ℕ) → tries_at (i ∷ next) ≡ tries →
       Live m n (at_handler m.code tries) → Live m n (i ∷ next)
   caught r [] e v = elim v [ ]
   caught r (l ∷ tries) e v = aside (raises r e) v
-
-  try_on : (f : MachOp) → IsTry f → OneOf On (targets f)
-  try_on f is_try = this
 
   -- ---- each instruction
 
@@ -235,47 +219,45 @@ module _ (m : Mach) (place : Placing) (formed : WellFormed m) (well : WellPlaced
     pushed : IsTry i.op → Same next a' b'
     pushed t n v = still n (on (try_silent m (form_of ending) t n) (goes On (try_on i.op t)) v)
 
-    acts_same : (x : Around) (act : Act) → Within i.op act → Told (IsSilent m i) act →
-        general.Acts c m q (alone place) (keeps_marks place) is_code Suit Round i main next [] x x a' b' act act
-    acts_same x (Goes vs to after) (goes_in o) t =
-        general.both_go
-        (λ d e.
-        let p = put_both c.setting.end i.results vs (clear (killed m i) a') (clear (killed q main) b') d e in
-        (p.file, same_put place c.setting.end i.results vs (clear (killed q main) b') ∙ p.puts, past vs d p after to o))
-    acts_same x (Jumps to after) (jumps_in l) (told_jump s) = general.both_jump (tries_same i next) (lands to l after s)
-    acts_same x (Unwinds after) (unwinds_in r) (told_unwind s) =
-        general.both_unwind (tries_same i next) (lands AtHandler (lands_at_handler r) after s)
-    acts_same x (Pushes after) (pushes_in t) u =
-        general.both_push refl refl
-        (λ w. (
-          (refl, pushed t),
-          moved (λ code. Agrees q (written q main) (at code b' after)) next
-              (agrees_by next (ending_next ending) a' b' after (written m i) (written q main) (pushed t)
-              (silent_wrote ending after.raised a' b' (inl (try_silent m (form_of ending) t))) w),
-        ))
-    acts_same x (Asks whom vs go) (asks_in w) (told_ask t) =
-        general.both_ask (record { memory = refl; tries = refl }) (λ d. acts_same x (go d) (w d) (t d))
-    acts_same x (Replaces whom vs kept) w t = general.both_replace (record { memory = refl; tries = refl })
-    acts_same x (Ends d) w t = general.both_end
-    acts_same x (EndsRaising d) w t = general.both_raise
-    acts_same x Stuck w t = general.stuck_first
+    same_operation : level.SameOperation c m q (alone place) (keeps_marks place) is_code Suit Same (IsSilent m i) i main next [] a' b'
+    same_operation =
+        record {
+          goes = λ vs d e.
+              let p = put_both c.setting.end i.results vs (clear (killed m i) a') (clear (killed q main) b') d e in (
+                p.file,
+                same_put place c.setting.end i.results vs (clear (killed q main) b') ∙ p.puts,
+                λ x to o. past vs d p x to o,
+              );
+          lands = λ x to l s. lands to l x s;
+          tries = tries_same i next;
+          pushes = λ t. (
+            refl,
+            λ x w. (
+              (refl, pushed t),
+              moved (λ code. Agrees q (written q main) (at code b' x)) next
+                  (agrees_by next (ending_next ending) a' b' x (written m i) (written q main) (pushed t)
+                  (silent_wrote ending x.raised a' b' (inl (try_silent m (form_of ending) t))) w),
+            ),
+          );
+        }
 
     one : (x : Around) (vs : List Value) → values a i.args ≡ Some vs →
         general.Replaces c m q (alone place) (keeps_marks place) is_code Suit Round i next x x a b vs
     one x vs e =
-        record {
+        level.replaces c m q (alone place) (keeps_marks place) is_code Suit Same x
+        (record {
           pre = [];
           main = main;
           post = [];
           shape = refl;
+          same_op = refl;
           between = b;
           passing = general.passed;
           vals = λ known. moved (λ code. ValsWritten q (at (main ∷ code) b x)) next (vals_before i next a b x ending same known);
-          read = vs;
           reads = same_values place b i.args ∙ sym (values_same a b i.args (λ n z. same n (read z))) ∙ e;
-          alike = acts_same x (mach_act c.setting i.op vs x) (within c.setting i.op vs x)
-              (told m (form_of ending) c.setting vs x);
-        }
+          told = told m (form_of ending) c.setting vs x;
+          same = same_operation;
+        })
 
   module _ (c : Place) where
     serves : (Suit : Around → Around → Type 0) → ((x y : Around) → x ≡ y → Suit x y) →
@@ -292,27 +274,10 @@ module _ (m : Mach) (place : Placing) (formed : WellFormed m) (well : WellPlaced
 
     begins_placed : (arguments : List Value) (memory : Memory) (doings : List Doing) (s : State) →
         start c m arguments memory ≡ Some s → Begins c m q arguments memory doings s
-    begins_placed arguments memory doings s is_start =
-        by (put_all c.setting.end m.params arguments (λ n. None)) refl is_start
-      where
-        no_state : (s : State) → None ≡ Some s → ⊥
-        no_state s e = cc
-
-        same_state : (x y : State) → Some x ≡ Some y → x ≡ y
-        same_state x y e = cc
-
-        by : (o : Option File) → put_all c.setting.end m.params arguments (λ n. None) ≡ o → begun m memory o ≡ Some s →
-            Begins c m q arguments memory doings s
-        by None e b = absurd (no_state s b)
-        by (Some a) e b =
-            subst (Begins c m q arguments memory doings) (same_state (at m.code a (entered memory)) s b)
-            (record {
-              state = at q.code a (entered memory);
-              begins = ap (begun q memory) (same_put place c.setting.end m.params arguments (λ n. None) ∙ e);
-              follows = λ n proper.
-                  level.follows_from c m q (alone place) (keeps_marks place) is_code Same serves a a (entered memory)
-                  (λ k v. refl) n (first_tally c doings) proper;
-            })
+    begins_placed =
+        level.begins_by c m q (λ vs. same_put place c.setting.end m.params vs (λ n. None))
+        (λ arguments memory a t n e proper.
+        level.follows_from c m q (alone place) (keeps_marks place) is_code Same serves a a (entered memory) (λ k v. refl) n t proper)
 
   -- The function with its open registers placed does what it did.
   pub does_placed : Does m (with_places place m)

@@ -3,7 +3,6 @@ pub mod Open
 pub mod Files
 pub mod Text
 pub mod Instructions
-pub mod Raised
 pub mod Walked
 pub mod Kept
 pub mod Whole

@@ -7,21 +7,22 @@ use Rattle.std.specs.Prelude.{nat_eq}
 use Rattle.bs_words.specs.declared.types.Loc.{Loc}
 use Rattle.bs_words.specs.declared.types.Loc.TheVariants as loc
 use Rattle.bs_words.proofs.Lists.{none_in, first_in, later_in, in_cons, mapped}
-use Rattle.mach_ir.specs.Acts.{Target, On, At}
-use Rattle.mach_ir.specs.Meaning.{Destroyed, Nothing, Temporaries, Everything, destroyed_by, is_destroyed, same_colour, is_at_one_of, killed_among, killed_by, killed, passes_frame, after_label, from_handler, code_at, tries_at, tries_past}
+use Rattle.mach_ir.specs.Meaning.{Destroyed, Nothing, Temporaries, Everything, destroyed_by, is_destroyed, same_colour, is_at_one_of, killed_among, killed_by, killed}
 use Rattle.mach_ir.specs.Placed.{colours, WellPlaced}
-use Rattle.mach_ir.specs.Walks.{Among, first, later, OneOf, targets, may_raise, goes, raises, Reached, at_entry, by_step, by_raise, Writes, Live, read, on, aside, LiveAfter, after_step, LiveAcross, across_step, across_raise, IsRegister, is_colour, is_in_code, Stands, NoAddrLive, IsMove, is_move, Meets, at_write, at_params, Joined, one_way, other_way}
+use Rattle.mach_ir.specs.Walks.{Among, first, later, goes, Writes, Live, read, on, aside, LiveAfter, after_step, LiveAcross, across_step, across_raise, IsRegister, is_colour, is_in_code, Stands, NoAddrLive, IsMove, is_move, Meets, at_write, at_params, Joined, one_way, other_way}
 use Rattle.mach_ir.specs.declared.reg.Reg.{Reg}
 use Rattle.mach_ir.specs.declared.mach.Instr.{Instr}
 use Rattle.mach_ir.specs.declared.mach.Mach.{Mach}
-use Rattle.mach_laws.specs.Expand.{Ending, all}
-use Rattle.mach_laws.proofs.Places.{ending_next, ending_label, ending_from_handler, stands_of, ending_of, results_in}
+use Rattle.mach_laws.specs.Expand.{expand, Ending, all}
+use Rattle.mach_laws.proofs.InPlace as text
+use Rattle.mach_laws.proofs.InPlace.{was_main}
+use Rattle.mach_laws.proofs.Places.{stands_of, ending_of, results_in}
 use Rattle.mach_laws.proofs.Among.{left_among, right_among, split_among, among_of}
 use Rattle.places_rules.specs.Places.{Placing, IsPlacing, placed, all_placed, placed_instr, placed_code, with_places}
 use Rattle.places_rules.proofs.Open.{machine_open, machine_slot}
 use Rattle.places_rules.proofs.Lists.{was}
-use Rattle.places_rules.proofs.Text.{same_label, same_handler, was_register, was_at}
-use Rattle.places_rules.proofs.Instructions.{among_there, among_back}
+use Rattle.places_rules.proofs.Text.{was_register}
+use Rattle.places_rules.proofs.Instructions.{among_there, among_back, again, same_ops, alone, as_expanded}
 
 -- ---- colours
 
@@ -251,81 +252,46 @@ module _ (m : Mach) (place : Placing) (well : WellPlaced m) (is : IsPlacing m pl
 
   -- ---- walks
 
-  -- a code that the function ends with, and the same code placed
-  pub data Laid : List Instr → List Instr → Type 0 where
-    laid_end : Laid [] []
-    laid : {i : Instr} {next ys : List Instr} → Ending (i ∷ next) m.code → Laid next ys →
-        Laid (i ∷ next) (placed_instr place i ∷ ys)
+  code_is : (with_places place m).code ≡ expand (alone place) m.code
+  code_is = as_expanded place m.code
 
-  laid_of : (code : List Instr) → Ending code m.code → Laid code (placed_code place code)
-  laid_of [] e = laid_end
-  laid_of (i ∷ is) e = laid e (laid_of is (ending_next e))
+  -- what it does not write now it did not write, as far as it is live then
+  free_before : {n : ℕ} {i : Instr} {next : List Instr} → Ending (i ∷ next) m.code → LiveAfter m n i next →
+      (Writes q (placed_instr place i) n → ⊥) → Writes m i n → ⊥
+  free_before e v free = λ w. free (still_written (stands_of e) v w)
 
-  laid_tries : {rest ys : List Instr} → Laid rest ys → tries_at ys ≡ tries_at rest
-  laid_tries laid_end = refl
-  laid_tries (laid {i = i} e h) = ap (tries_past i.op) (laid_tries h)
-
-  laid_code : {rest ys : List Instr} → Laid rest ys → placed_code place rest ≡ ys
-  laid_code laid_end = refl
-  laid_code (laid {i = i} e h) = ap (λ xs. placed_instr place i ∷ xs) (laid_code h)
-
-  laid_at : {next ys : List Instr} (t : Target) → Laid next ys → Laid (code_at m.code next t) (code_at q.code ys t)
-  laid_at On h = h
-  laid_at (At l) h =
-      subst (Laid (after_label l m.code)) (sym (same_label place l m.code)) (laid_of (after_label l m.code) (ending_label l m.code))
-
-  laid_handler : (l : ℕ) → Laid (from_handler l m.code) (from_handler l q.code)
-  laid_handler l =
-      subst (Laid (from_handler l m.code)) (sym (same_handler place l m.code))
-      (laid_of (from_handler l m.code) (ending_from_handler l m.code))
-
-  read_back : {n : ℕ} {j : Instr} {rest ys : List Instr} → Laid rest (j ∷ ys) → Among n j.args → Live m n rest
-  read_back (laid {i = i} e h) a = read (among_back place i.args a)
-
-  on_now : {n : ℕ} {i : Instr} {next : List Instr} (t : Target) → Ending (i ∷ next) m.code →
-      (Writes q (placed_instr place i) n → ⊥) → OneOf t (targets i.op) → Live m n (code_at m.code next t) → Live m n (i ∷ next)
-  on_now t e w o v = on (λ a. w (still_written (stands_of e) (after_step (goes t o) v) a)) (goes t o) v
-
-  on_back : {n : ℕ} {j : Instr} {rest ys : List Instr} (t : Target) → Laid rest (j ∷ ys) → (Writes q j n → ⊥) →
-      OneOf t (targets j.op) → ((z : List Instr) → Laid z (code_at q.code ys t) → Live m n z) → Live m n rest
-  on_back t (laid {next = next} e h) w o ih = on_now t e w o (ih (code_at m.code next t) (laid_at t h))
-
-  aside_back : {n : ℕ} {j : Instr} {rest ys : List Instr} (l : ℕ) (tries : List ℕ) → Laid rest (j ∷ ys) →
-      may_raise j.op ≡ true → tries_at (j ∷ ys) ≡ l ∷ tries →
-      ((z : List Instr) → Laid z (from_handler l q.code) → Live m n z) → Live m n rest
-  aside_back l tries (laid e h) r s ih =
-      aside (raises r (sym (laid_tries (laid e h)) ∙ s)) (ih (from_handler l m.code) (laid_handler l))
-
-  live_back : {n : ℕ} {ys : List Instr} → Live q n ys → (rest : List Instr) → Laid rest ys → Live m n rest
-  live_back (read a) rest h = read_back h a
-  live_back (on w (goes t o) v) rest h = on_back t h w o (λ z k. live_back v z k)
-  live_back (aside (raises {l = l} {tries = tries} r e) v) rest h = aside_back l tries h r e (λ z k. live_back v z k)
+  carries : text.Carries (again place) (same_ops place) m q code_is (Live m)
+  carries =
+      record {
+        reads = λ n i next e a. read (among_back place i.args a);
+        steps = λ n i next t e free o v. on (free_before e (after_step (goes t o) v) free) (goes t o) v;
+        rises = λ n i next l r v. aside r v;
+      }
 
   -- what is live there was live
   pub live_before : {n : ℕ} {code : List Instr} → Ending code m.code → Live q n (placed_code place code) → Live m n code
-  live_before {code = code} e v = live_back v code (laid_of code e)
+  live_before {code = code} e v =
+      text.live_back (again place) (same_ops place) m q code_is (Live m) carries v code e (as_expanded place code)
+
+  -- the same of what follows an instruction
+  there : (P : Instr → List Instr → Type 0) {j : Instr} {ys : List Instr} (i : Instr) (next : List Instr) →
+      placed_instr place i ≡ j → placed_code place next ≡ ys → P j ys → P (placed_instr place i) (expand (alone place) next)
+  there P {j} i next e h p =
+      subst (λ (j : Instr). P j (expand (alone place) next)) (sym e)
+      (subst (P j) (sym h ∙ as_expanded place next) p)
 
   after_back : {n : ℕ} {j : Instr} {ys : List Instr} (i : Instr) (next : List Instr) → Ending (i ∷ next) m.code →
       placed_instr place i ≡ j → placed_code place next ≡ ys → LiveAfter q n j ys → LiveAfter m n i next
-  after_back i next ending e h (after_step (goes t o) v) =
-      after_step (goes t (subst (λ (i : Instr). OneOf t (targets i.op)) (sym e) o))
-      (live_back v (code_at m.code next t) (laid_at t (subst (Laid next) h (laid_of next (ending_next ending)))))
+  after_back {n} i next ending e h v =
+      text.after_back (again place) (same_ops place) m q code_is (Live m) carries ending (λ t o v. after_step (goes t o) v)
+      (there (LiveAfter q n) i next e h v)
 
   pub across_back : {n : ℕ} {j : Instr} {ys : List Instr} (i : Instr) (next : List Instr) → Ending (i ∷ next) m.code →
       placed_instr place i ≡ j → placed_code place next ≡ ys → LiveAcross q n j ys → LiveAcross m n i next
-  across_back {n} i next ending e h (across_step w (goes t o) v) =
-      let at : OneOf t (targets i.op) = subst (λ (i : Instr). OneOf t (targets i.op)) (sym e) o in
-      let live = live_back v (code_at m.code next t) (laid_at t (subst (Laid next) h (laid_of next (ending_next ending)))) in
-      across_step
-      (λ a. w (subst (λ (j : Instr). Writes q j n) e (still_written (stands_of ending) (after_step (goes t at) live) a)))
-      (goes t at) live
-  across_back {n} {j} {ys} i next ending e h (across_raise (raises {l = l} {tries = tries} r s) v) =
-      across_raise
-      (raises (subst (λ (i : Instr). may_raise i.op ≡ true) (sym e) r)
-      (sym (laid_tries (laid ending (laid_of next (ending_next ending))))
-      ∙ subst (λ (x : Instr). tries_at (x ∷ placed_code place next) ≡ l ∷ tries) (sym e)
-      (subst (λ xs. tries_at (j ∷ xs) ≡ l ∷ tries) (sym h) s)))
-      (live_back v (from_handler l m.code) (laid_handler l))
+  across_back {n} i next ending e h v =
+      text.across_back (again place) (same_ops place) m q code_is (Live m) carries ending
+      (λ t free o v. across_step (free_before ending (after_step (goes t o) v) free) (goes t o) v)
+      (λ l r v. across_raise r v) (there (LiveAcross q n) i next e h v)
 
   -- ---- the graph
 
@@ -334,9 +300,9 @@ module _ (m : Mach) (place : Placing) (well : WellPlaced m) (is : IsPlacing m pl
 
   meets_back : {n k : ℕ} → Meets q n k → Meets m n k
   meets_back {n} {k} (at_write j ys s w v apart) =
-      let o = was_at place m.code s in
-      at_write o.instr o.after o.stands (fewer_written o.stands (subst (λ (j : Instr). Writes q j n) (sym o.same) w))
-      (after_back o.instr o.after (ending_of o.stands) o.same o.same_after v)
+      let o = was_main (again place) m.code j ys (subst (Stands j ys) code_is s) in
+      at_write o.instr o.next o.stands (fewer_written o.stands (subst (λ (j : Instr). Writes q j n) (sym o.same) w))
+      (after_back o.instr o.next (ending_of o.stands) o.same (as_expanded place o.next ∙ sym o.same_next) v)
       (λ move. apart (subst (IsMove k n) o.same (move_there move)))
   meets_back (at_params a v) = at_params (among_back place m.params a) (live_before all v)
 
@@ -347,53 +313,11 @@ module _ (m : Mach) (place : Placing) (well : WellPlaced m) (is : IsPlacing m pl
 
   -- ---- places that are reached
 
-  record WasReached (ys : List Instr) : Type 0 where
-    rest : List Instr
-    laid_so : Laid rest ys
-    reached : Reached m rest
-
-  step_back : {j : Instr} {rest ys : List Instr} (t : Target) → Laid rest (j ∷ ys) → OneOf t (targets j.op) →
-      Reached m rest → WasReached (code_at q.code ys t)
-  step_back t (laid {next = next} e h) o r =
-      record { rest = code_at m.code next t; laid_so = laid_at t h; reached = by_step r (goes t o) }
-
-  raise_back : {j : Instr} {rest ys : List Instr} (l : ℕ) (tries : List ℕ) → Laid rest (j ∷ ys) →
-      may_raise j.op ≡ true → tries_at (j ∷ ys) ≡ l ∷ tries → Reached m rest → WasReached (from_handler l q.code)
-  raise_back l tries (laid e h) r s reached =
-      record {
-        rest = from_handler l m.code;
-        laid_so = laid_handler l;
-        reached = by_raise reached (raises r (sym (laid_tries (laid e h)) ∙ s));
-      }
-
-  was_reached : {ys : List Instr} → Reached q ys → WasReached ys
-  was_reached at_entry = record { rest = m.code; laid_so = laid_of m.code all; reached = at_entry }
-  was_reached (by_step r (goes t o)) = let w = was_reached r in step_back t w.laid_so o w.reached
-  was_reached (by_raise r (raises {l = l} {tries = tries} b e)) =
-      let w = was_reached r in raise_back l tries w.laid_so b e w.reached
-
-  record IsLaid (rest : List Instr) (j : Instr) (ys : List Instr) : Type 0 where
-    instr : Instr
-    after : List Instr
-    whole : instr ∷ after ≡ rest
-    ending : Ending (instr ∷ after) m.code
-    same : placed_instr place instr ≡ j
-    same_after : placed_code place after ≡ ys
-
-  is_laid : {rest ys : List Instr} {j : Instr} → Laid rest (j ∷ ys) → IsLaid rest j ys
-  is_laid (laid {i = i} {next = next} e h) =
-      record { instr = i; after = next; whole = refl; ending = e; same = refl; same_after = laid_code h }
-
   pub no_addr_before : NoAddrLive m → NoAddrLive (with_places place m)
   no_addr_before none =
-      record {
-        none = λ j ys reached frame r is addr v.
-            let w = was_reached reached in
-            let k = is_laid w.laid_so in
-            let x = was_register place m r is in
-            none.none k.instr k.after (subst (Reached m) (sym k.whole) w.reached)
-            (subst (λ (i : Instr). passes_frame i.op ≡ true) (sym k.same) frame) x.register x.among
-            (ap (λ (r : Reg). r.comp) x.same ∙ addr)
-            (subst (λ n. LiveAcross m n k.instr k.after) (sym (ap (λ (r : Reg). r.number) x.same))
-            (across_back k.instr k.after k.ending k.same k.same_after v));
-      }
+      text.no_addr_back (again place) (same_ops place) m q code_is
+      (λ i next ending reached frame r is addr v.
+      let x = was_register place m r is in
+      none.none i next reached frame x.register x.among (ap (λ (r : Reg). r.comp) x.same ∙ addr)
+      (subst (λ n. LiveAcross m n i next) (sym (ap (λ (r : Reg). r.number) x.same))
+      (across_back i next ending refl (as_expanded place next) v)))

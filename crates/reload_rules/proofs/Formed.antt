@@ -18,8 +18,7 @@ use Rattle.mach_ir.specs.declared.mach.Mark.TheVariants as mark
 use Rattle.mach_ir.specs.declared.mach.MachOp.TheVariants as mach
 use Rattle.mach_ir.specs.declared.mach.Instr.{Instr}
 use Rattle.mach_ir.specs.declared.mach.Mach.{Mach}
-use Rattle.mach_laws.proofs.Places.{label_expand, handler_expand, tries_expand, results_in}
-use Rattle.spill_rules.proofs.Known.{contains_of}
+use Rattle.mach_laws.proofs.Places.{label_expand, handler_expand, tries_expand, results_in, contains_of}
 use Rattle.spill_rules.specs.Spilled.{copied}
 use Rattle.spill_rules.proofs.Formed.{one_distinct}
 use Rattle.bs_words.proofs.Lists.{first_in, later_in}

@@ -4,7 +4,7 @@ use Rattle.std.proofs.Common.{◌≡◌, ℕ, suc, ◌<◌, ◌≤◌, Bool, tru
 use Rattle.std.proofs.lemmas.Bool.{cases_Bool, eq-eqb, eqb-true, both_ways}
 use Rattle.std.specs.List.{Contains}
 use Rattle.std.specs.Prelude.{nat_eq}
-use Rattle.std.proofs.lemmas.Option.{none-some, same_Some}
+use Rattle.std.proofs.lemmas.Option.{none-some}
 use Rattle.std.proofs.lemmas.List.Elements.{All-contains}
 use Rattle.bs_words.specs.Fits.{fits, type_of_comp}
 use Rattle.bs_words.specs.Memory.{Memory}
@@ -13,12 +13,11 @@ use Rattle.bs_words.proofs.Lists.{none_in, in_cons, head_same, tail_same}
 use Rattle.mach_ir.specs.Acts.{Around, Target, On, At, Landing, AtLabel, AtHandler, Act, Goes, Pushes, Jumps, Unwinds, Asks, Replaces, Ends, EndsRaising, Stuck}
 use Rattle.mach_ir.specs.Formed.{IsFormed, WellFormed, AreDistinct}
 use Rattle.mach_ir.specs.Placed.{WellPlaced}
-use Rattle.mach_ir.specs.Runs.{Place, Tally, Continues, entered}
-use Rattle.mach_ir.specs.Meaning.{Held, File, put, put_if, put_all, clear, killed, written, with_held, values, past_frame, passes_frame, is_handler_of, mach_act, after_label, from_handler, at_handler, code_at, tries_at, landing_code, wrote, on_values, step, run}
-use Rattle.mach_ir.specs.Walks.{Among, first, later, OneOf, this, targets, may_raise, goes, raises, Live, read, on, aside, LiveAcross, across_step, across_raise, IsRegister, is_param, is_colour, is_in_code, Stands}
+use Rattle.mach_ir.specs.Runs.{Place, Tally, entered}
+use Rattle.mach_ir.specs.Meaning.{Held, File, put, put_all, clear, killed, written, values, past_frame, passes_frame, is_handler_of, mach_act, after_label, from_handler, at_handler, code_at, tries_at, landing_code, run}
+use Rattle.mach_ir.specs.Walks.{Among, first, later, OneOf, targets, may_raise, goes, raises, Live, read, on, aside, LiveAcross, across_step, across_raise, IsRegister, is_colour, is_in_code, Stands}
 use Rattle.mach_ir.specs.Keeps.{ValsWritten, OriginsAgree, wrote_unless, Ahead, Trails, Proper, Comes, Does}
 use Rattle.mach_ir.proofs.Keeping.{level, level_trail}
-use Rattle.mach_ir.specs.declared.op.CopyKind.{CopyKind}
 use Rattle.mach_ir.specs.declared.op.CopyKind.TheVariants as copy
 use Rattle.mach_ir.specs.declared.mach.Mark.TheVariants as mark
 use Rattle.mach_ir.specs.declared.mach.MachOp.{MachOp}
@@ -29,18 +28,17 @@ use Rattle.mach_ir.specs.declared.mach.Mach.{Mach}
 use Rattle.mach_laws.specs.Expand.{Ending, expand}
 use Rattle.mach_laws.proofs.General as general
 use Rattle.mach_laws.proofs.General.{at}
-use Rattle.mach_laws.proofs.Leads.{IsTry, is_try, MayLand, lands_at_label, lands_at_handler, Within, goes_in, pushes_in, jumps_in, unwinds_in, asks_in, within}
+use Rattle.mach_laws.proofs.Leads.{IsTry, MayLand, lands_at_label, lands_at_handler, Within, goes_in, pushes_in, jumps_in, unwinds_in, asks_in, within, try_on}
 use Rattle.mach_laws.proofs.Level.{begins_at}
-use Rattle.mach_laws.proofs.Places.{ending_next, ending_label, ending_land, ending_from_handler, label_expand, handler_expand, stands_of, args_in, results_in}
+use Rattle.mach_laws.proofs.Places.{ending_next, ending_label, ending_land, label_expand, stands_of, results_in, contains_of, land_expand}
 use Rattle.mach_laws.proofs.Simulate.{Agrees}
-use Rattle.mach_laws.proofs.Among.{left_among, right_among, split_among, number_among, among_of}
+use Rattle.mach_laws.proofs.Among.{left_among, right_among, split_among, number_among, among_of, unless_among}
 use Rattle.mach_laws.proofs.Files.{put_other}
-use Rattle.places_rules.proofs.Files.{past_same, cleared, not_cleared, among_or_not, put_here, put_both}
-use Rattle.places_rules.proofs.Raised.{IsRaised, Told, told_jump, told_unwind, told_ask, IsSilent, told, label_silent, try_silent}
+use Rattle.mach_laws.proofs.Raised.{IsRaised, Told, told_jump, told_unwind, told_ask, IsSilent, told, label_silent, try_silent}
+use Rattle.places_rules.proofs.Files.{past_same, cleared, not_cleared, among_or_not, put_here}
 use Rattle.liveness.proofs.Bounds.{killed_is_colour}
-use Rattle.spill_rules.proofs.Known.{contains_of}
 use Rattle.spill_rules.specs.Spilled.{copied}
-use Rattle.spill_rules.proofs.Kept.{values_held, FitsIn, put_fits, put_holds, clear_fits, frame_fits}
+use Rattle.spill_rules.proofs.Holding.{values_held, FitsIn, put_fits, put_holds, clear_fits, frame_fits, live_register, fit_at_entry, agree_at_entry, copy_step, vals_copy}
 use Rattle.reload_rules.specs.Reloaded.{reads_registers, writes_registers, is_renewed, fresh, number_after, reloads, spills}
 use Rattle.reload_rules.proofs.Calm.{Calm, calm_go, calm_push, calm_label, calm_handler, calm_unwind, calm_ask, IsHandler, is_handler, calm, calm_at_handler}
 use Rattle.reload_rules.proofs.Files.{values_renewed, Apart, apart_of, PutsRenewed, put_renewed}
@@ -129,19 +127,8 @@ module _ (m : Mach) (s : ℕ → ℕ) (free top : ℕ) (formed : WellFormed m) (
       laid_results m s free top formed placed is i next (first_result i next) i.results (expand f next) ending
       (all_results m s free top formed placed is i next) (laid_of m s free top formed placed is next (ending_next ending))
 
-  -- what is live is a register
-  pub live_register : {n : ℕ} {rest : List Instr} → Live m n rest → Ending rest m.code → (r : Reg) × IsRegister m r × (r.number ≡ n)
-  live_register (read {i = i} a) e = let r = number_among i.args a in (r.0, is_in_code (args_in (stands_of e) r.1), r.2)
-  live_register (on w (goes On o) v) e = live_register v (ending_next e)
-  live_register (on w (goes (At l) o) v) e = live_register v (ending_label l m.code)
-  live_register (aside (raises {l = l} b r) v) e = live_register v (ending_from_handler l m.code)
-
   live_low : {n : ℕ} {rest : List Instr} → Live m n rest → Ending rest m.code → n < free
-  live_low v e = let u = live_register v e in subst (λ n. n < free) u.2 (is.above u.0 u.1)
-
-  unless_among : (o : Option Value) (us : List Reg) (x : ℕ) → Among x (wrote_unless o us) → Among x us
-  unless_among None us x a = a
-  unless_among (Some v) us x a = elim a [ ]
+  live_low v e = let u = live_register m v e in subst (λ n. n < free) u.2 (is.above u.0 u.1)
 
   wrote_all : (o : Option Value) → o ≡ None → (us : List Reg) (x : ℕ) → Among x us → Among x (wrote_unless o us)
   wrote_all o e us x a = subst (λ o. Among x (wrote_unless o us)) (sym e) a
@@ -153,22 +140,10 @@ module _ (m : Mach) (s : ℕ → ℕ) (free top : ℕ) (formed : WellFormed m) (
   is_code : q.code ≡ expand f m.code
   is_code = refl
 
-  handlers_same : (tries : List ℕ) → at_handler q.code tries ≡ expand f (at_handler m.code tries)
-  handlers_same [] = refl
-  handlers_same (l ∷ tries) = handler_expand f (keeps_marks s) l m.code
-
-  lands_same : (this_code that_code : List Instr) (to : Landing) → tries_at that_code ≡ tries_at this_code →
-      landing_code q.code that_code to ≡ expand f (landing_code m.code this_code to)
-  lands_same this_code that_code (AtLabel l) e = label_expand f (keeps_marks s) l m.code
-  lands_same this_code that_code AtHandler e = ap (at_handler q.code) e ∙ handlers_same (tries_at this_code)
-
   caught_live : {n : ℕ} {i : Instr} {next : List Instr} → may_raise i.op ≡ true → (tries : List ℕ) → tries_at (i ∷ next) ≡ tries →
       Live m n (at_handler m.code tries) → Live m n (i ∷ next)
   caught_live r [] e v = elim v [ ]
   caught_live r (l ∷ tries) e v = aside (raises r e) v
-
-  try_on : (g : MachOp) → IsTry g → OneOf On (targets g)
-  try_on g is_try = this
 
   module _ (c : Place) where
     abbrev limit : ℕ
@@ -185,24 +160,6 @@ module _ (m : Mach) (s : ℕ → ℕ) (free top : ℕ) (formed : WellFormed m) (
       same : x ≡ y
       quiet : IsQuiet rest x
       holds : Holds rest a b
-
-    -- ---- copies
-
-    copy_step : (kind : CopyKind) (from to : Reg) (zs : List Instr) (b : File) (y : Around) (h : Held) → b from.number ≡ Some h →
-        fits limit (type_of_comp to.comp) h.value ≡ true →
-        step c q (at (copied kind from to ∷ zs) b y) ≡ Continues (at zs (put to h.value b) y)
-    copy_step kind from to zs b y h e fit =
-        ap (λ o. on_values c q (copied kind from to) zs b y (with_held o (Some []))) e
-        ∙ ap (λ t. wrote zs y (put_if t to h.value (Some b))) fit
-
-    vals_copy : (kind : CopyKind) (from to : Reg) (zs : List Instr) (b : File) (y : Around) →
-        ValsWritten q (at (copied kind from to ∷ zs) b y)
-    vals_copy kind from to zs b y =
-        record {
-          written = λ j ys e frame r one val v none.
-              absurd
-              (both_ways (passes_frame j.op) (ap (λ (i : Instr). passes_frame i.op) (sym (head_same e))) frame);
-        }
 
     -- ---- before an instruction
 
@@ -222,7 +179,7 @@ module _ (m : Mach) (s : ℕ → ℕ) (free top : ℕ) (formed : WellFormed m) (
     reads_of : (i : Instr) (next : List Instr) (n : ℕ) (rs : List Reg) (a b : File) → Ending (i ∷ next) m.code → HoldsReading i next n a b →
         (r : Reg) → IsRegister q r → Told_at r.number (Reading i next n rs) → Reads i next a b r
     reads_of i next n rs a b ending h r j (inl v) =
-        let u = live_register v ending in
+        let u = live_register m v ending in
         record {
           register = r;
           among = old_register m s free top formed placed is r u.0 j u.1 u.2;
@@ -298,10 +255,10 @@ module _ (m : Mach) (s : ℕ → ℕ) (free top : ℕ) (formed : WellFormed m) (
                     more.file)
                     (sym t)
                     (general.passes
-                    (copy_step copy.Reload r (fresh n r) (reloads (reads_registers i.op) (suc n) rs ++ tail) b y h
+                    (copy_step c q copy.Reload r (fresh n r) (reloads (reads_registers i.op) (suc n) rs ++ tail) b y h
                     (sym ((holds.holds).itself r.number (read among)) ∙ (held r.number among).1)
                     (subst (λ t. fits limit (type_of_comp t) h.value ≡ true) fits_so.0 fits_so.1))
-                    (vals_copy copy.Reload r (fresh n r) (reloads (reads_registers i.op) (suc n) rs ++ tail) b y)
+                    (vals_copy c q copy.Reload r (fresh n r) (reloads (reads_registers i.op) (suc n) rs ++ tail) b y)
                     (λ u.
                     agree_reading i next (reloads (reads_registers i.op) (suc n) rs ++ tail) (suc n) rs (wrote_unless y.raised (fresh n r ∷ [])) a b1 y
                     ending
@@ -413,7 +370,7 @@ module _ (m : Mach) (s : ℕ → ℕ) (free top : ℕ) (formed : WellFormed m) (
           of_live : (r : Reg) → IsRegister q r → Told_at r.number (Storing i next n rs) → Stores i next d e y r
           of_live r j (inl (is_result w g le)) = of_result i next d e y ending quiet r j w g (holds.made r.number w g le)
           of_live r j (inr g) =
-              let u = live_register g.0 (ending_next ending) in
+              let u = live_register m g.0 (ending_next ending) in
               record {
                 register = r;
                 among = old_register m s free top formed placed is r u.0 j u.1 u.2;
@@ -473,10 +430,10 @@ module _ (m : Mach) (s : ℕ → ℕ) (free top : ℕ) (formed : WellFormed m) (
                     (expand f next) e more.file)
                     (sym t)
                     (general.passes
-                    (copy_step copy.Spill (fresh n r) r (spills (writes_registers i.op) (suc n) rs ++ expand f next) e y h
+                    (copy_step c q copy.Spill (fresh n r) r (spills (writes_registers i.op) (suc n) rs ++ expand f next) e y h
                     (sym (holds.made n r made_here (omega arith)) ∙ holds_h)
                     (subst (λ t. fits limit (type_of_comp t) h.value ≡ true) fits_so.0 fits_so.1))
-                    (vals_copy copy.Spill (fresh n r) r (spills (writes_registers i.op) (suc n) rs ++ expand f next) e y)
+                    (vals_copy c q copy.Spill (fresh n r) r (spills (writes_registers i.op) (suc n) rs ++ expand f next) e y)
                     (λ agreed.
                     agree_storing i next (spills (writes_registers i.op) (suc n) rs ++ expand f next) (suc n) rs (wrote_unless y.raised (r ∷ []))
                     d e1 y ending
@@ -642,7 +599,7 @@ module _ (m : Mach) (s : ℕ → ℕ) (free top : ℕ) (formed : WellFormed m) (
                 IsRegister m r × Live m r.number rest
             here r j (inl v) =
                 let live = live_before m s free top formed placed is end_rest v in
-                let u = live_register live end_rest in (old_register m s free top formed placed is r u.0 j u.1 u.2, live)
+                let u = live_register m live end_rest in (old_register m s free top formed placed is r u.0 j u.1 u.2, live)
             here r j (inr z) = absurd (none r.number z)
 
         -- what the second writes, where the first writes nothing
@@ -784,7 +741,7 @@ module _ (m : Mach) (s : ℕ → ℕ) (free top : ℕ) (formed : WellFormed m) (
         lands to may y silent quiet agreed = (
           record { same = refl; quiet = quiet; holds = landed to may y agreed },
           subst (λ code. Agrees q (written q (main_for i next)) (at code b' y))
-              (sym (lands_same (i ∷ next) (main_for i next ∷ (post ++ expand f next)) to tries_so))
+              (sym (land_expand f (keeps_marks s) m.code (i ∷ next) (main_for i next ∷ (post ++ expand f next)) to tries_so))
               (agree_begins (landing_code m.code (i ∷ next) to) (written q (main_for i next)) a' b' y (ending_land to (i ∷ next) m.code)
               (landed to may y agreed) (none_written y.raised silent)),
         )
@@ -857,7 +814,7 @@ module _ (m : Mach) (s : ℕ → ℕ) (free top : ℕ) (formed : WellFormed m) (
                   subst (λ xs. LiveAcross q r.number (main_for i next) xs) (sym (tail_same e))
                   (subst (λ j. LiveAcross q r.number j ys) (sym head) v) in
                   let x = across_back m s free top formed placed is i next ending laid_main there in
-                  let u = live_register (live_of x) ending in
+                  let u = live_register m (live_of x) ending in
                   known.written i next refl (subst (λ (j : Instr). passes_frame j.op ≡ true) (sym head) frame) r
                   (old_register m s free top formed placed is r u.0 one u.1 u.2) val x
                   ((reading.holds).itself r.number (live_of x) ∙ none);
@@ -911,30 +868,9 @@ module _ (m : Mach) (s : ℕ → ℕ) (free top : ℕ) (formed : WellFormed m) (
     at_entry vs a e =
         record {
           itself = λ n v. refl;
-          fit = λ r j.
-              put_fits limit m.params vs (λ n. None) a e r (λ k z g. formed.numbers k r (is_param z) j g) (λ h g. absurd (none-some _ g));
-          agree = λ r k i j origin v w x y g h.
-              let same : r ≡ k = one_param r k i j origin x y g h in
-              ap (λ (h : Held). h.value) (same_Some _ _ (sym g ∙ ap (λ (r : Reg). a r.number) same ∙ h));
+          fit = fit_at_entry m formed limit vs a e;
+          agree = λ r k i j origin v w x y g h. agree_at_entry m formed limit vs a e r k i j origin x y g h;
         }
-      where
-        unwritten_one : (n : ℕ) → (Among n m.params → ⊥) → a n ≡ None
-        unwritten_one n none = (put_both limit m.params vs (λ n. None) (λ n. None) a e).others n none
-
-        -- what holds something is a parameter, made from no other register
-        own_origin : (r : Reg) → IsRegister m r → (x : Held) → a r.number ≡ Some x → r.origin ≡ r.number
-        own_origin r i x g =
-            ⊎_elim
-            (λ z.
-            let p = number_among m.params z in
-            let same = formed.numbers p.0 r (is_param p.1) i p.2 in
-            subst (λ (r : Reg). r.origin ≡ r.number) same (All-contains (λ (r : Reg). r.origin ≡ r.number) m.params p.0 formed.params p.1))
-            (λ none. absurd (none-some _ (sym (unwritten_one r.number none) ∙ g))) (among_or_not r.number m.params)
-
-        one_param : (r k : Reg) → IsRegister m r → IsRegister m k → r.origin ≡ k.origin → (x y : Held) → a r.number ≡ Some x →
-            a k.number ≡ Some y → r ≡ k
-        one_param r k i j origin x y g h =
-            formed.numbers r k i j (sym (own_origin r i x g) ∙ origin ∙ own_origin k j y h)
 
     linked_entry : (vs : List Value) (a : File) (memory : Memory) → put_all limit m.params vs (λ n. None) ≡ Some a →
         Linked m.code (entered memory) (entered memory) a a

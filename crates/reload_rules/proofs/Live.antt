@@ -15,10 +15,9 @@ use Rattle.mach_ir.specs.declared.reg.Reg.{Reg}
 use Rattle.mach_ir.specs.declared.mach.Instr.{Instr}
 use Rattle.mach_ir.specs.declared.mach.Mach.{Mach}
 use Rattle.mach_laws.specs.Expand.{expand, Ending}
-use Rattle.mach_laws.proofs.Places.{label_expand, handler_expand, ending_next, ending_label, ending_from_handler, stands_of}
+use Rattle.mach_laws.proofs.Places.{label_expand, handler_expand, ending_next, ending_label, ending_from_handler, stands_of, contains_of}
 use Rattle.mach_laws.proofs.Among.{left_among, right_among, split_among, number_among, among_of}
-use Rattle.places_rules.proofs.Raised.{label_silent}
-use Rattle.spill_rules.proofs.Known.{contains_of}
+use Rattle.mach_laws.proofs.Raised.{label_silent}
 use Rattle.spill_rules.specs.Spilled.{copied}
 use Rattle.bs_words.proofs.Lists.{none_in, in_cons}
 use Rattle.reload_rules.specs.Reloaded.{reads_registers, writes_registers, is_renewed, fresh, number_after, number_past, reloads, spills, results_from, past_instr, renewed_instr}

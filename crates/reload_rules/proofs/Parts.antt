@@ -15,8 +15,7 @@ use Rattle.mach_ir.specs.declared.mach.MachOp.TheVariants as mach
 use Rattle.mach_ir.specs.declared.mach.Instr.{Instr}
 use Rattle.mach_ir.specs.declared.mach.Mach.{Mach}
 use Rattle.mach_laws.specs.Expand.{expand}
-use Rattle.mach_laws.proofs.Places.{ending_next, tries_expand, ending_of}
-use Rattle.spill_rules.proofs.Known.{stands_in}
+use Rattle.mach_laws.proofs.Places.{ending_next, tries_expand, ending_of, stands_in}
 use Rattle.spill_rules.specs.Spilled.{copied}
 use Rattle.bs_words.proofs.Lists.{none_in, first_in, later_in, in_cons}
 use Rattle.reload_rules.specs.Reloaded.{reads_registers, writes_registers, is_renewed, fresh, number_after, reloads, spills}

@@ -17,16 +17,16 @@ use Rattle.mach_ir.specs.declared.mach.MachOp.{MachOp}
 use Rattle.mach_ir.specs.declared.mach.Instr.{Instr}
 use Rattle.mach_ir.specs.declared.mach.Mach.{Mach}
 use Rattle.mach_laws.specs.Expand.{expand, Ending, all}
-use Rattle.mach_laws.proofs.Places.{label_expand, handler_expand, ending_label, ending_from_handler}
+use Rattle.mach_laws.proofs.Places.{label_expand, handler_expand, ending_label, ending_from_handler, contains_of}
 use Rattle.pass_rules.specs.Measures.{other_operands}
 use Rattle.places_rules.specs.Places.{IsSlot}
 use Rattle.places_rules.proofs.Open.{slot_open}
-use Rattle.spill_rules.proofs.Known.{contains_of}
 use Rattle.spill_rules.specs.Spilled.{copied}
+use Rattle.spill_rules.proofs.Holding.{live_register}
 use Rattle.reload_rules.specs.Kept.{with_copies}
 use Rattle.reload_rules.specs.Reloaded.{reads_registers, writes_registers, is_in_slot, is_renewed, fresh, number_after, renewed, any_renewed, needs_registers, any_needs}
 use Rattle.reload_rules.proofs.Copies.{code_instrs, code_operands}
-use Rattle.reload_rules.proofs.Kept.{live_register, does_reloaded}
+use Rattle.reload_rules.proofs.Kept.{does_reloaded}
 use Rattle.reload_rules.proofs.Live.{IsNumbering, reloaded_by, Stage, Before, Reading, Storing, Laid, begins, reload, passes_operand, main, spill, passes_result, ends, laid_of, laid_tries, across_back}
 use Rattle.reload_rules.proofs.Parts.{first_operand, first_result, main_for, spills_for, laid_out, IsCopy, is_copy, main_op, part_in}
 use Rattle.reload_rules.proofs.Registers.{WasRegister, is_old, is_new, made_register, made_slot, made_top, was_register, old_register}
@@ -200,7 +200,7 @@ module _ (m : Mach) (s : ℕ → ℕ) (free top : ℕ) (formed : WellFormed m) (
             let p = frame_main k.stage k.laid k.reached frame in
             let x = across_back m s free top formed placed is p.instr p.next p.ending p.laid
             (subst (λ j. LiveAcross q r.number j ys) (sym p.same) v) in
-            let u = live_register m s free top formed placed is (live_of x) p.ending in
+            let u = live_register m (live_of x) p.ending in
             none.none p.instr p.next p.reached (subst (λ (j : Instr). passes_frame j.op ≡ true) (sym p.same) frame) r
             (old_register m s free top formed placed is r u.0 one u.1 u.2) addr x;
       }

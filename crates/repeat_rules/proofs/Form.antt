@@ -21,11 +21,11 @@ use Rattle.mach_ir.specs.declared.mach.MachOp.TheVariants as mach
 use Rattle.mach_ir.specs.declared.mach.Instr.{Instr}
 use Rattle.mach_ir.specs.declared.mach.Mach.{Mach}
 use Rattle.mach_laws.specs.Expand.{expand, KeepsMarks}
-use Rattle.mach_laws.proofs.Places.{args_in, results_in}
-use Rattle.combine_rules.proofs.Known.{contains_of, stands_in}
+use Rattle.mach_laws.proofs.Places.{args_in, results_in, contains_of, stands_in}
 use Rattle.repeat_rules.specs.Repeated.{is_operator, Repeats, from_earlier, again, in_place, IsBefore, IsRepeated, IsFormKept}
-use Rattle.repeat_rules.proofs.OneForOne as one
-use Rattle.repeat_rules.proofs.OneForOne.{in_append, in_front, in_code_stands, IsPure, is_pure, same_op, both_pure, StandsFor, IsMain, was_main, each_in, all_in, before_of, same_length, same_labels}
+use Rattle.mach_laws.proofs.InPlace as text
+use Rattle.mach_laws.proofs.InPlace.{AreAlike, IsPure, is_pure, same_op, both_pure, IsMain, was_main, each_in, all_in, same_labels}
+use Rattle.repeat_rules.proofs.OneForOne.{in_append, in_front, in_code_stands, StandsFor, before_of, same_length}
 
 -- ---- operators
 
@@ -107,8 +107,11 @@ module _ (plan : ℕ → Option Reg) where
       by (unchanged e h) = subst (StandsFor i) (sym e) (record { op = same_op refl; results = refl })
       by (moved r g h e) = subst (StandsFor i) (sym e) (record { op = both_pure (operator_pure i.op g) is_pure; results = refl })
 
+  pub same_ops : (k : ℕ) (i : Instr) → AreAlike i.op (again plan k i).op
+  same_ops k i = (alike k i).op
+
   pub keeps_marks : KeepsMarks (in_place plan)
-  keeps_marks = one.keeps_marks (again plan) alike
+  keeps_marks = text.keeps_marks (again plan) same_ops
 
   -- ---- sizes
 
@@ -279,11 +282,11 @@ module _ (m : Mach) (plan : ℕ → Option Reg) where
               either_way plan (λ (i : Instr). AreDistinct i.results) (length next) i d (λ r. d));
           returns = each_in (again plan) m.code (λ j. j.op ≡ mach.Op (op.Leaving leaving.Return) → comps j.args ≡ results_of m.result)
               (λ i next s. returns_same (length next) i (contains_of s));
-          labels_once = subst (λ ls. AllPairs (λ k l. k ≢ l) ls) (sym (same_labels (again plan) (alike plan) m.code)) formed.labels_once;
-          labels_below = subst (λ ls. All (λ l. l < m.labels) ls) (sym (same_labels (again plan) (alike plan) m.code)) formed.labels_below;
-          labels = one.labels_stand (again plan) (alike plan) m formed;
-          nested = one.nested (again plan) (alike plan) m formed;
-          cases = one.cases (again plan) (alike plan) m formed;
+          labels_once = subst (λ ls. AllPairs (λ k l. k ≢ l) ls) (sym (same_labels (again plan) (same_ops plan) m.code)) formed.labels_once;
+          labels_below = subst (λ ls. All (λ l. l < m.labels) ls) (sym (same_labels (again plan) (same_ops plan) m.code)) formed.labels_below;
+          labels = text.labels_stand (again plan) (same_ops plan) m q refl formed.labels;
+          nested = text.nested (again plan) (same_ops plan) m q refl formed.nested;
+          cases = text.cases (again plan) (same_ops plan) m q refl formed.cases;
         }
 
     still_seated : Seated m → Seated q

@@ -27,8 +27,8 @@ use Rattle.mach_laws.proofs.Simulate.{Agrees}
 use Rattle.repeat_rules.specs.Kept.{OwnOrigins}
 use Rattle.repeat_rules.specs.Repeated.{is_operator, allocates, Repeats, from_earlier, again, in_place, with_moves, IsBefore}
 use Rattle.repeat_rules.proofs.OneForOne as one
-use Rattle.repeat_rules.proofs.OneForOne.{frame_same}
-use Rattle.repeat_rules.proofs.Form.{Fate, unchanged, moved, fate, alike, keeps_marks, was_register}
+use Rattle.mach_laws.proofs.InPlace.{frame_same}
+use Rattle.repeat_rules.proofs.Form.{Fate, unchanged, moved, fate, alike, same_ops, keeps_marks, was_register}
 use Rattle.repeat_rules.proofs.Acting.{Grown, GoesOn, is_stuck, goes_on, straight_on, as_it_was}
 use Rattle.repeat_rules.proofs.Held.{Holding, Holds, holds_next, calm}
 use Rattle.repeat_rules.proofs.Live.{Stood, across_back}
@@ -61,7 +61,7 @@ module _ (m : Mach) (plan : ℕ → Option Reg) (own : OwnOrigins m)
         record {
           written = λ j ys e frame r one val v none.
               by r (was_register m plan moves r one) val
-              (sym (frame_same (again plan) (alike plan) (length next) i) ∙ ap (λ (z : Instr). passes_frame z.op) (head_same e) ∙ frame) none
+              (sym (frame_same (again plan) (same_ops plan) (length next) i) ∙ ap (λ (z : Instr). passes_frame z.op) (head_same e) ∙ frame) none
               (across_back m plan moves ending
               (subst (λ ys. LiveAcross q r.number (again plan (length next) i) ys) (sym (tail_same e))
               (subst (λ (z : Instr). LiveAcross q r.number z ys) (sym (head_same e)) v)));

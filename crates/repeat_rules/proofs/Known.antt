@@ -1,3 +1,2 @@
 -- Laws and words of crates below, named again for the crates above.
 pub use Rattle.combine_rules.proofs.Files.{frame_loses}
-pub use Rattle.combine_rules.proofs.Known.{contains_of, stands_in}

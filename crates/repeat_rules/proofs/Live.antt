@@ -15,7 +15,8 @@ use Rattle.mach_laws.proofs.Places.{stands_of, ending_of, results_in}
 use Rattle.mach_laws.proofs.Among.{none_among, left_among, split_among, number_among, among_of}
 use Rattle.repeat_rules.specs.Repeated.{is_operator, allocates, Ends, Repeats, again, in_place, with_moves, IsBefore}
 use Rattle.repeat_rules.proofs.OneForOne as one
-use Rattle.repeat_rules.proofs.OneForOne.{in_append, in_front, was_main, written_same}
+use Rattle.mach_laws.proofs.InPlace.{was_main}
+use Rattle.repeat_rules.proofs.OneForOne.{in_append, in_front, written_same}
 use Rattle.repeat_rules.proofs.Form.{Fate, unchanged, moved, fate, alike, operator_result, was_register}
 use Rattle.repeat_rules.proofs.Standing.{operator_straight, straight_kills, straight_frame, Standing, Earlier, just_now, earlier, earlier_of, not_at_entry, not_at_label, not_at_handler, repeated}
 

@@ -21,8 +21,9 @@ use Rattle.mach_ir.specs.declared.mach.Instr.{Instr}
 use Rattle.mach_ir.specs.declared.mach.Mach.{Mach}
 use Rattle.mach_laws.specs.Expand.{Ending, expand}
 use Rattle.repeat_rules.specs.Repeated.{is_operator, allocates, Ends, StillStands, Repeats, again, in_place, with_moves, IsBefore}
-use Rattle.repeat_rules.proofs.OneForOne.{in_append, in_front, of_pure, op_same, Made, made_to, before_of}
-use Rattle.repeat_rules.proofs.Form.{operator_pure, Fate, unchanged, moved, fate, alike}
+use Rattle.mach_laws.proofs.InPlace.{of_pure, op_same}
+use Rattle.repeat_rules.proofs.OneForOne.{in_append, in_front, Made, made_to, before_of}
+use Rattle.repeat_rules.proofs.Form.{operator_pure, Fate, unchanged, moved, fate, alike, same_ops}
 use Rattle.repeat_rules.proofs.Runs as run
 use Rattle.repeat_rules.proofs.Runs.{Last, it_is, in_run, last_of, none_before, IsWithin}
 
@@ -169,12 +170,12 @@ module _ (m : Mach) (plan : ℕ → Option Reg) where
               absurd
               (both_ways (is_operator j.op) (ap (λ (y : Instr). is_operator y.op) (e ∙ h)) (w.stands).operates)
       of_since (stood s st apart ends kept) =
-          let straight : is_straight i.op ≡ true = sym (op_same (again plan) (alike plan) is_straight true (λ f. refl) (length next) i) ∙ st in
+          let straight : is_straight i.op ≡ true = sym (op_same (again plan) (same_ops plan) is_straight true (λ f. refl) (length next) i) ∙ st in
           let results : x.results ≡ i.results = (alike plan (length next) i).results in
           earlier (record { made = b.made; whole = b.whole; stands = s; begins = starts_straight straight }) straight
           (λ v k c. apart v k (subst (λ rs. Contains rs v) (sym results) c))
           (λ v c. ends v (subst (λ rs. Contains rs v) (sym results) c))
-          (λ e. sym (op_same (again plan) (alike plan) allocates false (λ f. refl) (length next) i) ∙ kept e)
+          (λ e. sym (op_same (again plan) (same_ops plan) allocates false (λ f. refl) (length next) i) ∙ kept e)
 
   -- nothing stands after what ends a straight run
   pub not_past : {i : Instr} {next : List Instr} → Ending (i ∷ next) m.code → is_straight i.op ≡ false → (j : Instr) (r : Reg) →

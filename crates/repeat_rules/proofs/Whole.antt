@@ -14,11 +14,11 @@ use Rattle.mach_ir.specs.declared.mach.MachOp.{MachOp}
 use Rattle.mach_ir.specs.declared.mach.MachOp.TheVariants as mach
 use Rattle.mach_ir.specs.declared.mach.Instr.{Instr}
 use Rattle.mach_ir.specs.declared.mach.Mach.{Mach}
-use Rattle.combine_rules.proofs.Known.{contains_of, stands_in}
 use Rattle.repeat_rules.specs.Kept.{OwnOrigins, IsKept}
 use Rattle.repeat_rules.specs.Repeated.{is_operator, same_place, Repeats, again, with_moves, IsBefore, IsRepeated, IsFormKept}
 use Rattle.repeat_rules.proofs.OneForOne as one
-use Rattle.repeat_rules.proofs.OneForOne.{was_main}
+use Rattle.mach_laws.proofs.InPlace.{was_main}
+use Rattle.mach_laws.proofs.Places.{contains_of, stands_in}
 use Rattle.repeat_rules.proofs.Form.{Fate, unchanged, moved, fate, alike, was_register, kept_by}
 use Rattle.repeat_rules.proofs.Kept.{does_repeated}
 use Rattle.repeat_rules.proofs.Live.{Apart, meets_back, no_addr_back}

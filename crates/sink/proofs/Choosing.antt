@@ -7,7 +7,7 @@ use Rattle.bs_bits.specs.Set.{has}
 use Rattle.bs_words.specs.Contents.{contents}
 use Rattle.bs_words.specs.declared.types.Loc.{Loc}
 use Rattle.bs_words.specs.declared.types.Loc.TheVariants as loc
-use Rattle.bs_words.proofs.Lists.{none_in}
+use Rattle.bs_words.proofs.Lists.{none_in, tail_same}
 use Rattle.dataflow.specs.Flow as flows
 use Rattle.dataflow.specs.Rows.{row}
 use Rattle.dataflow.specs.declared.flow.Flow as flow
@@ -27,7 +27,7 @@ use Rattle.mach_ir.specs.declared.mach.MachOp.{MachOp}
 use Rattle.mach_ir.specs.declared.mach.MachOp.TheVariants as mach
 use Rattle.mach_laws.specs.Graph.{place_of, numbers, next_places, raise_places, IsFlowOf}
 use Rattle.mach_laws.proofs.Places.{ending_next, stands_of, ending_of}
-use Rattle.mach_laws.proofs.Walking.{place_is}
+use Rattle.mach_laws.proofs.Walking.{place_is, among_numbers, in_numbers, place_back, place_within, ending_place}
 use Rattle.spill_rules.specs.Chosen.{LivesOver, lives}
 use Rattle.sink_rules.specs.Chosen.{IsSunkAt}
 use Rattle.sink_rules.specs.Walks.{Fresh, Stale}
@@ -49,7 +49,7 @@ use Rattle.sink.proofs.Running.{get_there, run_to, begin_of, begins_there, run_s
 use Rattle.sink.proofs.Moving.{Moved, moved, moves_at, in_moves, moves_in, moves_rise, pairs_none}
 use Rattle.sink.proofs.Nodes.{at_last}
 use Rattle.sink.proofs.Seeing.{Sees, unseen, once, often, same_sees, InPlaces, all_seen, length_places}
-use Rattle.liveness.proofs.Steps.{among_numbers, in_numbers, destroys_on, place_back, place_within, ending_place, live_small}
+use Rattle.liveness.proofs.Steps.{destroys_on, live_small}
 use Rattle.mach_ir.specs.Places.{is_open}
 use Rattle.bs_words.proofs.Truths.{not_both}
 
@@ -244,12 +244,6 @@ module _ (m : Mach) (formed : WellFormed m) (live : LiveMap) (exact : IsLiveMap 
   once_seen {p = p} (unseen none) h only = absurd (none p h)
   once_seen (once q x others) h only = ap Once (only q x)
   once_seen (often a b x y apart) h only = absurd (apart (only a x ∙ sym (only b y)))
-
-  head_same : {i j : Instr} {xs ys : List Instr} → i ∷ xs ≡ j ∷ ys → i ≡ j
-  head_same e = cc
-
-  tail_same : {i j : Instr} {xs ys : List Instr} → i ∷ xs ≡ j ∷ ys → xs ≡ ys
-  tail_same e = cc
 
   -- ---- mixed reads
 

@@ -19,7 +19,7 @@ use Rattle.mach_ir.specs.declared.mach.Mach.{Mach}
 use Rattle.mach_laws.specs.Expand.{Ending}
 use Rattle.mach_laws.specs.Graph.{place_of, numbers, next_places, raise_places, numbers_written, IsFlowOf}
 use Rattle.mach_laws.proofs.Places.{ending_next, stands_of, ending_of}
-use Rattle.mach_laws.proofs.Walking.{place_is, ending_drop}
+use Rattle.mach_laws.proofs.Walking.{place_is, ending_drop, among_numbers, in_numbers, ending_place}
 use Rattle.liveness.proofs.Bounds.{no_items}
 use Rattle.sink_rules.specs.Walks.{Fresh, written, on, aside}
 use Rattle.sink.specs.Graphs.{held, LivesAt, IsBare, IsFreshNode, AreFreshNodes}
@@ -28,7 +28,7 @@ use Rattle.sink.proofs.Held.{held_destroys, held_of}
 use Rattle.sink.proofs.Graph.{Where, inner, final, beyond, where_is, at, none_past, lead, rise, of, goes_to, rises_to}
 use Rattle.sink.proofs.Living.{decide_in}
 use Rattle.sink.proofs.Nodes.{At, AtEnd, at_last, count}
-use Rattle.liveness.proofs.Steps.{each, among_numbers, in_numbers, destroys_on, ending_place, leads_ending, raise_ending, IsWithin, next_within, aside_within, writes_small, live_small}
+use Rattle.liveness.proofs.Steps.{each, destroys_on, leads_ending, raise_ending, IsWithin, next_within, aside_within, writes_small, live_small}
 
 module _ (m : Mach) (live : LiveMap) (exact : IsLiveMap m live) where
   abbrev rows : List (List Bool)

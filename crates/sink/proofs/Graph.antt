@@ -1,5 +1,5 @@
 -- The places of a graph that has the edges of a function, and where they lead.
-use Rattle.std.proofs.Common.{◌≡◌, ℕ, suc, ◌-◌, ◌<◌, ◌≤◌, ⊎_elim, List, [], ◌∷◌, map, length, drop, refl, sym, ap, ◌∙◌, subst, arith}
+use Rattle.std.proofs.Common.{◌≡◌, ℕ, suc, ◌-◌, ◌<◌, ◌≤◌, ⊎_elim, List, [], ◌∷◌, map, length, drop, refl, sym, ◌∙◌, subst, arith}
 use Rattle.std.proofs.lemmas.Bool.{cases_lt}
 use Rattle.std.specs.List.{Contains}
 use Rattle.std.specs.Prelude.{slice_index_or}
@@ -12,12 +12,13 @@ use Rattle.mach_ir.specs.Walks.{targets, goes, Leads, Raises}
 use Rattle.mach_ir.specs.Meaning.{code_at}
 use Rattle.mach_ir.specs.declared.mach.Instr.{Instr}
 use Rattle.mach_ir.specs.declared.mach.Mach.{Mach}
-use Rattle.mach_laws.specs.Expand.{Ending, all, more}
+use Rattle.mach_laws.specs.Expand.{Ending}
 use Rattle.mach_laws.specs.Graph.{place_of, next_places, raise_places}
-use Rattle.mach_laws.proofs.Walking.{ending_at, place_is}
+use Rattle.mach_laws.proofs.Places.{ending_short}
+use Rattle.mach_laws.proofs.Walking.{ending_at, place_is, place_at, target_of, place_back, ending_place}
 use Rattle.sink.specs.Graphs.{AreNodes}
 use Rattle.sink.proofs.Nodes.{At, at_place, past}
-use Rattle.liveness.proofs.Steps.{target_of, place_back, ending_place, steps_to, Raised, raised_of, raises_to}
+use Rattle.liveness.proofs.Steps.{steps_to, Raised, raised_of, raises_to}
 
 -- a place is that of an instruction, or the last, or there is none
 pub data Where (end o : ℕ) : Type 0 where
@@ -29,10 +30,6 @@ pub where_is : (end o : ℕ) → Where end o
 where_is end o =
     ⊎_elim (λ lt. inner lt)
     (λ ge. ⊎_elim (λ lt. beyond lt) (λ le. final (omega (arith, le, ge))) (cases_lt end o)) (cases_lt o end)
-
-short : {rest code : List Instr} → Ending rest code → length rest ≤ length code
-short all = omega arith
-short (more e) = let le = short e in omega (arith, le)
 
 module _ (m : Mach) (E : place.Place → Type 0) (N : Instr → List Instr → place.Place → Type 0)
     (next_of : (i : Instr) (next : List Instr) (x : place.Place) → N i next x → contents x.next ≡ next_places m (i ∷ next))
@@ -51,8 +48,7 @@ module _ (m : Mach) (E : place.Place → Type 0) (N : Instr → List Instr → p
       let next = a.next in
       let t = target_of m next (targets i.op) q
       (subst (λ xs. Contains xs q) (a.part (λ x. contents x.next) ∙ next_of i next a.node a.is_node) c) in
-      let to : drop q m.code ≡ code_at m.code next t.0 =
-      sym (ap (λ k. drop k m.code) t.2) ∙ place_is m (ending_at t.0 (ending_place m o a.is)) in
+      let to : drop q m.code ≡ code_at m.code next t.0 = place_at m (ending_at t.0 (ending_place m o a.is)) t.2 in
       subst (Leads m i next) (sym to) (goes t.0 t.1)
 
   pub rise : (o q : ℕ) (a : At E N m.code (contents f.places) o) → Contains ((graph f).aside o) q → Raises m a.instr a.next (drop q m.code)
@@ -92,7 +88,7 @@ module _ (m : Mach) (E : place.Place → Type 0) (N : Instr → List Instr → p
       inside a b le = omega (arith, le)
 
       small : o < length m.code
-      small = inside (length m.code) (length next) (short e)
+      small = inside (length m.code) (length next) (ending_short e)
 
       by : (a : At E N m.code (contents f.places) o) → a.instr ∷ a.next ≡ i ∷ next → Of i next
       by a same =

@@ -16,11 +16,11 @@ use Rattle.mach_ir.specs.declared.mach.MachOp.{MachOp}
 use Rattle.mach_ir.specs.declared.mach.MachOp.TheVariants as mach
 use Rattle.mach_laws.specs.Expand.{Ending, all, more}
 use Rattle.mach_laws.specs.Graph.{place_of}
-use Rattle.mach_laws.proofs.Walking.{place_is}
+use Rattle.mach_laws.proofs.Walking.{place_is, place_back, ending_place}
 use Rattle.sink_rules.specs.Chosen.{IsRunTo}
 use Rattle.bs_words.proofs.Lists.{in_cons}
 use Rattle.sink.specs.Runs.{some_straight, begins_at, is_among, some_result, run_start}
-use Rattle.liveness.proofs.Steps.{each, place_back, ending_place}
+use Rattle.liveness.proofs.Steps.{each}
 use Rattle.mach_laws.proofs.Places.{stands_of, ending_of}
 use Rattle.bs_words.proofs.Truths.{not_both}
 

@@ -3,7 +3,7 @@ use Rattle.std.proofs.Common.{◌≡◌, ℕ, zero, suc, ◌<◌, ◌≤◌, Boo
 use Rattle.std.specs.List.{All, Contains}
 use Rattle.std.specs.Prelude.{slice_index_or}
 use Rattle.bs_words.specs.Contents.{contents}
-use Rattle.bs_words.proofs.Lists.{none_in, first_in, in_cons}
+use Rattle.bs_words.proofs.Lists.{none_in, first_in, in_cons, drop_none}
 use Rattle.dataflow.specs.Flow.{Graph, graph, IsPlace}
 use Rattle.dataflow.specs.Flow as flows
 use Rattle.dataflow.specs.Reach.{ComesIn, ComesTo, IsReaching}
@@ -19,7 +19,7 @@ use Rattle.mach_ir.specs.declared.mach.Mach.{Mach}
 use Rattle.mach_laws.specs.Expand.{Ending, all}
 use Rattle.mach_laws.specs.Graph.{place_of, numbers, next_places, raise_places, numbers_written, IsFlowOf}
 use Rattle.mach_laws.proofs.Places.{ending_next, stands_of, ending_of}
-use Rattle.mach_laws.proofs.Walking.{place_is, ending_drop}
+use Rattle.mach_laws.proofs.Walking.{place_is, ending_drop, among_numbers, in_numbers, place_back, ending_place}
 use Rattle.liveness.proofs.Bounds.{no_items, one_more}
 use Rattle.sink_rules.specs.Walks.{Stale, at_entry, over, on, aside}
 use Rattle.sink.specs.Graphs.{held, LivesAt, IsOver, IsEntry, IsStaleNode, AreStaleNodes}
@@ -27,7 +27,7 @@ use Rattle.sink.specs.Tables.{AreStale}
 use Rattle.sink.proofs.Held.{held_destroys, held_of}
 use Rattle.sink.proofs.Graph.{Where, inner, final, beyond, where_is, at, none_past, lead, rise, of, goes_to, rises_to}
 use Rattle.sink.proofs.Nodes.{At, AtEnd, at_last, count}
-use Rattle.liveness.proofs.Steps.{each, among_numbers, in_numbers, destroys_on, place_back, ending_place, leads_ending, raise_ending, IsWithin, next_within, aside_within, writes_small, live_small}
+use Rattle.liveness.proofs.Steps.{each, destroys_on, leads_ending, raise_ending, IsWithin, next_within, aside_within, writes_small, live_small}
 
 module _ (m : Mach) (live : LiveMap) (exact : IsLiveMap m live) where
   abbrev rows : List (List Bool)
@@ -44,10 +44,6 @@ module _ (m : Mach) (live : LiveMap) (exact : IsLiveMap m live) where
 
   aside_of : (i : Instr) (next : List Instr) (x : place.Place) → N i next x → contents x.aside ≡ raise_places m (i ∷ next)
   aside_of i next x h = h.aside
-
-  drop_none : (xs : List Instr) → drop 0 xs ≡ xs
-  drop_none [] = refl
-  drop_none (x ∷ xs) = refl
 
   module _ (f : flow.Flow) (nodes : AreStaleNodes m rows m.code (contents f.places)) where
     abbrev g : Graph

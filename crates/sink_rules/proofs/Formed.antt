@@ -22,10 +22,10 @@ use Rattle.mach_ir.specs.declared.mach.MachOp.TheVariants as mach
 use Rattle.mach_ir.specs.declared.reg.Reg.{Reg}
 use Rattle.mach_ir.specs.declared.mach.Instr.{Instr}
 use Rattle.mach_ir.specs.declared.mach.Mach.{Mach}
-use Rattle.spill_rules.proofs.Known.{contains_of, stands_in}
 use Rattle.spill_rules.proofs.Formed.{one_distinct}
 use Rattle.spill_rules.proofs.Chosen.{only_on}
 use Rattle.mach_laws.proofs.Instructions.{no_op}
+use Rattle.mach_laws.proofs.Places.{contains_of, stands_in}
 use Rattle.sink_rules.specs.Sunk.{Plan, to_itself, IsPlan}
 use Rattle.sink_rules.proofs.Kept.{does_sunk}
 use Rattle.sink_rules.proofs.Live.{laid_label, laid_handler, MovedNumber, moved_number, joined_back, no_addr_back}

@@ -3,7 +3,7 @@
 use Rattle.std.proofs.Common.{◌≡◌, ◌≢◌, ℕ, Bool, true, false, cond, inl, inr, ◌⊎◌, ⊎_elim, List, [], ◌∷◌, ◌++◌, length, Option, Some, None, refl, sym, ap, ◌∙◌, subst}
 use Rattle.std.specs.List.{Contains}
 use Rattle.std.proofs.lemmas.Bool.{both_ways}
-use Rattle.std.proofs.lemmas.Option.{none-some, same_Some}
+use Rattle.std.proofs.lemmas.Option.{none-some}
 use Rattle.std.proofs.lemmas.List.Elements.{All-contains}
 use Rattle.bs_words.specs.Fits.{fits, type_of_comp}
 use Rattle.bs_words.specs.declared.types.Comp.TheVariants as comp
@@ -14,7 +14,7 @@ use Rattle.mach_ir.specs.Acts.{Around, Target, On, At, Landing, AtLabel, AtHandl
 use Rattle.mach_ir.specs.Formed.{IsFormed, WellFormed}
 use Rattle.mach_ir.specs.Runs.{Place, Continues, entered}
 use Rattle.mach_ir.specs.Meaning.{Held, File, put_if, put_all, clear, killed, written, with_held, values, past_frame, passes_frame, after_label, from_handler, at_handler, code_at, tries_at, tries_past, landing_code, wrote, on_values, step}
-use Rattle.mach_ir.specs.Walks.{Among, OneOf, this, targets, may_raise, goes, raises, Reached, at_entry, by_step, by_raise, Live, LiveAcross, IsRegister, is_param, is_in_code}
+use Rattle.mach_ir.specs.Walks.{Among, OneOf, targets, may_raise, goes, raises, Reached, at_entry, by_step, by_raise, Live, LiveAcross, IsRegister, is_in_code}
 use Rattle.mach_ir.specs.Keeps.{ValsWritten, OriginsAgree, wrote_unless, Does}
 use Rattle.mach_ir.specs.declared.reg.Reg.{Reg}
 use Rattle.mach_ir.specs.declared.mach.MachOp.{MachOp}
@@ -24,15 +24,14 @@ use Rattle.mach_ir.specs.declared.mach.Mach.{Mach}
 use Rattle.mach_laws.specs.Expand.{Ending, expand}
 use Rattle.mach_laws.proofs.General as general
 use Rattle.mach_laws.proofs.General.{at}
-use Rattle.mach_laws.proofs.Leads.{IsTry, is_try, MayLand, lands_at_label, lands_at_handler}
+use Rattle.mach_laws.proofs.Leads.{MayLand, lands_at_label, lands_at_handler, try_on}
 use Rattle.mach_laws.proofs.Level as level
-use Rattle.mach_laws.proofs.Places.{ending_next, handler_expand, stands_of, results_in}
+use Rattle.mach_laws.proofs.Places.{ending_next, stands_of, results_in, contains_of}
 use Rattle.mach_laws.proofs.Simulate.{Agrees}
-use Rattle.mach_laws.proofs.Among.{split_among, number_among}
-use Rattle.places_rules.proofs.Files.{not_cleared, among_or_not, PutsBoth, put_both}
-use Rattle.places_rules.proofs.Raised.{IsSilent, label_silent, try_silent}
-use Rattle.spill_rules.proofs.Known.{contains_of}
-use Rattle.spill_rules.proofs.Kept.{FitsIn, put_fits, put_holds, clear_fits, frame_fits}
+use Rattle.mach_laws.proofs.Among.{split_among}
+use Rattle.mach_laws.proofs.Raised.{IsSilent, label_silent, try_silent, told}
+use Rattle.places_rules.proofs.Files.{not_cleared, among_or_not, put_both}
+use Rattle.spill_rules.proofs.Holding.{FitsIn, put_fits, put_holds, clear_fits, frame_fits, fit_at_entry, agree_at_entry}
 use Rattle.sink_rules.specs.Sunk.{Plan, to_itself, moves_of, IsPlan}
 use Rattle.sink_rules.specs.Walks as walks
 use Rattle.sink_rules.specs.Walks.{Stale}
@@ -76,10 +75,6 @@ module _ (m : Mach) (plan : Plan) (formed : WellFormed m) (is : IsPlan m plan) w
 
   -- ---- where it goes
 
-  handlers_same : (tries : List ℕ) → at_handler q.code tries ≡ expand f (at_handler m.code tries)
-  handlers_same [] = refl
-  handlers_same (l ∷ tries) = handler_expand f (keeps_marks plan) l m.code
-
   laid_at_handler : (tries : List ℕ) → Laid (at_handler m.code tries) (at_handler q.code tries)
   laid_at_handler [] = text.laid_end
   laid_at_handler (l ∷ tries) = laid_handler m plan is l
@@ -91,9 +86,6 @@ module _ (m : Mach) (plan : Plan) (formed : WellFormed m) (is : IsPlan m plan) w
       subst (λ ts. Laid (at_handler m.code (tries_at (i ∷ next))) (at_handler q.code ts))
       (sym (ap (tries_past i.op) (text.laid_tries m plan is (text.laid_of m plan is next e))))
       (laid_at_handler (tries_at (i ∷ next)))
-
-  try_on : (g : MachOp) → IsTry g → OneOf On (targets g)
-  try_on g is_try = this
 
   module _ (c : Place) where
     abbrev limit : ℕ
@@ -320,11 +312,11 @@ module _ (m : Mach) (plan : Plan) (formed : WellFormed m) (is : IsPlan m plan) w
               (laid_landing i next to (ending_next ending)) (wrote_unless y.raised (written m i)) a' y agreed,
         )
 
-        same_operation : level.SameOperation c m q f (keeps_marks plan) refl Suit Holds i i next [] a' a'
+        same_operation : level.SameOperation c m q f (keeps_marks plan) refl Suit Holds (IsSilent m i) i i next [] a' a'
         same_operation =
             record {
               goes = λ vs d e. (d, e, λ y to o. past_to vs d e y to o);
-              lands = lands;
+              lands = λ y to may s. lands y to may;
               tries = ap (tries_past i.op) (text.laid_tries m plan is laid_next);
               pushes = λ t. (
                 refl,
@@ -348,7 +340,7 @@ module _ (m : Mach) (plan : Plan) (formed : WellFormed m) (is : IsPlan m plan) w
             }
 
         stays : (y : Around) (vs : List Value) → values a i.args ≡ Some vs →
-            level.StaysRound c m q f (keeps_marks plan) refl Suit Holds i next y a a vs
+            level.StaysRound c m q f (keeps_marks plan) refl Suit Holds (IsSilent m i) i next y a a vs
         stays y vs e =
             record {
               pre = before plan (length next) i.op;
@@ -360,6 +352,7 @@ module _ (m : Mach) (plan : Plan) (formed : WellFormed m) (is : IsPlan m plan) w
               passing = passed_before i next (i ∷ expand f next) a y ending known (text.main ending laid_next) i.op;
               vals = vals_before y;
               reads = e;
+              told = told m (form_of ending) c.setting vs y;
               same = same_operation;
             }
 
@@ -390,36 +383,15 @@ module _ (m : Mach) (plan : Plan) (formed : WellFormed m) (is : IsPlan m plan) w
         holds_by m.code a
         (record {
           reached = at_entry;
-          fit = λ r j.
-              put_fits limit m.params vs (λ n. None) a e r (λ k z g. formed.numbers k r (is_param z) j g) (λ h g. absurd (none-some _ g));
+          fit = fit_at_entry m formed limit vs a e;
           stale = λ r j u apart none.
               walks.at_entry
               (λ z. let h = put_holds limit m.params vs (λ n. None) a e r.number z in some_none (a r.number) h.1 none);
           agree = λ y.
               record {
-                agree = λ r k i j origin l w x z g h.
-                    let s : r ≡ k = one_param r k i j origin x z g h in
-                    ap (λ (h : Held). h.value) (same_Some _ _ (sym g ∙ ap (λ (r : Reg). a r.number) s ∙ h));
+                agree = λ r k i j origin l w x z g h. agree_at_entry m formed limit vs a e r k i j origin x z g h;
               };
         })
-      where
-        puts : PutsBoth limit m.params vs (λ n. None) (λ n. None) a
-        puts = put_both limit m.params vs (λ n. None) (λ n. None) a e
-
-        -- what holds something is a parameter, made from no other register
-        own_origin : (r : Reg) → IsRegister m r → (x : Held) → a r.number ≡ Some x → r.origin ≡ r.number
-        own_origin r i x g =
-            ⊎_elim
-            (λ z.
-            let p = number_among m.params z in
-            let same = formed.numbers p.0 r (is_param p.1) i p.2 in
-            subst (λ (r : Reg). r.origin ≡ r.number) same (All-contains (λ (r : Reg). r.origin ≡ r.number) m.params p.0 formed.params p.1))
-            (λ free. absurd (none-some _ (sym (puts.others r.number free) ∙ g))) (among_or_not r.number m.params)
-
-        one_param : (r k : Reg) → IsRegister m r → IsRegister m k → r.origin ≡ k.origin → (x y : Held) → a r.number ≡ Some x →
-            a k.number ≡ Some y → r ≡ k
-        one_param r k i j origin x y g h =
-            formed.numbers r k i j (sym (own_origin r i x g) ∙ origin ∙ own_origin k j y h)
 
   -- The function with its moves does what it did.
   pub does_sunk : Does m q

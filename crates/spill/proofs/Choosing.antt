@@ -14,10 +14,9 @@ use Rattle.mach_ir.specs.declared.mach.Instr.{Instr}
 use Rattle.mach_ir.specs.declared.mach.Mach.{Mach}
 use Rattle.mach_laws.specs.Expand.{expand}
 use Rattle.mach_laws.specs.Graph.{place_of, numbers, next_places}
-use Rattle.mach_laws.proofs.Walking.{place_is}
-use Rattle.mach_laws.proofs.Places.{ending_short, ending_of, args_in}
+use Rattle.mach_laws.proofs.Walking.{place_is, among_numbers, in_numbers, place_within}
+use Rattle.mach_laws.proofs.Places.{ending_short, ending_of, args_in, contains_of}
 use Rattle.mach_laws.proofs.Among.{left_among, among_of}
-use Rattle.split_rules.proofs.Formed.{contains_of}
 use Rattle.split_rules.specs.Writes.{Comes, from_entry, from_write, past, past_raise}
 use Rattle.spill_rules.specs.Chosen.{IsReloaded, ReloadsAt, StoresAt, IsChosen, IsSpilled}
 use Rattle.spill_rules.specs.Spilled.{Plan, reload, spill, reloads_of, spills_of, operands_of, spilled_instr}
@@ -29,7 +28,7 @@ use Rattle.spill.specs.Copies.{is_reloaded, reloads_at, spills_at, instr_at}
 use Rattle.spill.specs.Graphs.{reloaded_among}
 use Rattle.spill.specs.Tables.{Wanted, here, on, aside, AreTables}
 use Rattle.spill.specs.declared.tables.Tables.{Tables}
-use Rattle.liveness.proofs.Steps.{among_numbers, in_numbers, place_within, Steps, steps_of, steps_to, leads_ending}
+use Rattle.liveness.proofs.Steps.{Steps, steps_of, steps_to, leads_ending}
 use Rattle.spill.proofs.WantedFlow.{in_reloaded, reloaded_in, reloaded_here, here_reloaded}
 use Rattle.bs_words.proofs.Truths.{not_both}
 

@@ -20,12 +20,12 @@ use Rattle.mach_ir.specs.declared.mach.Mach.{Mach}
 use Rattle.mach_laws.specs.Expand.{Ending}
 use Rattle.mach_laws.specs.Graph.{place_of, numbers, next_places, numbers_read, numbers_written, IsFlowOf}
 use Rattle.mach_laws.proofs.Places.{ending_next, stands_of, ending_of}
-use Rattle.mach_laws.proofs.Walking.{place_is}
+use Rattle.mach_laws.proofs.Walking.{place_is, among_numbers, in_numbers, place_back, place_within, ending_place}
 use Rattle.liveness.proofs.Bounds.{no_items, split_in}
 use Rattle.spill_rules.specs.Chosen.{lives, Lost, over, still}
 use Rattle.spill.specs.Graphs.{IsMadeBefore, IsLostNode, AreLostNodes, at_end, before}
 use Rattle.spill.specs.Tables.{AreLost}
-use Rattle.liveness.proofs.Steps.{each, among_numbers, in_numbers, destroys_on, place_back, place_within, ending_place, Steps, steps_of, steps_to, leads_ending, IsWithin, next_within, reads_small, writes_small, live_small}
+use Rattle.liveness.proofs.Steps.{each, destroys_on, Steps, steps_of, steps_to, leads_ending, IsWithin, next_within, reads_small, writes_small, live_small}
 
 module _ (m : Mach) (live : LiveMap) (exact : IsLiveMap m live) (old : flow.Flow) (is : IsFlowOf m old) (formed : flows.WellFormed old) where
   abbrev rows : List (List Bool)

@@ -18,7 +18,7 @@ use Rattle.mach_ir.specs.declared.mach.Instr.{Instr}
 use Rattle.mach_ir.specs.declared.mach.Mach.{Mach}
 use Rattle.mach_laws.specs.Expand.{Ending}
 use Rattle.mach_laws.specs.Graph.{place_of, numbers, next_places, raise_places, numbers_read, numbers_written, IsFlowOf}
-use Rattle.mach_laws.proofs.Walking.{place_is}
+use Rattle.mach_laws.proofs.Walking.{place_is, among_numbers, in_numbers, place_within, ending_place}
 use Rattle.mach_laws.proofs.Places.{stands_of, ending_of, is_unset}
 use Rattle.mach_laws.proofs.Among.{among_of}
 use Rattle.liveness.specs.Nodes.{Uses, AreNodes}
@@ -27,7 +27,7 @@ use Rattle.liveness.proofs.Graph.{count_is, part_is, nodes_within}
 use Rattle.spill_rules.specs.Chosen.{Lost, IsReloaded}
 use Rattle.spill.specs.Graphs.{reloaded_among, reloaded_before, wanted_uses}
 use Rattle.spill.specs.Tables.{Wanted, here, on, aside, AreLost, AreWanted}
-use Rattle.liveness.proofs.Steps.{each, among_numbers, in_numbers, place_within, ending_place, Steps, steps_of, steps_to, Raised, raised_of, raises_to, leads_ending, raise_ending, reads_small, writes_small}
+use Rattle.liveness.proofs.Steps.{each, Steps, steps_of, steps_to, Raised, raised_of, raises_to, leads_ending, raise_ending, reads_small, writes_small}
 use Rattle.mach_ir.specs.Places.{is_open}
 
 -- ---- operands that are reloaded

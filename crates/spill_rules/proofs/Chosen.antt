@@ -23,11 +23,10 @@ use Rattle.mach_ir.specs.declared.mach.MachOp.TheVariants as mach
 use Rattle.mach_ir.specs.declared.mach.Instr.{Instr}
 use Rattle.mach_ir.specs.declared.mach.Mach.{Mach}
 use Rattle.mach_laws.specs.Expand.{expand, Ending}
-use Rattle.mach_laws.proofs.Places.{ending_next, ending_short, ending_of, args_in}
+use Rattle.mach_laws.proofs.Places.{ending_next, ending_short, ending_of, args_in, contains_of}
 use Rattle.mach_laws.proofs.Walking.{drop_ending}
 use Rattle.mach_laws.proofs.Among.{number_among, among_of}
 use Rattle.split_rules.proofs.Known.{machine_open, was}
-use Rattle.split_rules.proofs.Formed.{contains_of}
 use Rattle.split_rules.proofs.Result.{comes_write}
 use Rattle.split_rules.specs.Writes.{Comes, from_entry, from_write, past, past_raise, IsWrite, by_entry, by_instr}
 use Rattle.spill_rules.specs.Chosen.{LivesOver, Lost, over, still, IsReloaded, IsChosen, IsSpilled, ParamsPlaced, IsNeededSlot, IsChosenKept}

@@ -21,8 +21,7 @@ use Rattle.mach_ir.specs.declared.mach.MachOp.TheVariants as mach
 use Rattle.mach_ir.specs.declared.mach.Instr.{Instr}
 use Rattle.mach_ir.specs.declared.mach.Mach.{Mach}
 use Rattle.mach_laws.specs.Expand.{expand}
-use Rattle.mach_laws.proofs.Places.{label_expand, handler_expand, tries_expand}
-use Rattle.split_rules.proofs.Formed.{contains_of, stands_in}
+use Rattle.mach_laws.proofs.Places.{label_expand, handler_expand, tries_expand, contains_of, stands_in}
 use Rattle.bs_words.proofs.Lists.{none_in, first_in, later_in, in_cons}
 use Rattle.spill_rules.specs.Spilled.{Plan, in_slot, copied, reload, spill, reloads_of, spills_of, operands_of, results_of, spilled_instr, spilled, IsPlan}
 use Rattle.spill_rules.proofs.Kept.{Which, own, slotted, was_register, slots_apart}

@@ -4,146 +4,48 @@ use Rattle.std.proofs.Common.{◌≡◌, ℕ, Bool, true, false, cond, inl, inr,
 use Rattle.std.proofs.lemmas.Bool.{cases_Bool, eq-eqb, eqb-true, both_ways}
 use Rattle.std.specs.List.{Contains}
 use Rattle.std.specs.Prelude.{nat_eq}
-use Rattle.std.proofs.lemmas.Option.{none-some, same_Some}
+use Rattle.std.proofs.lemmas.Option.{none-some}
 use Rattle.std.proofs.lemmas.List.Elements.{All-contains}
 use Rattle.bs_words.specs.Fits.{fits, type_of_comp}
 use Rattle.bs_words.specs.declared.types.Loc.TheVariants as loc
 use Rattle.bs_words.specs.declared.values.Value.{Value}
 use Rattle.bs_words.proofs.Lists.{none_in, first_in, later_in, in_cons, head_same, tail_same}
-use Rattle.mach_ir.specs.Acts.{Around, Target, On, At, Landing, AtLabel, AtHandler, Act, Goes, Pushes, Jumps, Unwinds, Asks, Replaces, Ends, EndsRaising, Stuck}
+use Rattle.mach_ir.specs.Acts.{Around, Target, On, At, Landing, AtLabel, AtHandler, Replaces}
 use Rattle.mach_ir.specs.Formed.{IsFormed, WellFormed}
 use Rattle.mach_ir.specs.Placed.{WellPlaced}
-use Rattle.mach_ir.specs.Runs.{Place, Continues, entered}
-use Rattle.mach_ir.specs.Meaning.{Held, File, put, put_if, put_all, clear, killed, written, with_held, values, past_frame, unless_addr, passes_frame, mach_act, after_label, at_handler, code_at, tries_at, landing_code, wrote, on_values, step}
-use Rattle.mach_ir.specs.Walks.{Among, first, later, OneOf, this, targets, may_raise, goes, raises, Live, read, on, aside, LiveAcross, across_step, across_raise, IsRegister, is_param, is_colour, is_in_code, InCode, in_args, in_results, further, Stands, Writes}
+use Rattle.mach_ir.specs.Runs.{Place, entered}
+use Rattle.mach_ir.specs.Meaning.{Held, File, put, put_all, clear, killed, written, values, past_frame, passes_frame, after_label, at_handler, code_at, tries_at, landing_code}
+use Rattle.mach_ir.specs.Walks.{Among, first, later, OneOf, targets, may_raise, goes, raises, Live, read, on, aside, LiveAcross, across_step, across_raise, IsRegister, is_param, is_colour, is_in_code, InCode, in_args, in_results, further, Stands, Writes}
 use Rattle.mach_ir.specs.Keeps.{ValsWritten, OriginsAgree, wrote_unless, Does}
-use Rattle.mach_ir.specs.declared.op.CopyKind.{CopyKind}
 use Rattle.mach_ir.specs.declared.op.CopyKind.TheVariants as copy
-use Rattle.mach_ir.specs.declared.mach.MachOp.{MachOp}
 use Rattle.mach_ir.specs.declared.reg.Reg.{Reg}
 use Rattle.mach_ir.specs.declared.mach.Instr.{Instr}
 use Rattle.mach_ir.specs.declared.mach.Mach.{Mach}
 use Rattle.mach_laws.specs.Expand.{Ending, expand}
 use Rattle.mach_laws.proofs.General as general
 use Rattle.mach_laws.proofs.General.{at}
-use Rattle.mach_laws.proofs.Leads.{IsTry, is_try, MayLand, lands_at_label, lands_at_handler, Within, goes_in, pushes_in, jumps_in, unwinds_in, asks_in, within}
+use Rattle.mach_laws.proofs.Leads.{IsTry, MayLand, lands_at_label, lands_at_handler, try_on}
 use Rattle.mach_laws.proofs.Level as level
-use Rattle.mach_laws.proofs.Places.{ending_next, ending_label, ending_land, ending_from_handler, label_expand, handler_expand, stands_of, args_in, results_in}
+use Rattle.mach_laws.proofs.Places.{ending_next, ending_label, ending_land, label_expand, stands_of, args_in, results_in, contains_of, land_expand}
 use Rattle.mach_laws.proofs.Simulate.{Agrees}
-use Rattle.mach_laws.proofs.Among.{left_among, right_among, split_among, number_among, among_of}
+use Rattle.mach_laws.proofs.Among.{left_among, right_among, split_among, number_among, among_of, unless_among}
 use Rattle.mach_laws.proofs.Files.{put_other}
-use Rattle.split_rules.proofs.Known.{values_same, past_same, cleared, not_cleared, among_or_not, put_here, PutsBoth, put_both, IsRaised, Told, told_jump, told_unwind, told_ask, IsSilent, told, label_silent, try_silent}
+use Rattle.mach_laws.proofs.Raised.{IsRaised, IsSilent, label_silent, try_silent, told}
+use Rattle.split_rules.proofs.Known.{values_same, past_same, cleared, not_cleared, among_or_not, put_here, PutsBoth, put_both}
 use Rattle.split_rules.specs.Writes.{from_entry, past, past_raise}
 use Rattle.liveness.proofs.Bounds.{killed_is_colour}
-use Rattle.split_rules.proofs.Formed.{contains_of}
 use Rattle.spill_rules.specs.Spilled.{Plan, in_slot, copied, reload, spill, reloads_of, spills_of, operands_of, results_of, spilled_instr, spilled, IsPlan}
 use Rattle.spill_rules.proofs.Live.{IsStored, WasLive, itself, stored, Stage, Reading, Storing, Laid, main, laid_results, laid_operands, laid_of, is_result, Says, NotThere, stored_unwritten, laid_tries, live_back, live_before, WasAcross, itself_across, stored_across, across_back}
 use Rattle.spill_rules.proofs.Text.{keeps_marks, all_results, operand_in}
+use Rattle.spill_rules.proofs.Holding.{values_held, FitsIn, put_fits, put_holds, clear_fits, frame_fits, live_register, unwritten_at_entry, fit_at_entry, agree_at_entry, copy_step, vals_copy}
 
 -- ---- what is read, and what is in code
-
--- what is read holds something
-pub values_held : (a : File) (rs : List Reg) (vs : List Value) → values a rs ≡ Some vs → (n : ℕ) → Among n rs → (h : Held) × (a n ≡ Some h)
-values_held a [] vs e n z = elim z [ ]
-values_held a (r ∷ rs) vs e n z =
-    by (a r.number) refl (values a rs) refl e z (λ us t x. values_held a rs us t n x)
-  where
-    by : (o : Option Held) → a r.number ≡ o → (p : Option (List Value)) → values a rs ≡ p → with_held o p ≡ Some vs → Among n (r ∷ rs) →
-        ((us : List Value) → values a rs ≡ Some us → Among n rs → (h : Held) × (a n ≡ Some h)) → (h : Held) × (a n ≡ Some h)
-    by None s p t e z again = absurd (none-some _ e)
-    by (Some h) s None t e z again = absurd (none-some _ e)
-    by (Some h) s (Some us) t e (first x) again = (h, ap a (sym x) ∙ s)
-    by (Some h) s (Some us) t e (later x) again = again us t x
 
 pub in_append : {r : Reg} (xs ys : List Instr) → InCode r (xs ++ ys) → InCode r xs ⊎ InCode r ys
 in_append [] ys c = inr c
 in_append (x ∷ xs) ys (in_args c) = inl (in_args c)
 in_append (x ∷ xs) ys (in_results c) = inl (in_results c)
 in_append (x ∷ xs) ys (further c) = ⊎_elim (λ h. inl (further h)) inr (in_append xs ys c)
-
--- ---- values that fit
-
--- what is put fits
-module _ (end : ℕ) where
-  abbrev pub IsFitting : Held → Type 0
-  IsFitting h = fits end (type_of_comp h.comp) h.value ≡ true
-
-  abbrev pub FitsIn : Reg → Option Held → Type 0
-  FitsIn r o = (h : Held) → o ≡ Some h → (h.comp ≡ r.comp) × IsFitting h
-
-  pub put_fits : (rs : List Reg) (vs : List Value) (f d : File) → put_all end rs vs f ≡ Some d → (r : Reg) →
-      ((q : Reg) → Contains rs q → q.number ≡ r.number → q ≡ r) → FitsIn r (f r.number) → FitsIn r (d r.number)
-  put_fits [] [] f d e r one h = subst (λ (x : File). FitsIn r (x r.number)) (same_Some _ _ e) h
-  put_fits [] (v ∷ vs) f d e r one h = absurd (none-some _ e)
-  put_fits (q ∷ rs) [] f d e r one h = absurd (none-some _ e)
-  put_fits (q ∷ rs) (v ∷ vs) f d e r one h =
-      by (fits end (type_of_comp q.comp) v) (put_all end rs vs f) refl refl e
-      (λ c k. put_fits rs vs f c k r (λ j z. one j (later_in q j rs z)) h)
-    where
-      at_one : (c : File) → FitsIn r (c r.number) → fits end (type_of_comp q.comp) v ≡ true → FitsIn r (put q v c r.number)
-      at_one c old t =
-          ⊎_elim
-          (λ s.
-          let same : q ≡ r = one q (first_in q rs) (eqb-true q.number r.number s) in
-          λ (h : Held) (g : put q v c r.number ≡ Some h).
-          let is : record { comp = q.comp; value = v } ≡ h =
-          same_Some _ _ (sym (put_here q v c r.number (eqb-true q.number r.number s)) ∙ g) in
-          (ap (λ (x : Held). x.comp) (sym is) ∙ ap (λ (x : Reg). x.comp) same, subst IsFitting is t))
-          (λ s. subst (FitsIn r) (sym (put_other q v c r.number (λ z. both_ways (nat_eq q.number r.number) s (eq-eqb q.number r.number z)))) old)
-          (cases_Bool (nat_eq q.number r.number))
-
-      by : (t : Bool) (o : Option File) → fits end (type_of_comp q.comp) v ≡ t → put_all end rs vs f ≡ o → put_if t q v o ≡ Some d →
-          ((c : File) → put_all end rs vs f ≡ Some c → FitsIn r (c r.number)) → FitsIn r (d r.number)
-      by false o t e k again = absurd (none-some _ k)
-      by true None t e k again = absurd (none-some _ k)
-      by true (Some c) t e k again =
-          subst (λ (x : File). FitsIn r (x r.number)) (same_Some _ _ k) (at_one c (again c e) t)
-
-  -- what is written holds something
-  pub put_holds : (rs : List Reg) (vs : List Value) (f d : File) → put_all end rs vs f ≡ Some d → (n : ℕ) → Among n rs → (h : Held) × (d n ≡ Some h)
-  put_holds [] vs f d e n a = elim a [ ]
-  put_holds (q ∷ rs) [] f d e n a = absurd (none-some _ e)
-  put_holds (q ∷ rs) (v ∷ vs) f d e n a =
-      by (fits end (type_of_comp q.comp) v) (put_all end rs vs f) refl e (λ c k z. put_holds rs vs f c k n z)
-    where
-      rest_of : (q.number ≡ n → ⊥) → Among n (q ∷ rs) → Among n rs
-      rest_of h (first e) = absurd (h e)
-      rest_of h (later a) = a
-
-      at_one : (c : File) → (Among n rs → (h : Held) × (c n ≡ Some h)) → (h : Held) × (put q v c n ≡ Some h)
-      at_one c old =
-          ⊎_elim (λ s. (record { comp = q.comp; value = v }, put_here q v c n (eqb-true q.number n s)))
-          (λ s.
-          let other = λ (z : q.number ≡ n). both_ways (nat_eq q.number n) s (eq-eqb q.number n z) in
-          let h = old (rest_of other a) in (h.0, put_other q v c n other ∙ h.1))
-          (cases_Bool (nat_eq q.number n))
-
-      by : (t : Bool) (o : Option File) → put_all end rs vs f ≡ o → put_if t q v o ≡ Some d →
-          ((c : File) → put_all end rs vs f ≡ Some c → Among n rs → (h : Held) × (c n ≡ Some h)) → (h : Held) × (d n ≡ Some h)
-      by false o e k again = absurd (none-some _ k)
-      by true None e k again = absurd (none-some _ k)
-      by true (Some c) e k again =
-          subst (λ (x : File). (h : Held) × (x n ≡ Some h)) (same_Some _ _ k) (at_one c (again c e))
-
-  pub clear_fits : (ks : List Reg) (f : File) (r : Reg) → FitsIn r (f r.number) → FitsIn r (clear ks f r.number)
-  clear_fits [] f r h = h
-  clear_fits (k ∷ ks) f r h = by (nat_eq k.number r.number) (clear_fits ks f r h)
-    where
-      by : (b : Bool) → FitsIn r (clear ks f r.number) → FitsIn r (cond b None (clear ks f r.number))
-      by true old = λ h e. absurd (none-some _ e)
-      by false old = old
-
-  pub frame_fits : (t : Bool) (f : File) (r : Reg) → FitsIn r (f r.number) → FitsIn r (past_frame t f r.number)
-  frame_fits false f r h = h
-  frame_fits true f r h = by (f r.number) h
-    where
-      kept : (b : Bool) (u : Held) → FitsIn r (Some u) → FitsIn r (cond b None (Some u))
-      kept true u h = λ k e. absurd (none-some _ e)
-      kept false u h = h
-
-      by : (o : Option Held) → FitsIn r o → FitsIn r (unless_addr o)
-      by None h = h
-      by (Some u) h = kept _ u h
 
 module _ (m : Mach) (plan : Plan) (formed : WellFormed m) (placed : WellPlaced m) (is : IsPlan m plan) where
   abbrev q : Mach
@@ -165,13 +67,6 @@ module _ (m : Mach) (plan : Plan) (formed : WellFormed m) (placed : WellPlaced m
   form_of {i} e = All-contains IsFormed m.code i formed.instrs (contains_of (stands_of e))
 
   -- ---- registers
-
-  -- what is live is a register
-  pub live_register : {n : ℕ} {rest : List Instr} → Live m n rest → Ending rest m.code → (r : Reg) × IsRegister m r × (r.number ≡ n)
-  live_register (read {i = i} a) e = let r = number_among i.args a in (r.0, is_in_code (args_in (stands_of e) r.1), r.2)
-  live_register (on w (goes On o) v) e = live_register v (ending_next e)
-  live_register (on w (goes (At l) o) v) e = live_register v (ending_label l m.code)
-  live_register (aside (raises {l = l} b r) v) e = live_register v (ending_from_handler l m.code)
 
   -- what a register of the second was
   pub data Which (w r : Reg) : Type 0 where
@@ -313,7 +208,7 @@ module _ (m : Mach) (plan : Plan) (formed : WellFormed m) (placed : WellPlaced m
       let n : w.number ≡ r.number = ap (λ (x : Reg). x.number) e in
       (subst (λ n. Live m n rest) (sym n) v, ap a n ∙ own_same r.number v)
   was_value rest ending a b r own_same slot_same w among (slotted e) (itself v) =
-      let u = live_register v ending in
+      let u = live_register m v ending in
       absurd (is.fresh u.0 u.1 w.number (ap (λ (x : Reg). x.number) e ∙ sym u.2))
   was_value rest ending a b r own_same slot_same w among (own e) (stored n s v k) =
       absurd (is.fresh w among n (s ∙ sym (ap (λ (x : Reg). x.number) e)))
@@ -321,29 +216,13 @@ module _ (m : Mach) (plan : Plan) (formed : WellFormed m) (placed : WellPlaced m
       let same : n ≡ w.number = slots_apart n w.number (s ∙ sym (ap (λ (x : Reg). x.number) e)) in
       (subst (λ n. Live m n rest) same v, ap a (sym same) ∙ slot_same n s v k ∙ ap b s)
 
-  unless_among : (o : Option Value) (us : List Reg) (x : ℕ) → Among x (wrote_unless o us) → Among x us
-  unless_among None us x a = a
-  unless_among (Some v) us x a = elim a [ ]
-
   is_code : q.code ≡ expand f m.code
   is_code = refl
-
-  handlers_same : (tries : List ℕ) → at_handler q.code tries ≡ expand f (at_handler m.code tries)
-  handlers_same [] = refl
-  handlers_same (l ∷ tries) = handler_expand f (keeps_marks plan) l m.code
-
-  lands_same : (this_code that_code : List Instr) (to : Landing) → tries_at that_code ≡ tries_at this_code →
-      landing_code q.code that_code to ≡ expand f (landing_code m.code this_code to)
-  lands_same this_code that_code (AtLabel l) e = label_expand f (keeps_marks plan) l m.code
-  lands_same this_code that_code AtHandler e = ap (at_handler q.code) e ∙ handlers_same (tries_at this_code)
 
   caught : {n : ℕ} {i : Instr} {next : List Instr} → may_raise i.op ≡ true → (tries : List ℕ) → tries_at (i ∷ next) ≡ tries →
       Live m n (at_handler m.code tries) → Live m n (i ∷ next) × (Stored n (at_handler m.code tries) → Stored n (i ∷ next))
   caught r [] e v = elim v [ ]
   caught r (l ∷ tries) e v = (aside (raises r e) v, λ s from k. s from (past_raise k (raises r e)))
-
-  try_on : (g : MachOp) → IsTry g → OneOf On (targets g)
-  try_on g is_try = this
 
   module _ (c : Place) where
     abbrev limit : ℕ
@@ -355,24 +234,6 @@ module _ (m : Mach) (plan : Plan) (formed : WellFormed m) (placed : WellPlaced m
       fit : (r : Reg) → IsRegister m r → FitsIn limit r (a r.number)
       agree : (r k : Reg) → IsRegister m r → IsRegister m k → r.origin ≡ k.origin → Live m r.number rest → Live m k.number rest →
           (x y : Held) → a r.number ≡ Some x → a k.number ≡ Some y → x.value ≡ y.value
-
-    -- ---- copies
-
-    copy_step : (kind : CopyKind) (from to : Reg) (zs : List Instr) (b : File) (y : Around) (h : Held) → b from.number ≡ Some h →
-        fits limit (type_of_comp to.comp) h.value ≡ true →
-        step c q (at (copied kind from to ∷ zs) b y) ≡ Continues (at zs (put to h.value b) y)
-    copy_step kind from to zs b y h e fit =
-        ap (λ o. on_values c q (copied kind from to) zs b y (with_held o (Some []))) e
-        ∙ ap (λ t. wrote zs y (put_if t to h.value (Some b))) fit
-
-    vals_copy : (kind : CopyKind) (from to : Reg) (zs : List Instr) (b : File) (y : Around) →
-        ValsWritten q (at (copied kind from to ∷ zs) b y)
-    vals_copy kind from to zs b y =
-        record {
-          written = λ j ys e frame r one val v none.
-              absurd
-              (both_ways (passes_frame j.op) (ap (λ (i : Instr). passes_frame i.op) (sym (head_same e))) frame);
-        }
 
     -- ---- before an instruction
 
@@ -461,13 +322,13 @@ module _ (m : Mach) (plan : Plan) (formed : WellFormed m) (placed : WellPlaced m
                     b more.file)
                     (sym t)
                     (general.passes
-                    (copy_step copy.Reload (in_slot plan r) r (reloads_of plan (length next) rs ++ tail) b y h
+                    (copy_step c q copy.Reload (in_slot plan r) r (reloads_of plan (length next) rs ++ tail) b y h
                     (sym
                     (holds.slots r.number (read among)
                     (λ from k. is.stored i next from r.number (stands_of ending) among t k))
                     ∙ (held r.number among).1)
                     (subst (λ t. fits limit (type_of_comp t) h.value ≡ true) fits_so.0 fits_so.1))
-                    (vals_copy copy.Reload (in_slot plan r) r (reloads_of plan (length next) rs ++ tail) b y)
+                    (vals_copy c q copy.Reload (in_slot plan r) r (reloads_of plan (length next) rs ++ tail) b y)
                     (λ u.
                     agree_reading i next (reloads_of plan (length next) rs ++ tail) rs (wrote_unless y.raised (r ∷ [])) a b1 y ending
                     (laid_operands m plan formed placed is i next rs tail ending (λ k z. known k (later_in r k rs z)) laid) holds_on
@@ -577,7 +438,7 @@ module _ (m : Mach) (plan : Plan) (formed : WellFormed m) (placed : WellPlaced m
 
           live_not_slot : (n : ℕ) → Live m n next → plan.slot r.number ≡ n → ⊥
           live_not_slot n v s =
-              let u = live_register v (ending_next ending) in is.fresh u.0 u.1 r.number (s ∙ sym u.2)
+              let u = live_register m v (ending_next ending) in is.fresh u.0 u.1 r.number (s ∙ sym u.2)
 
           holds_on : HoldsAfter next rs d e1
           holds_on =
@@ -626,10 +487,10 @@ module _ (m : Mach) (plan : Plan) (formed : WellFormed m) (placed : WellPlaced m
                     (cond t (spill plan r ∷ spills_of plan (length next) rs) (spills_of plan (length next) rs)) (expand f next) e more.file)
                     (sym t)
                     (general.passes
-                    (copy_step copy.Spill r (in_slot plan r) (spills_of plan (length next) rs ++ expand f next) e y h
+                    (copy_step c q copy.Spill r (in_slot plan r) (spills_of plan (length next) rs ++ expand f next) e y h
                     (sym (holds.itself r.number (is.useful i next r (stands_of ending) (known r (first_in r rs)) t)) ∙ holds_h)
                     (subst (λ t. fits limit (type_of_comp t) h.value ≡ true) fits_so.0 fits_so.1))
-                    (vals_copy copy.Spill r (in_slot plan r) (spills_of plan (length next) rs ++ expand f next) e y)
+                    (vals_copy c q copy.Spill r (in_slot plan r) (spills_of plan (length next) rs ++ expand f next) e y)
                     (λ agreed.
                     agree_storing i next (spills_of plan (length next) rs ++ expand f next) rs
                     (wrote_unless y.raised (in_slot plan r ∷ [])) d e1 y ending
@@ -876,7 +737,7 @@ module _ (m : Mach) (plan : Plan) (formed : WellFormed m) (placed : WellPlaced m
         lands to may y s agreed = (
           (refl, landed to may y agreed),
           subst (λ code. Agrees q (written q i) (at code b' y))
-              (sym (lands_same (i ∷ next) (i ∷ (post ++ expand f next)) to tries_so))
+              (sym (land_expand f (keeps_marks plan) m.code (i ∷ next) (i ∷ (post ++ expand f next)) to tries_so))
               (agree_begins (landing_code m.code (i ∷ next) to) (written m i) a' b' y (ending_land to (i ∷ next) m.code)
               (landed to may y agreed) (none_written y.raised s)),
         )
@@ -892,31 +753,23 @@ module _ (m : Mach) (plan : Plan) (formed : WellFormed m) (placed : WellPlaced m
               agree = agree_there next (written m i) a' y agreed;
             }
 
-        acts_same : (y : Around) (act : Act) → Within i.op act → Told (IsSilent m i) act →
-            general.Acts c m q f (keeps_marks plan) is_code Suit Round i i next post y y a' b' act act
-        acts_same y (Goes vs to y') (goes_in o) t =
-            general.both_go
-            (λ d e.
-            let p = put_both limit i.results vs (clear (killed m i) a') (clear (killed m i) b') d e in (
-              p.file,
-              p.puts,
-              past_to vs d e p y' to o,
-            ))
-        acts_same y (Jumps to y') (jumps_in l) (told_jump s) = general.both_jump tries_so (lands to l y' s)
-        acts_same y (Unwinds y') (unwinds_in r) (told_unwind s) = general.both_unwind tries_so (lands AtHandler (lands_at_handler r) y' s)
-        acts_same y (Pushes y') (pushes_in t) u =
-            general.both_push (no_post (try_silent m (form_of ending) t)) refl
-            (λ agreed. (
-              (refl, pushed t y' agreed),
-              agree_begins next (written m i) a' b' y' (ending_next ending) (pushed t y' agreed)
-                  (silent_none (try_silent m (form_of ending) t) y'.raised),
-            ))
-        acts_same y (Asks whom vs go) (asks_in w) (told_ask t) =
-            general.both_ask (record { memory = refl; tries = refl }) (λ d. acts_same y (go d) (w d) (t d))
-        acts_same y (Replaces whom vs kept) w t = general.both_replace (record { memory = refl; tries = refl })
-        acts_same y (Ends d) w t = general.both_end
-        acts_same y (EndsRaising d) w t = general.both_raise
-        acts_same y Stuck w t = general.stuck_first
+        same_operation : level.SameOperation c m q f (keeps_marks plan) is_code Suit Holds (IsSilent m i) i i next post a' b'
+        same_operation =
+            record {
+              goes = λ vs d e.
+                  let p = put_both limit i.results vs (clear (killed m i) a') (clear (killed m i) b') d e in
+                  (p.file, p.puts, λ y to o. past_to vs d e p y to o);
+              lands = λ y to l s. lands to l y s;
+              tries = tries_so;
+              pushes = λ t. (
+                no_post (try_silent m (form_of ending) t),
+                λ y agreed. (
+                  (refl, pushed t y agreed),
+                  agree_begins next (written m i) a' b' y (ending_next ending) (pushed t y agreed)
+                      (silent_none (try_silent m (form_of ending) t) y.raised),
+                ),
+              );
+            }
 
         -- ---- vals that are live over it
 
@@ -948,7 +801,7 @@ module _ (m : Mach) (plan : Plan) (formed : WellFormed m) (placed : WellPlaced m
                     let n : w.register.number ≡ r.number = ap (λ (x : Reg). x.number) e in
                     (subst (λ n. LiveAcross m n i next) (sym n) v, ap a n ∙ holds.itself r.number (live_of v))
                 own_by (slotted e) =
-                    let u = live_register (live_of v) ending in
+                    let u = live_register m (live_of v) ending in
                     absurd (is.fresh u.0 u.1 w.register.number (ap (λ (x : Reg). x.number) e ∙ sym u.2))
             by r w (stored_across n s v k) = slot_by w.which
               where
@@ -966,19 +819,20 @@ module _ (m : Mach) (plan : Plan) (formed : WellFormed m) (placed : WellPlaced m
           main ending (laid_main i next a b ending holds) in
           let gone = before i next a y ending (λ n z. values_held a i.args vs e n z)
           (i ∷ (spills_of plan (length next) (results_of i) ++ expand f next)) laid (operands_of i) (λ r z. operand_in i r z) b holds in
-          record {
+          level.replaces c m q f (keeps_marks plan) is_code Suit Holds y
+          (record {
             pre = reloads_of plan (length next) (operands_of i);
             main = i;
             post = spills_of plan (length next) (results_of i);
             shape = refl;
+            same_op = refl;
             between = gone.file;
             passing = gone.passing;
             vals = vals_main i next a gone.file ending gone.holds y;
-            read = vs;
             reads = sym (values_same a gone.file i.args (λ n z. gone.holds.itself n (read z))) ∙ e;
-            alike = acts_same i next a gone.file ending gone.holds y (mach_act c.setting i.op vs y) (within c.setting i.op vs y)
-                (told m (form_of ending) c.setting vs y);
-          }
+            told = told m (form_of ending) c.setting vs y;
+            same = same_operation i next a gone.file ending gone.holds;
+          })
 
     serves : (Suit : Around → Around → Type 0) → ((x y : Around) → x ≡ y → Suit x y) →
         level.Serves c m q f (keeps_marks plan) is_code Holds Suit
@@ -1000,36 +854,15 @@ module _ (m : Mach) (plan : Plan) (formed : WellFormed m) (placed : WellPlaced m
           slots = λ n v k.
               ⊎_elim (λ z. absurd (both_ways (plan.spills (length m.code) n) (is.entry n z) (k m.code (from_entry z))))
               (λ free. unwritten n free ∙ sym (unwritten (plan.slot n) (not_param n))) (among_or_not n m.params);
-          fit = λ r j.
-              put_fits limit m.params vs (λ n. None) a e r (λ k z g. formed.numbers k r (is_param z) j g) (λ h g. absurd (none-some _ g));
-          agree = λ r k i j origin v w x y g h.
-              let s : r ≡ k = one_param r k i j origin x y g h in
-              ap (λ (h : Held). h.value) (same_Some _ _ (sym g ∙ ap (λ (r : Reg). a r.number) s ∙ h));
+          fit = fit_at_entry m formed limit vs a e;
+          agree = λ r k i j origin v w x y g h. agree_at_entry m formed limit vs a e r k i j origin x y g h;
         }
       where
-        puts : PutsBoth limit m.params vs (λ n. None) (λ n. None) a
-        puts = put_both limit m.params vs (λ n. None) (λ n. None) a e
-
         unwritten : (n : ℕ) → (Among n m.params → ⊥) → a n ≡ None
-        unwritten n free = puts.others n free
+        unwritten n free = unwritten_at_entry m formed limit vs a e n free
 
         not_param : (n : ℕ) → Among (plan.slot n) m.params → ⊥
         not_param n z = let r = number_among m.params z in is.fresh r.0 (is_param r.1) n (sym r.2)
-
-        -- what holds something is a parameter, made from no other register
-        own_origin : (r : Reg) → IsRegister m r → (x : Held) → a r.number ≡ Some x → r.origin ≡ r.number
-        own_origin r i x g =
-            ⊎_elim
-            (λ z.
-            let p = number_among m.params z in
-            let same = formed.numbers p.0 r (is_param p.1) i p.2 in
-            subst (λ (r : Reg). r.origin ≡ r.number) same (All-contains (λ (r : Reg). r.origin ≡ r.number) m.params p.0 formed.params p.1))
-            (λ free. absurd (none-some _ (sym (unwritten r.number free) ∙ g))) (among_or_not r.number m.params)
-
-        one_param : (r k : Reg) → IsRegister m r → IsRegister m k → r.origin ≡ k.origin → (x y : Held) → a r.number ≡ Some x →
-            a k.number ≡ Some y → r ≡ k
-        one_param r k i j origin x y g h =
-            formed.numbers r k i j (sym (own_origin r i x g) ∙ origin ∙ own_origin k j y h)
 
   -- The function with its spills and reloads does what it did.
   pub does_spilled : Does m (spilled plan m)

@@ -12,11 +12,10 @@ use Rattle.mach_ir.specs.declared.reg.Reg.{Reg}
 use Rattle.mach_ir.specs.declared.mach.Instr.{Instr}
 use Rattle.mach_ir.specs.declared.mach.Mach.{Mach}
 use Rattle.mach_laws.specs.Expand.{expand, Ending}
-use Rattle.mach_laws.proofs.Places.{label_expand, handler_expand, ending_next, ending_label, ending_from_handler, stands_of}
+use Rattle.mach_laws.proofs.Places.{label_expand, handler_expand, ending_next, ending_label, ending_from_handler, stands_of, contains_of}
 use Rattle.mach_laws.proofs.Among.{left_among, split_among, number_among, among_of}
+use Rattle.mach_laws.proofs.Raised.{label_silent}
 use Rattle.liveness.proofs.Bounds.{killed_is_colour}
-use Rattle.split_rules.proofs.Known.{label_silent}
-use Rattle.split_rules.proofs.Formed.{contains_of}
 use Rattle.split_rules.proofs.Whole.{fixed_colours}
 use Rattle.split_rules.specs.Writes.{Comes, from_write, past, past_raise}
 use Rattle.bs_words.proofs.Lists.{none_in, first_in, later_in, in_cons}

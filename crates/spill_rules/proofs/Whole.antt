@@ -23,9 +23,10 @@ use Rattle.mach_laws.proofs.Grows.{held, instrs_expand, operands_expand, operand
 use Rattle.mach_laws.proofs.Places.{label_expand, handler_expand, ending_label, ending_from_handler}
 use Rattle.liveness.proofs.Bounds.{split_in}
 use Rattle.spill_rules.specs.Spilled.{Plan, in_slot, copied, reload, spill, reloads_of, spills_of, has_operands, has_results, operands_of, results_of, spilled_instr, spilled, IsPlan}
-use Rattle.spill_rules.proofs.Kept.{Which, own, slotted, WasRegister, was_register, origin_of, comp_of, slots_apart, live_register, does_spilled}
+use Rattle.spill_rules.proofs.Kept.{Which, own, slotted, WasRegister, was_register, origin_of, comp_of, slots_apart, does_spilled}
 use Rattle.spill_rules.proofs.Live.{Stage, Before, Reading, Storing, Laid, begins, reloads, passes_operand, main, spills, passes_result, ends, laid_of, laid_tries, WasAcross, itself_across, stored_across, across_back}
 use Rattle.spill_rules.proofs.Text.{keeps_marks}
+use Rattle.spill_rules.proofs.Holding.{live_register}
 use Rattle.bs_words.proofs.Places.{same_slot}
 
 module _ (m : Mach) (plan : Plan) (formed : WellFormed m) (placed : WellPlaced m) (is : IsPlan m plan) where
@@ -179,7 +180,7 @@ module _ (m : Mach) (plan : Plan) (formed : WellFormed m) (placed : WellPlaced m
   across_register r w among (own e) i next ending (itself_across v) =
       subst (λ n. LiveAcross m n i next) (sym (ap (λ (x : Reg). x.number) e)) v
   across_register r w among (slotted e) i next ending (itself_across v) =
-      let u = live_register m plan formed placed is (live_of v) ending in
+      let u = live_register m (live_of v) ending in
       absurd (is.fresh u.0 u.1 w.number (ap (λ (x : Reg). x.number) e ∙ sym u.2))
   across_register r w among (own e) i next ending (stored_across n s v k) =
       absurd (is.fresh w among n (s ∙ sym (ap (λ (x : Reg). x.number) e)))

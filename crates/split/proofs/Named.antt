@@ -13,12 +13,12 @@ use Rattle.mach_ir.specs.Formed.{WellFormed}
 use Rattle.mach_ir.specs.Meaning.{killed}
 use Rattle.mach_ir.specs.Placed.{WellPlaced}
 use Rattle.mach_ir.specs.Sizes.{Size, HasSize}
-use Rattle.mach_ir.specs.Walks.{Among, Writes, IsRegister, is_param, is_colour, is_in_code, Stands, here, below}
+use Rattle.mach_ir.specs.Walks.{Among, Writes, IsRegister, is_param, is_colour, is_in_code, Stands}
 use Rattle.mach_ir.specs.declared.reg.Reg.{Reg}
 use Rattle.mach_ir.specs.declared.mach.Instr.{Instr}
 use Rattle.mach_ir.specs.declared.mach.Mach.{Mach}
-use Rattle.mach_laws.specs.Expand.{Ending, all, more}
-use Rattle.mach_laws.proofs.Places.{ending_next, args_in, results_in, is_unset}
+use Rattle.mach_laws.specs.Expand.{Ending, all}
+use Rattle.mach_laws.proofs.Places.{ending_next, ending_of, args_in, results_in, is_unset}
 use Rattle.mach_laws.proofs.Walking.{drop_ending, place_is}
 use Rattle.mach_laws.proofs.Among.{split_among, number_among}
 use Rattle.liveness.proofs.Bounds.{killed_is_colour}
@@ -210,21 +210,13 @@ module _ (m : Mach) (free : ℕ) (t : Tables) (formed : WellFormed m) (placed : 
   ends_with : {n : ℕ} {from : List Instr} → IsWrite m n from → Ending from m.code
   ends_with (by_entry a) = all
   ends_with (by_instr s a) = ending_next (ending_of s)
-    where
-      ending_of : {i : Instr} {next code : List Instr} → Stands i next code → Ending (i ∷ next) code
-      ending_of here = all
-      ending_of (below s) = more (ending_of s)
 
   -- ---- operands and their writes
 
   code_there : {i : Instr} {next : List Instr} → Stands i next m.code → drop (length m.code - 1 - length next) m.code ≡ i ∷ next
   code_there {i} {next} s =
-      sym (ap (λ p. drop p m.code) (place_at (length m.code) (length next))) ∙ place_is m (stands_ending s)
+      sym (ap (λ p. drop p m.code) (place_at (length m.code) (length next))) ∙ place_is m (ending_of s)
     where
-      stands_ending : {i : Instr} {next code : List Instr} → Stands i next code → Ending (i ∷ next) code
-      stands_ending here = all
-      stands_ending (below s) = more (stands_ending s)
-
       place_at : (a b : ℕ) → a - suc b ≡ a - 1 - b
       place_at a b = omega arith
 

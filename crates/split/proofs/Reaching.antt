@@ -1,5 +1,5 @@
 -- What the flow analysis says of writes: which of them come to each place.
-use Rattle.std.proofs.Common.{◌≡◌, ◌≢◌, ℕ, zero, suc, ◌+◌, ◌-◌, ◌<◌, ◌≤◌, Bool, true, false, ◌⊎◌, inl, inr, ⊎_elim, List, [], ◌∷◌, ◌++◌, Option, Some, None, map, length, drop, refl, sym, ap, ◌∙◌, subst, arith}
+use Rattle.std.proofs.Common.{◌≡◌, ◌≢◌, ℕ, zero, suc, ◌+◌, ◌-◌, ◌<◌, ◌≤◌, Bool, true, ◌⊎◌, inl, inr, ⊎_elim, List, [], ◌∷◌, ◌++◌, Option, Some, None, map, length, drop, refl, sym, ap, ◌∙◌, subst, arith}
 use Rattle.std.proofs.lemmas.List.Elements.{Contains-append_left, Contains-append_right}
 use Rattle.std.proofs.lemmas.List.{length-drop, length-append}
 use Rattle.std.proofs.lemmas.Option.{slice_get_within}
@@ -7,7 +7,7 @@ use Rattle.std.specs.List.{All, Contains}
 use Rattle.std.specs.Prelude.{slice_get, slice_index_or}
 use Rattle.bs_words.specs.Contents.{contents}
 use Rattle.bs_words.specs.declared.types.Loc.TheVariants as loc
-use Rattle.bs_words.proofs.Lists.{none_in, first_in, later_in, in_cons}
+use Rattle.bs_words.proofs.Lists.{none_in, first_in, later_in, in_cons, drop_none}
 use Rattle.dataflow.specs.Flow.{Graph, graph, IsPlace, WellFormed}
 use Rattle.dataflow.specs.Reach.{ComesIn, ComesTo, IsReaching}
 use Rattle.dataflow.specs.declared.flow.Flow as flow
@@ -15,14 +15,14 @@ use Rattle.dataflow.specs.declared.flow.Place as place
 use Rattle.mach_ir.specs.Acts.{Target}
 use Rattle.mach_ir.specs.Formed as well
 use Rattle.mach_ir.specs.Meaning.{code_at, from_handler, killed, tries_at}
-use Rattle.mach_ir.specs.Walks.{Among, first, later, OneOf, this, other, targets, may_raise, goes, raises, Writes, Stands, here, below}
+use Rattle.mach_ir.specs.Walks.{Among, first, later, OneOf, targets, may_raise, goes, raises, Writes}
 use Rattle.mach_ir.specs.declared.reg.Reg.{Reg}
 use Rattle.mach_ir.specs.declared.mach.Instr.{Instr}
 use Rattle.mach_ir.specs.declared.mach.Mach.{Mach}
 use Rattle.mach_laws.specs.Expand.{Ending, all, more}
-use Rattle.mach_laws.specs.Graph.{place_of, handler_places, next_places, raise_places}
-use Rattle.mach_laws.proofs.Places.{ending_from_handler, stands_of}
-use Rattle.mach_laws.proofs.Walking.{drop_ending, ending_drop, ending_at, place_is}
+use Rattle.mach_laws.specs.Graph.{place_of, next_places, raise_places}
+use Rattle.mach_laws.proofs.Places.{ending_next, ending_from_handler, stands_of, ending_of}
+use Rattle.mach_laws.proofs.Walking.{drop_ending, ending_at, place_is, place_at, place_back, place_within, ending_place, target_of, in_targets, handler_of, in_handlers}
 use Rattle.mach_laws.proofs.Among.{left_among, split_among}
 use Rattle.liveness.specs.Nodes.{AreNodes}
 use Rattle.liveness.proofs.Bounds.{no_items, one_more, split_in}
@@ -113,61 +113,6 @@ in_ended t (r ∷ rs) w c =
 -- ---- places and targets
 
 module _ (m : Mach) where
-  place_back : (p : ℕ) (rest : List Instr) → p ≤ length m.code → drop p m.code ≡ rest → place_of m rest ≡ p
-  place_back p rest le e =
-      let long : length (drop p m.code) ≡ length m.code - p = length-drop p m.code in
-      let same : length (drop p m.code) ≡ length rest = ap length e in
-      omega (arith, le, long, same)
-
-  target_of : (next : List Instr) (ts : List Target) (q : ℕ) → Contains (map (λ t. place_of m (code_at m.code next t)) ts) q →
-      (t : Target) × OneOf t ts × (place_of m (code_at m.code next t) ≡ q)
-  target_of next [] q c = absurd (none_in q c)
-  target_of next (t ∷ ts) q c =
-      ⊎_elim (λ e. (t, this, e)) (λ d. let g = target_of next ts q d in (g.0, other g.1, g.2))
-      (in_cons (place_of m (code_at m.code next t)) q (map (λ t. place_of m (code_at m.code next t)) ts) c)
-
-  in_targets : (next : List Instr) {t : Target} {ts : List Target} → OneOf t ts →
-      Contains (map (λ t. place_of m (code_at m.code next t)) ts) (place_of m (code_at m.code next t))
-  in_targets next {t} (this {ts = ts}) = first_in (place_of m (code_at m.code next t)) _
-  in_targets next {t} (other {u = u} {ts = ts} o) =
-      later_in (place_of m (code_at m.code next u)) (place_of m (code_at m.code next t)) _ (in_targets next o)
-
-  handler_of : (b : Bool) (tries : List ℕ) (q : ℕ) → Contains (handler_places m b tries) q →
-      (l : ℕ) × (others : List ℕ) × (b ≡ true) × (tries ≡ l ∷ others) × (place_of m (from_handler l m.code) ≡ q)
-  handler_of false tries q c = absurd (none_in q c)
-  handler_of true [] q c = absurd (none_in q c)
-  handler_of true (l ∷ tries) q c =
-      ⊎_elim (λ e. (l, tries, refl, refl, e)) (λ d. absurd (none_in q d))
-      (in_cons (place_of m (from_handler l m.code)) q [] c)
-
-  in_handlers : (b : Bool) (tries : List ℕ) (l : ℕ) (others : List ℕ) → b ≡ true → tries ≡ l ∷ others →
-      Contains (handler_places m b tries) (place_of m (from_handler l m.code))
-  in_handlers b tries l others e h =
-      subst (λ b. Contains (handler_places m b tries) (place_of m (from_handler l m.code))) (sym e)
-      (subst (λ ts. Contains (handler_places m true ts) (place_of m (from_handler l m.code))) (sym h)
-      (first_in (place_of m (from_handler l m.code)) []))
-
-  place_within : (rest : List Instr) → place_of m rest ≤ length m.code
-  place_within rest = by (length m.code) (length rest)
-    where
-      by : (a b : ℕ) → a - b ≤ a
-      by a b = omega arith
-
-  ending_of : {i : Instr} {next code : List Instr} → Stands i next code → Ending (i ∷ next) code
-  ending_of here = all
-  ending_of (below s) = more (ending_of s)
-
-  ends_next : {i : Instr} {next code : List Instr} → Ending (i ∷ next) code → Ending next code
-  ends_next all = more all
-  ends_next (more e) = more (ends_next e)
-
-  no_cons : (i : Instr) (next : List Instr) → [] ≡ i ∷ next → ⊥
-  no_cons i next e = cc
-
-  drop_whole : (xs : List Instr) → drop 0 xs ≡ xs
-  drop_whole [] = refl
-  drop_whole (x ∷ xs) = refl
-
   after_next : {next : List Instr} → Ending next m.code → after m (length next) ≡ next
   after_next e = drop_ending e
 
@@ -238,9 +183,9 @@ module _ (m : Mach) where
     from_text : (o q : ℕ) → o ≤ length m.code → (rest : List Instr) → drop o m.code ≡ rest → Contains (next_places m rest) q → From o q
     from_text o q le [] e c = absurd (none_in q c)
     from_text o q le (i ∷ next) e c =
-        let t = target_of next (targets i.op) q c in
-        by_text i next t.0 (subst (λ q. q ≤ length m.code) t.2 (place_within (code_at m.code next t.0))) le e t.1
-        (sym (ap (λ k. drop k m.code) t.2) ∙ place_is m (ending_at t.0 (subst (λ xs. Ending xs m.code) e (ending_drop o m.code))))
+        let t = target_of m next (targets i.op) q c in
+        by_text i next t.0 (subst (λ q. q ≤ length m.code) t.2 (place_within m (code_at m.code next t.0))) le e t.1
+        (place_at m (ending_at t.0 (ending_place m o e)) t.2)
 
     from_of : (o q : ℕ) → Contains (g.next o) q → From o q
     from_of o q c =
@@ -272,18 +217,18 @@ module _ (m : Mach) where
         FromRaise o q
     raise_text o q le [] e c = absurd (none_in q c)
     raise_text o q le (i ∷ next) e c =
-        let h = handler_of (may_raise i.op) (tries_at (i ∷ next)) q c in
+        let h = handler_of m (may_raise i.op) (tries_at (i ∷ next)) q c in
         record {
           instr = i;
           next = next;
           label = h.0;
           tries = h.1;
-          lands = subst (λ q. q ≤ length m.code) h.4 (place_within (from_handler h.0 m.code));
+          lands = subst (λ q. q ≤ length m.code) h.4 (place_within m (from_handler h.0 m.code));
           within = le;
           is = e;
           may = h.2;
           round = h.3;
-          to = sym (ap (λ k. drop k m.code) h.4) ∙ place_is m (ending_from_handler h.0 m.code);
+          to = place_at m (ending_from_handler h.0 m.code) h.4;
         }
 
     raise_of : (o q : ℕ) → Contains (g.aside o) q → FromRaise o q
@@ -325,7 +270,7 @@ module _ (m : Mach) where
       made_comes w i next t' ending o c =
           let n = in_made t (length next) i.results w c in
           let x = made_is (length next) n.0 w n.2 in
-          let after_is : after m x.0.left ≡ next = ap (after m) x.2 ∙ after_next (ends_next ending) in
+          let after_is : after m x.0.left ≡ next = ap (after m) x.2 ∙ after_next (ending_next ending) in
           record {
             write = x.0;
             is = x.1;
@@ -360,7 +305,7 @@ module _ (m : Mach) where
       stepped : (k w o q : ℕ) → Known k w → From o q →
           Contains (g.reads o) w ⊎ ((Contains (g.writes o) w → ⊥) × ComesIn g w k o) → Came w (drop q m.code)
       stepped k w o q known (by_text i next t' le within e one to) h =
-          let ending = subst (λ xs. Ending xs m.code) e (ending_drop o m.code) in
+          let ending = ending_place m o e in
           came_at w (code_at m.code next t') (drop q m.code) (sym to)
           (⊎_elim
           (λ c.
@@ -377,7 +322,7 @@ module _ (m : Mach) where
                 (goes t' one);
           }) h)
       stepped k w o q known (by_start e z) h =
-          came_at w m.code (drop q m.code) (sym (ap (λ k. drop k m.code) z ∙ drop_whole m.code))
+          came_at w m.code (drop q m.code) (sym (ap (λ k. drop k m.code) z ∙ drop_none m.code))
           (⊎_elim
           (λ c.
           let made = subst (λ xs. Contains xs w) (ap g.reads e ∙ at_entry (λ x. contents x.reads) ∙ is_entry.reads) c in
@@ -433,7 +378,7 @@ module _ (m : Mach) where
           let ending = ending_of s in
           let at = place_of m (i ∷ next) in
           let here_is : drop at m.code ≡ i ∷ next = place_is m ending in
-          let within = place_within (i ∷ next) in
+          let within = place_within m (i ∷ next) in
           let x = number_found n w next found in
           let made : Contains (made_at t (length next) i.results) w =
           ⊎_elim (λ r. made_in t (length next) i.results n w r found)
@@ -445,7 +390,7 @@ module _ (m : Mach) where
             inl (
               at,
               subst (λ xs. Contains xs p) (sym (next_at at within ∙ ap (next_places m) here_is))
-                  (subst (λ p. Contains (next_places m (i ∷ next)) p) (place_back p (code_at m.code next t') le e) (in_targets next o)),
+                  (subst (λ p. Contains (next_places m (i ∷ next)) p) (place_back m p (code_at m.code next t') le e) (in_targets m next o)),
               inl (subst (λ xs. Contains xs w) (sym (reads_at at within ∙ ap (made_before t) here_is)) made),
             ),
           )
@@ -453,7 +398,7 @@ module _ (m : Mach) where
           let ending = comes_ends m c in
           let at = place_of m (i ∷ next) in
           let here_is : drop at m.code ≡ i ∷ next = place_is m ending in
-          let within = place_within (i ∷ next) in
+          let within = place_within m (i ∷ next) in
           let x = number_found n w from found in
           let before = comes_to c at w within here_is found in
           let out : Contains (g.writes at) w → ⊥ =
@@ -466,7 +411,7 @@ module _ (m : Mach) where
             inl (
               at,
               subst (λ xs. Contains xs p) (sym (next_at at within ∙ ap (next_places m) here_is))
-                  (subst (λ p. Contains (next_places m (i ∷ next)) p) (place_back p (code_at m.code next t') le e) (in_targets next o)),
+                  (subst (λ p. Contains (next_places m (i ∷ next)) p) (place_back m p (code_at m.code next t') le e) (in_targets m next o)),
               inr (out, before.1),
             ),
           )
@@ -474,14 +419,14 @@ module _ (m : Mach) where
           let ending = comes_ends m c in
           let at = place_of m (i ∷ next) in
           let here_is : drop at m.code ≡ i ∷ next = place_is m ending in
-          let within = place_within (i ∷ next) in
+          let within = place_within m (i ∷ next) in
           let before = comes_to c at w within here_is found in (
             suc before.0,
             inr (
               at,
               subst (λ xs. Contains xs p) (sym (aside_at at within ∙ ap (raise_places m) here_is))
-                  (subst (λ p. Contains (raise_places m (i ∷ next)) p) (place_back p (from_handler l m.code) le e)
-                  (in_handlers (may_raise i.op) (tries_at (i ∷ next)) l tries b r)),
+                  (subst (λ p. Contains (raise_places m (i ∷ next)) p) (place_back m p (from_handler l m.code) le e)
+                  (in_handlers m (may_raise i.op) (tries_at (i ∷ next)) l tries b r)),
               before.1,
             ),
           )

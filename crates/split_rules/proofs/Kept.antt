@@ -8,31 +8,29 @@ use Rattle.bs_words.specs.declared.types.Loc.TheVariants as loc
 use Rattle.bs_words.specs.declared.values.Value.{Value}
 use Rattle.bs_words.proofs.Lists.{head_same, tail_same}
 use Rattle.mach_ir.specs.Known.{Doing}
-use Rattle.mach_ir.specs.Acts.{Around, Target, On, At, Landing, AtLabel, AtHandler, Act, Goes, Pushes, Jumps, Unwinds, Asks, Replaces, Ends, EndsRaising, Stuck}
+use Rattle.mach_ir.specs.Acts.{Around, Target, On, At, Landing, AtLabel, AtHandler, Replaces}
 use Rattle.mach_ir.specs.Formed.{IsFormed, WellFormed}
 use Rattle.mach_ir.specs.Runs.{Place, entered}
-use Rattle.mach_ir.specs.Meaning.{Held, State, File, put_all, clear, killed, written, with_held, values, past_frame, passes_frame, mach_act, after_label, at_handler, code_at, tries_at, landing_code, start}
-use Rattle.mach_ir.specs.Walks.{Among, first, later, OneOf, this, targets, may_raise, goes, raises, Live, read, on, aside, LiveAcross, across_step, across_raise, is_param, Stands, Writes}
+use Rattle.mach_ir.specs.Meaning.{Held, State, File, put_all, clear, killed, written, with_held, values, past_frame, passes_frame, after_label, at_handler, code_at, tries_at, landing_code, start}
+use Rattle.mach_ir.specs.Walks.{Among, first, later, OneOf, targets, may_raise, goes, raises, Live, read, on, aside, LiveAcross, across_step, across_raise, is_param, Stands, Writes}
 use Rattle.mach_ir.specs.Keeps.{ValsWritten, wrote_unless, Begins, Does}
-use Rattle.mach_ir.specs.declared.mach.MachOp.{MachOp}
 use Rattle.mach_ir.specs.declared.reg.Reg.{Reg}
 use Rattle.mach_ir.specs.declared.mach.Instr.{Instr}
 use Rattle.mach_ir.specs.declared.mach.Mach.{Mach}
 use Rattle.mach_laws.specs.Expand.{Ending, expand}
 use Rattle.mach_laws.proofs.General as general
 use Rattle.mach_laws.proofs.General.{at}
-use Rattle.mach_laws.proofs.Leads.{IsTry, is_try, MayLand, lands_at_label, lands_at_handler, Within, goes_in, pushes_in, jumps_in, unwinds_in, asks_in, within}
+use Rattle.mach_laws.proofs.Leads.{IsTry, MayLand, lands_at_label, lands_at_handler, try_on}
 use Rattle.mach_laws.proofs.Level as level
-use Rattle.mach_laws.proofs.Places.{ending_next, ending_label, ending_land, stands_of}
+use Rattle.mach_laws.proofs.Places.{ending_next, ending_label, ending_land, stands_of, contains_of, land_expand}
 use Rattle.mach_laws.proofs.Simulate.{Agrees}
 use Rattle.mach_laws.proofs.Among.{left_among, right_among, split_among, number_among}
+use Rattle.mach_laws.proofs.Raised.{IsRaised, IsSilent, label_silent, try_silent, told}
 use Rattle.places_rules.proofs.Files.{past_same, cleared, not_cleared, among_or_not, PutsToo, put_twice, put_both}
-use Rattle.places_rules.proofs.Raised.{IsRaised, Told, told_jump, told_unwind, told_ask, IsSilent, told, label_silent, try_silent}
 use Rattle.split_rules.specs.Renamed.{Naming, all_numbered, renamed_code, renamed}
 use Rattle.split_rules.specs.Split.{IsNaming}
 use Rattle.split_rules.specs.Writes.{from_entry, from_write}
-use Rattle.split_rules.proofs.Formed.{contains_of}
-use Rattle.split_rules.proofs.Text.{same_label, same_handler, same_tries, alone, as_expanded, keeps_marks, was_register, among_named}
+use Rattle.split_rules.proofs.Text.{same_label, same_tries, alone, as_expanded, keeps_marks, was_register, among_named}
 use Rattle.split_rules.proofs.Walked.{new, killed_same, killed_stays, result_back, arg_back, wrote_old, StandsFor, stands_on, stands_aside, live_before, across_back}
 
 -- ---- files
@@ -127,14 +125,11 @@ module _ (m : Mach) (names : Naming) (is : IsNaming m names) (formed : WellForme
   is_code : q.code ≡ expand (alone names) m.code
   is_code = as_expanded names m.code
 
-  handlers_same : (tries : List ℕ) → at_handler q.code tries ≡ renamed_code names (at_handler m.code tries)
-  handlers_same [] = refl
-  handlers_same (l ∷ tries) = same_handler names l m.code
-
   lands_same : (this_code that_code : List Instr) (to : Landing) → tries_at that_code ≡ tries_at this_code →
       landing_code q.code that_code to ≡ renamed_code names (landing_code m.code this_code to)
-  lands_same this_code that_code (AtLabel l) e = same_label names l m.code
-  lands_same this_code that_code AtHandler e = ap (at_handler q.code) e ∙ handlers_same (tries_at this_code)
+  lands_same this_code that_code to e =
+      ap (λ code. landing_code code that_code to) is_code ∙ land_expand (alone names) (keeps_marks names) m.code this_code that_code to e
+      ∙ sym (as_expanded names (landing_code m.code this_code to))
 
   moved : (P : List Instr → Type 0) (next : List Instr) → P (renamed_code names next) → P (expand (alone names) next)
   moved P next = subst P (as_expanded names next)
@@ -149,9 +144,6 @@ module _ (m : Mach) (names : Naming) (is : IsNaming m names) (formed : WellForme
       Live m n (i ∷ next) × Stand x n (i ∷ next)
   caught r [] e v s = elim v [ ]
   caught r (l ∷ tries) e v s = (aside (raises r e) v, stands_aside m names is colour_fixed (raises r e) s)
-
-  try_on : (f : MachOp) → IsTry f → OneOf On (targets f)
-  try_on f is_try = this
 
   -- ---- each instruction
 
@@ -290,31 +282,25 @@ module _ (m : Mach) (names : Naming) (is : IsNaming m names) (formed : WellForme
         let silent = try_silent m (form_of ending) t n in
         still n x (on silent (goes On (try_on i.op t)) v) e (stands_on m names is colour_fixed silent (goes On (try_on i.op t)) s)
 
-    acts_same : (y : Around) (act : Act) → Within i.op act → Told (IsSilent m i) act →
-        general.Acts c m q (alone names) (keeps_marks names) is_code Suit Round i main next [] y y a' b' act act
-    acts_same y (Goes vs to after) (goes_in o) t =
-        general.both_go
-        (λ d e.
-        let p = put_twice write is.back c.setting.end i.results vs (clear (killed m i) a') (clear killed_new b') d
-        (λ n z. result_back m names is colour_fixed stands z (length next)) e in
-        (p.file, p.puts, past_to vs d p after to o))
-    acts_same y (Jumps to after) (jumps_in l) (told_jump s) = general.both_jump (tries_same i next) (lands to l after s)
-    acts_same y (Unwinds after) (unwinds_in r) (told_unwind s) =
-        general.both_unwind (tries_same i next) (lands AtHandler (lands_at_handler r) after s)
-    acts_same y (Pushes after) (pushes_in t) u =
-        general.both_push refl refl
-        (λ w. (
-          (refl, pushed t),
-          moved (λ code. Agrees q (written q main) (at code b' after)) next
-              (agrees_by next (ending_next ending) a' b' after (written m i) (written q main) (pushed t)
-              (silent_wrote ending after.raised a' b' (inl (try_silent m (form_of ending) t))) w),
-        ))
-    acts_same y (Asks whom vs go) (asks_in w) (told_ask t) =
-        general.both_ask (record { memory = refl; tries = refl }) (λ d. acts_same y (go d) (w d) (t d))
-    acts_same y (Replaces whom vs kept) w t = general.both_replace (record { memory = refl; tries = refl })
-    acts_same y (Ends d) w t = general.both_end
-    acts_same y (EndsRaising d) w t = general.both_raise
-    acts_same y Stuck w t = general.stuck_first
+    same_operation : level.SameOperation c m q (alone names) (keeps_marks names) is_code Suit Same (IsSilent m i) i main next [] a' b'
+    same_operation =
+        record {
+          goes = λ vs d e.
+              let p = put_twice write is.back c.setting.end i.results vs (clear (killed m i) a') (clear killed_new b') d
+              (λ n z. result_back m names is colour_fixed stands z (length next)) e in
+              (p.file, p.puts, λ y to o. past_to vs d p y to o);
+          lands = λ y to l s. lands to l y s;
+          tries = tries_same i next;
+          pushes = λ t. (
+            refl,
+            λ y w. (
+              (refl, pushed t),
+              moved (λ code. Agrees q (written q main) (at code b' y)) next
+                  (agrees_by next (ending_next ending) a' b' y (written m i) (written q main) (pushed t)
+                  (silent_wrote ending y.raised a' b' (inl (try_silent m (form_of ending) t))) w),
+            ),
+          );
+        }
 
     read_same : (n : ℕ) → Among n i.args → a n ≡ b (names.read (length next) n)
     read_same n z =
@@ -324,19 +310,20 @@ module _ (m : Mach) (names : Naming) (is : IsNaming m names) (formed : WellForme
     one : (y : Around) (vs : List Value) → values a i.args ≡ Some vs →
         general.Replaces c m q (alone names) (keeps_marks names) is_code Suit Round i next y y a b vs
     one y vs e =
-        record {
+        level.replaces c m q (alone names) (keeps_marks names) is_code Suit Same y
+        (record {
           pre = [];
           main = main;
           post = [];
           shape = refl;
+          same_op = refl;
           between = b;
           passing = general.passed;
           vals = λ known. moved (λ code. ValsWritten q (at (main ∷ code) b y)) next (vals_before i next a b y ending same known);
-          read = vs;
           reads = sym (values_same (names.read (length next)) a b i.args read_same) ∙ e;
-          alike = acts_same y (mach_act c.setting i.op vs y) (within c.setting i.op vs y)
-              (told m (form_of ending) c.setting vs y);
-        }
+          told = told m (form_of ending) c.setting vs y;
+          same = same_operation;
+        })
 
   module _ (c : Place) where
     serves : (Suit : Around → Around → Type 0) → ((x y : Around) → x ≡ y → Suit x y) →

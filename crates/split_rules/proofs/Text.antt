@@ -1,68 +1,31 @@
 -- The text of a function whose registers have other numbers: its labels, tries and forms are as they were.
-use Rattle.std.proofs.Common.{◌≡◌, ◌≢◌, ℕ, Bool, true, false, cond, List, [], ◌∷◌, ◌++◌, length, refl, sym, ap, ◌∙◌, subst}
+use Rattle.std.proofs.Common.{◌≡◌, ◌≢◌, ℕ, List, [], ◌∷◌, length, refl, sym, ap, ◌∙◌, subst}
 use Rattle.std.specs.List.{Contains}
 use Rattle.bs_words.specs.declared.types.Loc.TheVariants as loc
 use Rattle.mach_ir.specs.Acts.{Target, On, At}
-use Rattle.mach_ir.specs.Formed.{comps, labels_of, labels_in, HasPlace, place_here, place_below, HasHandler, handler_here, handler_below}
-use Rattle.mach_ir.specs.Meaning.{has_label, is_handler_of, after_label, from_handler, code_at, tries_at, tries_past}
-use Rattle.mach_ir.specs.Walks.{Among, first, later, Stands, here, below, InCode, in_args, in_results, further, IsRegister, is_param, is_colour, is_in_code}
+use Rattle.mach_ir.specs.Formed.{comps, labels_in}
+use Rattle.mach_ir.specs.Meaning.{after_label, from_handler, code_at, tries_at}
+use Rattle.mach_ir.specs.Walks.{Among, first, later, Stands, InCode, in_args, in_results, further, IsRegister, is_param, is_colour, is_in_code}
 use Rattle.mach_ir.specs.declared.reg.Reg.{Reg}
-use Rattle.mach_ir.specs.declared.mach.MachOp.{MachOp}
-use Rattle.mach_ir.specs.declared.mach.MachOp.TheVariants as mach
 use Rattle.mach_ir.specs.declared.mach.Instr.{Instr}
 use Rattle.mach_ir.specs.declared.mach.Mach.{Mach}
-use Rattle.mach_laws.specs.Expand.{KeepsMarks, no_label, not_labelled, no_handler, not_handled, no_bound, not_bound, expand}
+use Rattle.mach_laws.specs.Expand.{KeepsMarks, expand}
+use Rattle.mach_laws.proofs.InPlace as text
+use Rattle.mach_laws.proofs.InPlace.{AreAlike, same_op, was_main}
+use Rattle.mach_laws.proofs.Places.{label_expand, handler_expand, tries_expand}
 use Rattle.mach_laws.proofs.Among.{among_of}
 use Rattle.places_rules.proofs.Lists.{was}
 use Rattle.split_rules.specs.Renamed.{Naming, numbered, all_numbered, renamed_instr, renamed_code, renamed}
 use Rattle.split_rules.specs.Split.{IsNaming}
 
 module _ (names : Naming) where
-  -- ---- labels and tries
-
-  cond_renamed : (b : Bool) (xs ys : List Instr) →
-      cond b (renamed_code names xs) (renamed_code names ys) ≡ renamed_code names (cond b xs ys)
-  cond_renamed true xs ys = refl
-  cond_renamed false xs ys = refl
-
-  pub same_label : (l : ℕ) (code : List Instr) →
-      after_label l (renamed_code names code) ≡ renamed_code names (after_label l code)
-  same_label l [] = refl
-  same_label l (i ∷ is) =
-      ap (cond (has_label l i.op) (renamed_code names is)) (same_label l is)
-      ∙ cond_renamed (has_label l i.op) is (after_label l is)
-
-  pub same_handler : (l : ℕ) (code : List Instr) →
-      from_handler l (renamed_code names code) ≡ renamed_code names (from_handler l code)
-  same_handler l [] = refl
-  same_handler l (i ∷ is) =
-      ap (cond (is_handler_of l i.op) (renamed_code names (i ∷ is))) (same_handler l is)
-      ∙ cond_renamed (is_handler_of l i.op) (i ∷ is) (from_handler l is)
-
-  pub same_tries : (code : List Instr) → tries_at (renamed_code names code) ≡ tries_at code
-  same_tries [] = refl
-  same_tries (i ∷ is) = ap (tries_past i.op) (same_tries is)
-
-  pub same_at : (code next : List Instr) (t : Target) →
-      code_at (renamed_code names code) (renamed_code names next) t ≡ renamed_code names (code_at code next t)
-  same_at code next On = refl
-  same_at code next (At l) = same_label l code
-
-  pub same_labels : (code : List Instr) → labels_in (renamed_code names code) ≡ labels_in code
-  same_labels [] = refl
-  same_labels (i ∷ is) = by i.op i.args i.results (same_labels is)
-    where
-      by : (f : MachOp) (args results : List Reg) → labels_in (renamed_code names is) ≡ labels_in is →
-          labels_in (renamed_code names (record { op = f; args = args; results = results } ∷ is))
-          ≡ labels_in (record { op = f; args = args; results = results } ∷ is)
-      by (mach.Op f) args results ih = ih
-      by (mach.Mark f) args results ih = ap (λ ls. labels_of f ++ ls) ih
-
-  pub same_comps : (f : ℕ → ℕ) (rs : List Reg) → comps (all_numbered f rs) ≡ comps rs
-  same_comps f [] = refl
-  same_comps f (r ∷ rs) = ap (λ cs. r.comp ∷ cs) (same_comps f rs)
-
   -- ---- the code, instruction by instruction
+
+  abbrev pub again : ℕ → Instr → Instr
+  again n i = renamed_instr names n i
+
+  pub same_ops : (n : ℕ) (i : Instr) → AreAlike i.op (again n i).op
+  same_ops n i = same_op refl
 
   abbrev pub alone : ℕ → Instr → List Instr
   alone n i = renamed_instr names n i ∷ []
@@ -72,15 +35,34 @@ module _ (names : Naming) where
   as_expanded (i ∷ is) = ap (λ xs. renamed_instr names (length is) i ∷ xs) (as_expanded is)
 
   pub keeps_marks : KeepsMarks alone
-  keeps_marks =
-      record {
-        mark = λ l n i e. (renamed_instr names n i, refl, refl);
-        none = λ l n i e. not_labelled e no_label;
-        handler = λ l n i e. (renamed_instr names n i, [], refl, refl);
-        no_other = λ l n i e. not_handled e no_handler;
-        bound = λ n i e. (renamed_instr names n i, refl, refl);
-        unbound = λ n i e. not_bound e no_bound;
-      }
+  keeps_marks = text.keeps_marks again same_ops
+
+  -- ---- labels and tries
+
+  pub same_label : (l : ℕ) (code : List Instr) →
+      after_label l (renamed_code names code) ≡ renamed_code names (after_label l code)
+  same_label l code =
+      ap (after_label l) (as_expanded code) ∙ label_expand alone keeps_marks l code ∙ sym (as_expanded (after_label l code))
+
+  pub same_handler : (l : ℕ) (code : List Instr) →
+      from_handler l (renamed_code names code) ≡ renamed_code names (from_handler l code)
+  same_handler l code =
+      ap (from_handler l) (as_expanded code) ∙ handler_expand alone keeps_marks l code ∙ sym (as_expanded (from_handler l code))
+
+  pub same_tries : (code : List Instr) → tries_at (renamed_code names code) ≡ tries_at code
+  same_tries code = ap tries_at (as_expanded code) ∙ tries_expand alone keeps_marks code
+
+  pub same_at : (code next : List Instr) (t : Target) →
+      code_at (renamed_code names code) (renamed_code names next) t ≡ renamed_code names (code_at code next t)
+  same_at code next On = refl
+  same_at code next (At l) = same_label l code
+
+  pub same_labels : (code : List Instr) → labels_in (renamed_code names code) ≡ labels_in code
+  same_labels code = ap labels_in (as_expanded code) ∙ text.same_labels again same_ops code
+
+  pub same_comps : (f : ℕ → ℕ) (rs : List Reg) → comps (all_numbered f rs) ≡ comps rs
+  same_comps f [] = refl
+  same_comps f (r ∷ rs) = ap (λ cs. r.comp ∷ cs) (same_comps f rs)
 
   -- ---- places in the text
 
@@ -94,23 +76,15 @@ module _ (names : Naming) where
 
   pub was_at : {i : Instr} {next : List Instr} (code : List Instr) → Stands i next (renamed_code names code) →
       WasAt i next code
-  was_at [] s = elim s [ ]
-  was_at {i = i} {next = next} (j ∷ is) s = by s refl refl (λ z. was_at is z)
-    where
-      by : {k : Instr} {ys : List Instr} → Stands i next (k ∷ ys) → renamed_instr names (length is) j ≡ k →
-          renamed_code names is ≡ ys → (Stands i next (renamed_code names is) → WasAt i next is) → WasAt i next (j ∷ is)
-      by here e h ih = record { instr = j; after = is; stands = here; same = e; same_after = h }
-      by (below s) e h ih =
-          let w = ih (subst (Stands i next) (sym h) s) in
-          record { instr = w.instr; after = w.after; stands = below w.stands; same = w.same; same_after = w.same_after }
-
-  pub place_renamed : {l : ℕ} {code : List Instr} → HasPlace l code → HasPlace l (renamed_code names code)
-  place_renamed (place_here e) = place_here e
-  place_renamed (place_below h) = place_below (place_renamed h)
-
-  pub handler_renamed : {l : ℕ} {code : List Instr} → HasHandler l code → HasHandler l (renamed_code names code)
-  handler_renamed (handler_here e) = handler_here e
-  handler_renamed (handler_below h) = handler_below (handler_renamed h)
+  was_at {i} {next} code s =
+      let w = was_main again code i next (subst (Stands i next) (as_expanded code) s) in
+      record {
+        instr = w.instr;
+        after = w.next;
+        stands = w.stands;
+        same = w.same;
+        same_after = as_expanded w.next ∙ sym w.same_next;
+      }
 
 -- ---- members by number
 

@@ -14,11 +14,12 @@ use Rattle.mach_ir.specs.declared.mach.MachOp.{MachOp}
 use Rattle.mach_ir.specs.declared.reg.Reg.{Reg}
 use Rattle.mach_ir.specs.declared.mach.Instr.{Instr}
 use Rattle.mach_ir.specs.declared.mach.Mach.{Mach}
+use Rattle.mach_laws.proofs.Places.{contains_of}
 use Rattle.places_rules.proofs.Open.{machine_open}
 use Rattle.places_rules.proofs.Lists.{was}
 use Rattle.split_rules.specs.Renamed.{Naming, numbered, all_numbered, renamed_code, renamed}
 use Rattle.split_rules.specs.Split.{IsNaming, IsDense, IsSplit, IsKept}
-use Rattle.split_rules.proofs.Formed.{contains_of, was_instr, renamed_formed}
+use Rattle.split_rules.proofs.Formed.{was_instr, renamed_formed}
 use Rattle.split_rules.proofs.Kept.{does_renamed}
 use Rattle.split_rules.proofs.Text.{was_register, WasRegister}
 use Rattle.split_rules.proofs.Walked.{Stays, joined_before, no_addr_before}

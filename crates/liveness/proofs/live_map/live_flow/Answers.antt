@@ -1,4 +1,4 @@
-use Rattle.mach_laws.proofs.Walking.{live_map}
+use Rattle.mach_laws.proofs.LiveByGraph.{live_map}
 use Rattle.liveness.proofs.live_map.live_flow.Goals as goal
 
 pub returns-clause-live : goal.returns-clause-live

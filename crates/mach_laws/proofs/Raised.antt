@@ -47,7 +47,7 @@ pub data Told (Silent : Type 0) : Act → Type 0 where
   told_raise : {d : Doing} → Told Silent (EndsRaising d)
   told_stuck : Told Silent Stuck
 
-silent_told : {Silent : Type 0} → Silent → (act : Act) → Told Silent act
+pub silent_told : {Silent : Type 0} → Silent → (act : Act) → Told Silent act
 silent_told s (Goes vs to after) = told_go
 silent_told s (Pushes after) = told_push
 silent_told s (Jumps to after) = told_jump (inl s)
