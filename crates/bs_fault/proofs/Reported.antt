@@ -1,9 +1,8 @@
 -- What is noted one by one is the leftmost.
 use Rattle.std.proofs.Common.{◌≡◌, Bool, true, false, cond, ◌&&◌, ◌==◌, nat_lt, Option, Some, None, ◌⊎◌, inl, inr, refl, sym, arith, subst}
 use Rattle.std.proofs.lemmas.Bool.{ltb-true, ltb-false, eqb-true, or_cases, or_parts, and_parts, and_cases, eqb-false}
-use Rattle.bs_fault.specs.FaultLines.{fault_place}
 use Rattle.bs_fault.specs.declared.fault.Fault.{Fault}
-use Rattle.bs_fault.specs.Order.{fault_number, Precedes}
+use Rattle.bs_fault.specs.Order.{fault_number, fault_place, Precedes}
 use Rattle.bs_fault.specs.Reported.{Faults, NoFault, One, Both, Among, here, first, second, Faultless, one_of, IsReported, precedes, noted, noted_all}
 
 precedes-trans : (a b c : Fault) → Precedes a b → Precedes b c → Precedes a c

@@ -1,7 +1,6 @@
 -- The order of the faults of a text, and which of them is reported: the leftmost, and of those at one place the one of
 -- the lowest number.
 use Rattle.std.specs.Prelude.{◌≡◌, ℕ, ◌<◌, ◌⊎◌}
-use Rattle.bs_fault.specs.FaultLines.{fault_place}
 use Rattle.bs_fault.specs.declared.fault.Fault.{Fault}
 use Rattle.bs_fault.specs.declared.fault.Fault.TheVariants.{TooLong, BadToken, Unclosed, Unexpected, TooDeep, IntRange, TooManyParams, FunctionTooLong, DataTooLarge, DataItem, Unbound, UnknownSymbol, DuplicateSymbol, Arity, NoValue, NotMutable, AllocHeader, UnknownLabel, AddrLive, AddrArgument, SwitchSize}
 use Rattle.bs_fault.specs.declared.fault.Fault.TheVariants as fault
@@ -30,6 +29,31 @@ fault_number (fault.Float at) = 19
 fault_number (AddrLive bound point used) = 20
 fault_number (AddrArgument at) = 21
 fault_number (SwitchSize at) = 22
+
+-- where a fault is, in bytes from the start of the text
+abbrev pub fault_place : Fault → ℕ
+fault_place (TooLong at) = at
+fault_place (BadToken at) = at
+fault_place (Unclosed at) = at
+fault_place (Unexpected at) = at
+fault_place (TooDeep at) = at
+fault_place (IntRange at) = at
+fault_place (TooManyParams at) = at
+fault_place (FunctionTooLong at) = at
+fault_place (DataTooLarge at) = at
+fault_place (DataItem at) = at
+fault_place (Unbound at) = at
+fault_place (UnknownSymbol at) = at
+fault_place (DuplicateSymbol at) = at
+fault_place (Arity at) = at
+fault_place (NoValue at) = at
+fault_place (NotMutable at) = at
+fault_place (AllocHeader at) = at
+fault_place (UnknownLabel at) = at
+fault_place (fault.Float at) = at
+fault_place (AddrLive bound point used) = used
+fault_place (AddrArgument at) = at
+fault_place (SwitchSize at) = at
 
 -- one fault comes before another: it is further left, or at the same place and has the lower number
 abbrev pub Precedes : Fault → Fault → Type 0

@@ -1,7 +1,6 @@
 -- Faults as they are found one by one, and what is reported of them.
 use Rattle.std.specs.Prelude.{Bool, cond, ◌&&◌, ◌||◌, ◌==◌, nat_lt, Option, Some, None}
-use Rattle.bs_fault.specs.FaultLines.{fault_place}
-use Rattle.bs_fault.specs.Order.{fault_number, IsLeftmost}
+use Rattle.bs_fault.specs.Order.{fault_number, fault_place, IsLeftmost}
 use Rattle.bs_fault.specs.declared.fault.Fault.{Fault}
 
 -- Faults, in the order in which they are met.

@@ -91,32 +91,32 @@ fn fault_word(fault: Fault) -> &'static str
     ensures { result.now ≡ fault_word fault }
 {
     match fault {
-        Fault::TooLong { at: _ } => "F1 TooLong",
-        Fault::BadToken { at: _ } => "F2 BadToken",
-        Fault::Unclosed { at: _ } => "F3 Unclosed",
-        Fault::Unexpected { at: _ } => "F4 Unexpected",
-        Fault::TooDeep { at: _ } => "F5 TooDeep",
-        Fault::IntRange { at: _ } => "F6 IntRange",
-        Fault::TooManyParams { at: _ } => "F7 TooManyParams",
-        Fault::FunctionTooLong { at: _ } => "F8 FunctionTooLong",
-        Fault::DataTooLarge { at: _ } => "F9 DataTooLarge",
-        Fault::DataItem { at: _ } => "F10 DataItem",
-        Fault::Unbound { at: _ } => "F11 Unbound",
-        Fault::UnknownSymbol { at: _ } => "F12 UnknownSymbol",
-        Fault::DuplicateSymbol { at: _ } => "F13 DuplicateSymbol",
-        Fault::Arity { at: _ } => "F14 Arity",
-        Fault::NoValue { at: _ } => "F15 NoValue",
-        Fault::NotMutable { at: _ } => "F16 NotMutable",
-        Fault::AllocHeader { at: _ } => "F17 AllocHeader",
-        Fault::UnknownLabel { at: _ } => "F18 UnknownLabel",
-        Fault::Float { at: _ } => "F19 Float",
+        Fault::TooLong { at: _ } => "TooLong",
+        Fault::BadToken { at: _ } => "BadToken",
+        Fault::Unclosed { at: _ } => "Unclosed",
+        Fault::Unexpected { at: _ } => "Unexpected",
+        Fault::TooDeep { at: _ } => "TooDeep",
+        Fault::IntRange { at: _ } => "IntRange",
+        Fault::TooManyParams { at: _ } => "TooManyParams",
+        Fault::FunctionTooLong { at: _ } => "FunctionTooLong",
+        Fault::DataTooLarge { at: _ } => "DataTooLarge",
+        Fault::DataItem { at: _ } => "DataItem",
+        Fault::Unbound { at: _ } => "Unbound",
+        Fault::UnknownSymbol { at: _ } => "UnknownSymbol",
+        Fault::DuplicateSymbol { at: _ } => "DuplicateSymbol",
+        Fault::Arity { at: _ } => "Arity",
+        Fault::NoValue { at: _ } => "NoValue",
+        Fault::NotMutable { at: _ } => "NotMutable",
+        Fault::AllocHeader { at: _ } => "AllocHeader",
+        Fault::UnknownLabel { at: _ } => "UnknownLabel",
+        Fault::Float { at: _ } => "Float",
         Fault::AddrLive {
             bound: _,
             point: _,
             used: _,
-        } => "F20 AddrLive",
-        Fault::AddrArgument { at: _ } => "F21 AddrArgument",
-        Fault::SwitchSize { at: _ } => "F22 SwitchSize",
+        } => "AddrLive",
+        Fault::AddrArgument { at: _ } => "AddrArgument",
+        Fault::SwitchSize { at: _ } => "SwitchSize",
     }
 }
 
@@ -162,9 +162,10 @@ fn fault_more(alloc: Global, fault: Fault) -> Result<String, AllocError>
 pub fn fault_text(alloc: Global, fault: &Fault) -> Result<List<u8>, AllocError>
     ensures { IfOk result (λ text. contents text ≡ fault_line fault.now) }
 {
+    let number = fault.number();
     let word = fault_word(*fault);
     let at = fault.place();
     let more = fault_more(alloc, *fault)?;
-    let line = format!(in alloc; "cmmc: {word} at {at}{more}\n")?;
+    let line = format!(in alloc; "cmmc: F{number} {word} at {at}{more}\n")?;
     Ok(List::from_vec(line.into_bytes()))
 }

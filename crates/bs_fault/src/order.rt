@@ -1,7 +1,6 @@
 //! The order of the faults of a text, and which of several is reported.
 ghost use Rattle.std.specs.Prelude.{◌≡◌};
-ghost use Rattle.bs_fault.specs.FaultLines.{fault_place};
-ghost use Rattle.bs_fault.specs.Order.{fault_number};
+ghost use Rattle.bs_fault.specs.Order.{fault_number, fault_place};
 ghost use Rattle.bs_fault.specs.Reported.{precedes, noted, noted_all, one_if, one_of};
 
 use crate::fault::Fault;

@@ -5,7 +5,7 @@ ghost use Rattle.cmm_data.specs.Placement.{items_from, end_of_items};
 ghost use Rattle.cmm_data.specs.Faults.{is_within, keeps_rule, first_fault, data_fault_of};
 ghost use Rattle.bs_words.specs.Fits.{data_limit, data_start};
 
-use crate::size::{is_negative, is_unit, size_at, start_behind};
+use crate::size::{LISTS_START, is_negative, is_unit, size_at, start_behind};
 use bs_fault::Fault;
 use bs_words::{DATA_LIMIT, DATA_START, signed};
 use cmm_tree::{DataItem, Datum, File, Item};
@@ -16,7 +16,7 @@ use cmm_tree::{DataItem, Datum, File, Item};
 pub fn data_fault(file: &File) -> Option<Fault>
     ensures { result ≡ data_fault_of (file_view file.now) }
 {
-    let mut end = DATA_START + 8;
+    let mut end = LISTS_START;
     for item in file.items.as_slice() {
         if let Item::Data(list) = item {
             match end_of_items(start_behind(end), list.items.as_slice()) {

@@ -13,7 +13,7 @@ ghost use Rattle.cmm_data.specs.Map.{symbol_view, cells_view, IsMapOf};
 
 use crate::data_map::{DataCells, DataMap, DataSymbol};
 use crate::filling::Filling;
-use crate::size::{size_at, start_behind};
+use crate::size::{LISTS_START, size_at, start_behind};
 use crate::symbols::SymbolTable;
 use bs_words::{BOUND_ERROR, DATA_START, List, Name, Value};
 use cmm_tree::{DataItem, Datum, File, Item};
@@ -29,7 +29,7 @@ pub fn place_data(alloc: Global, file: &File) -> Result<DataMap, AllocError>
     let mut symbols = vec![in alloc; built_in_symbol(alloc)?]?;
     let mut lists = vec![in alloc; built_in_list(alloc)?]?;
     let mut roots = Vec::new(alloc);
-    let mut end = DATA_START + 8;
+    let mut end = LISTS_START;
     for item in file.items.as_slice() {
         if let Item::Data(list) = item {
             let start = start_behind(end);

@@ -4,8 +4,11 @@ ghost use Rattle.cmm_tree.specs.Tree.{Skip, Align};
 ghost use Rattle.cmm_tree.specs.View.{datum_view};
 ghost use Rattle.cmm_data.specs.Placement.{to_multiple, is_unit, is_negative, skipped, aligned, size_at, start_behind};
 
-use bs_words::signed;
+use bs_words::{DATA_START, signed};
 use cmm_tree::Datum;
+
+/// The first address past the built-in list.
+pub(crate) const LISTS_START: u64 = DATA_START + 8;
 
 /// From an address to the next multiple of a unit.
 pub(crate) fn to_multiple(address: u64, unit: u64) -> u64

@@ -7,7 +7,7 @@ ghost use Rattle.cmm_tree.specs.View.{file_view, data_item_view, datum_view};
 ghost use Rattle.cmm_data.specs.Placement.{items_from, end_of_items, symbol_at, definition_of_data, defined_at};
 ghost use Rattle.cmm_data.specs.Faults.{first_fault, data_fault_of};
 
-use crate::size::{size_at, start_behind};
+use crate::size::{LISTS_START, size_at, start_behind};
 use bs_words::{BOUND_ERROR, DATA_START, Value};
 use cmm_tree::{DataItem, Datum, File, Item};
 use std::alloc::{AllocError, Global};
@@ -34,7 +34,7 @@ impl<'a> SymbolTable<'a> {
         };
         table.define(BOUND_ERROR, Value::Word(DATA_START))?;
         let mut functions = 0;
-        let mut end = DATA_START + 8;
+        let mut end = LISTS_START;
         for item in file.items.as_slice() {
             match item {
                 Item::Function(function) => {

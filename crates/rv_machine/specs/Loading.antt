@@ -7,6 +7,7 @@ use Rattle.bs_words.specs.declared.types.Comp.{Comp}
 use Rattle.bs_words.specs.declared.values.Value.TheVariants as value
 use Rattle.image_form.specs.Tables.{Tables, Func, Sym}
 use Rattle.rv_machine.specs.Hart.{Hart}
+use Rattle.rv_machine.specs.Places.{most_room}
 use Rattle.rv_machine.specs.Start.{start, start_registers, padded, data_start}
 use Rattle.rv_machine.specs.declared.setup.Setup.{Setup}
 use Rattle.rv_machine.specs.declared.setup.Arg.{Arg}
@@ -72,7 +73,7 @@ beginning image setup = begins_at image setup (func_named setup.entry image.func
 -- the bytes that a stack, and a half of the heap, may have
 pub record IsRoom (bytes : ℕ) : Type 0 where
   pub aligned : bytes % 16 ≡ 0
-  pub most : bytes ≤ 67108864
+  pub most : bytes ≤ most_room
 
 -- the start of a run at an offset in the code, where these are the words of the argument registers
 abbrev pub IsStart : Tables → ℕ → List ℕ → ℕ → ℕ → Hart → Type 0

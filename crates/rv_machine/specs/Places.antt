@@ -15,6 +15,10 @@ half_start k = 0x30000000 + 0x04000000 * k
 abbrev pub stack_bottom : ℕ
 stack_bottom = 0x3FFFFFF0
 
+-- the most bytes of a stack, and of a half of the heap
+abbrev pub most_room : ℕ
+most_room = 67108864
+
 -- the end of the stack's region, after that trap frame
 abbrev pub stack_end : ℕ
 stack_end = 0x40000000

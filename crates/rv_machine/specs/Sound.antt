@@ -8,7 +8,7 @@ use Rattle.rv_machine.specs.Hart.{Hart, Next, Retired, Service, StackOut, Stoppe
 use Rattle.rv_machine.specs.Memory.{Region}
 use Rattle.rv_machine.specs.Observation.{young_start}
 use Rattle.rv_machine.specs.Placement.{are_apart}
-use Rattle.rv_machine.specs.Places.{data_start, domain_start, half_start, stack_bottom, stack_end}
+use Rattle.rv_machine.specs.Places.{data_start, domain_start, half_start, stack_bottom, most_room, stack_end}
 use Rattle.rv_machine.specs.Relocation.{Serviced, Goes, NoHeap, Refused}
 use Rattle.rv_machine.specs.Services.{Machine, Now, Going, Over}
 use Rattle.rv_machine.specs.Space.{IsHeap}
@@ -56,10 +56,10 @@ pub record HasRegions (places : List Extent) (memory : List Region) : Type 0 whe
 
 -- ---- the hart
 
--- The lowest address of a stack of at most 64 MiB.
+-- The lowest address of a stack.
 pub record IsStackBase (base : ℕ) : Type 0 where
   pub aligned : base % 16 ≡ 0
-  pub low : stack_bottom ≤ base + 67108864
+  pub low : stack_bottom ≤ base + most_room
   pub high : base ≤ stack_bottom
 
 pub record IsSound (h : Hart) : Type 0 where

@@ -5,6 +5,7 @@ use Rattle.std.specs.Vec.{vec_capacity}
 use Rattle.rv_machine.specs.Hart.{Placed}
 use Rattle.rv_machine.specs.Marks.{IsClean}
 use Rattle.rv_machine.specs.Placement.{bytes_used, is_in_heap}
+use Rattle.rv_machine.specs.Places.{most_room}
 use Rattle.rv_machine.specs.declared.space.Space.{Space}
 
 -- The table has nothing for any address, and there is room for the young blocks, for a new start of each
@@ -31,6 +32,6 @@ pub record IsKept (heap : ℕ) (b : Placed) : Type 0 where
 -- The heap of a machine between services.
 pub record IsHeap (heap : ℕ) (blocks : List Placed) : Type 0 where
   pub aligned : heap % 16 ≡ 0
-  pub most : heap ≤ 67108864
+  pub most : heap ≤ most_room
   pub each : AllByRecursion (IsKept heap) blocks
   pub fits : bytes_used blocks ≤ heap

@@ -29,5 +29,6 @@ pub use machine::Machine;
 pub use memory::Memory;
 pub use setup::{Arg, LoadError, Setup};
 pub use space::Space;
+pub use start::MOST_ROOM;
 pub use step_end::StepEnd;
 pub use table::Table;

@@ -1,5 +1,6 @@
 //! The memory that a machine keeps for moving blocks.
 ghost use Rattle.std.specs.Prelude.{◌≡◌, ◌%◌, ◌≤◌, IfOk};
+ghost use Rattle.rv_machine.specs.Places.{most_room};
 ghost use Rattle.rv_machine.specs.Space.{IsSpace};
 
 use crate::blocks::BlockPlace;
@@ -22,7 +23,7 @@ impl Space {
     /// The space for halves of so many bytes.
     pub fn new(alloc: Global, heap: u64) -> Result<Self, AllocError>
         requires aligned { heap % 16 ≡ 0 }
-        requires most { heap ≤ 67108864 }
+        requires most { heap ≤ most_room }
         ensures { IfOk result (λ space. IsSpace heap space) }
     {
         let table = Table::new(alloc, heap)?;

@@ -1,6 +1,7 @@
 //! The memory and the registers at the start of a run.
 ghost use Rattle.std.specs.Prelude.{◌≡◌, ◌+◌, ◌*◌, ◌%◌, ◌^◌, ◌<◌, ◌≤◌, length, IfOk};
 ghost use Rattle.rv_machine.specs.Memory.{number_of, words_of_bytes};
+ghost use Rattle.rv_machine.specs.Places.{most_room};
 ghost use Rattle.rv_machine.specs.Start.{uniform, data_region, domain_region, stack_region};
 
 use crate::code::CODE_START;
@@ -16,6 +17,9 @@ pub const LOWER_HALF: u64 = 0x3000_0000;
 
 /// The address of the heap's second half.
 pub const UPPER_HALF: u64 = 0x3400_0000;
+
+/// The most bytes of a stack, and of a half of the heap.
+pub const MOST_ROOM: u32 = 67_108_864;
 
 /// The lowest address of the young area, which fills downwards.
 pub const YOUNG_START: u64 = 0x3800_0000;
@@ -58,7 +62,7 @@ pub fn domain_region(alloc: Global) -> Result<Region, AllocError>
 /// The stack of so many bytes above the bottom trap frame.
 pub fn stack_region(alloc: Global, stack: u64) -> Result<Region, AllocError>
     requires aligned { stack % 16 ≡ 0 }
-    requires most { stack ≤ 67108864 }
+    requires most { stack ≤ most_room }
     ensures { IfOk result (λ r. r ≡ stack_region stack) }
 {
     let mut words = vec![in alloc; 0; (stack / 8) as usize]?;

@@ -1,6 +1,7 @@
 //! A table with a word for each word where a block may start.
 ghost use Rattle.std.specs.Prelude.{◌≡◌, ℕ, ◌==◌, ◌+◌, ◌/◌, ◌%◌, ◌≤◌, ◌<◌, cond, IfOk, IsSome, IfSome};
 ghost use Rattle.rv_machine.specs.Marks.{IsClean, mark_at, place_of};
+ghost use Rattle.rv_machine.specs.Places.{most_room};
 
 use crate::start::{LOWER_HALF, UPPER_HALF, YOUNG_START, YOUNG_TOP};
 use std::alloc::{AllocError, Global};
@@ -17,12 +18,13 @@ pub struct Table {
 impl Model for Table {
     ghost use Rattle.std.specs.Prelude.{◌≡◌, ◌≤◌, ◌+◌, ◌/◌, ◌%◌, length};
     ghost use Rattle.rv_machine.specs.Marks.{Marks};
+    ghost use Rattle.rv_machine.specs.Places.{most_room};
 
     ghost Value = { Marks };
 
     ghost view = { λ t. record { heap = t.heap; marks = t.marks.items } };
 
-    ghost invariant = { λ t. (t.heap % 16 ≡ 0) × (t.heap ≤ 67108864)
+    ghost invariant = { λ t. (t.heap % 16 ≡ 0) × (t.heap ≤ most_room)
         × (length t.marks.items ≡ 8192 + t.heap / 8 + t.heap / 8) };
 }
 
@@ -30,7 +32,7 @@ impl Table {
     /// The table for halves of so many bytes, with no mark.
     pub fn new(alloc: Global, heap: u64) -> Result<Self, AllocError>
         requires aligned { heap % 16 ≡ 0 }
-        requires most { heap ≤ 67108864 }
+        requires most { heap ≤ most_room }
         ensures of_heap { IfOk result (λ table. table.heap ≡ heap) }
         ensures clean { IfOk result (λ table. IsClean table) }
     {
@@ -65,7 +67,7 @@ impl Table {
 // The place in the table of an address, where a block may start there.
 fn place_of(heap: u64, address: u64) -> Option<usize>
     requires aligned { heap % 16 ≡ 0 }
-    requires most { heap ≤ 67108864 }
+    requires most { heap ≤ most_room }
     ensures exact { result ≡ place_of heap address }
     ensures within { IfSome result (λ place. place < 8192 + heap / 8 + heap / 8) }
 {
