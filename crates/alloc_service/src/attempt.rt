@@ -7,6 +7,7 @@ ghost use Rattle.bs_words.specs.Contents.{contents};
 ghost use Rattle.image_form.specs.Image.{IsImage};
 ghost use Rattle.image_form.specs.Tables.{desc, tables};
 ghost use Rattle.rv_machine.specs.Placement.{bytes_used, new_places, placed_at};
+ghost use Rattle.rv_machine.specs.Places.{most_room};
 ghost use Rattle.rv_machine.specs.Space.{IsKept, IsSpace};
 ghost use Rattle.alloc_service.specs.Attempt.{IsPrepared, Moves, Tries, parts, planned};
 ghost use Rattle.alloc_service.specs.Forward.{IsLow, IsPlaced, RedirectsFirst, forward};
@@ -25,7 +26,7 @@ use rv_machine::{BlockPlace, CODE_START, Memory, Space, Table};
 fn prepare(plan: Plan<'_>, number: u64, heap: u64, space: &mut Space, blocks: &[BlockPlace])
     requires space { IsSpace heap space.old }
     requires aligned { heap % 16 ≡ 0 }
-    requires most { heap ≤ 67108864 }
+    requires most { heap ≤ most_room }
     requires placed { AllByRecursion (IsPlaced heap) blocks.now }
     requires fits { bytes_used blocks.now ≤ heap }
     ensures { IsPrepared heap blocks.now
@@ -83,7 +84,7 @@ pub fn attempt(
     requires high { caller.base ≤ 0x40000000 }
     requires space { IsSpace caller.heap space.old }
     requires aligned { caller.heap % 16 ≡ 0 }
-    requires most { caller.heap ≤ 67108864 }
+    requires most { caller.heap ≤ most_room }
     requires placed { AllByRecursion (IsPlaced caller.heap) blocks.old.items }
     requires far { AllByRecursion IsLow blocks.old.items }
     requires fits { bytes_used blocks.old.items ≤ caller.heap }
@@ -137,7 +138,7 @@ fn move_all(
     requires high { caller.base ≤ 0x40000000 }
     requires prepared { IsPrepared caller.heap blocks.old.items
         (placed_at blocks.old.items space.old.starts.items) space.old }
-    requires most { caller.heap ≤ 67108864 }
+    requires most { caller.heap ≤ most_room }
     requires placed { AllByRecursion (IsPlaced caller.heap) blocks.old.items }
     requires far { AllByRecursion IsLow blocks.old.items }
     requires fits { bytes_used blocks.old.items ≤ caller.heap }

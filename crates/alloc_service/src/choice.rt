@@ -4,6 +4,7 @@ ghost use Rattle.std.specs.List.{AllByRecursion, list_all};
 ghost use Rattle.std.specs.Vec.{vec_capacity};
 ghost use Rattle.rv_machine.specs.Marks.{IsClean};
 ghost use Rattle.rv_machine.specs.Placement.{bytes_used, is_in_heap, new_places, placed_at};
+ghost use Rattle.rv_machine.specs.Places.{most_room};
 ghost use Rattle.alloc_service.specs.Forward.{IsSmall};
 ghost use Rattle.alloc_service.specs.Plan.{plan_of};
 
@@ -24,7 +25,7 @@ pub fn choose(
 )
     requires clean { IsClean table.old }
     requires of_heap { table.old.heap ≡ heap }
-    requires most { heap ≤ 67108864 }
+    requires most { heap ≤ most_room }
     requires small { AllByRecursion IsSmall blocks.now }
     requires fits { bytes_used blocks.now ≤ heap }
     requires empty { starts.old.items ≡ [] }
@@ -47,7 +48,7 @@ pub fn choose(
 // Fills the plan's starts, or reports that it has not one for each block.
 fn fill(plan: Plan<'_>, blocks: &[BlockPlace], starts: &mut Vec<u64>) -> bool
     requires empty { starts.old.items ≡ [] }
-    requires used { bytes_used blocks.now ≤ 67108864 }
+    requires used { bytes_used blocks.now ≤ most_room }
     requires room { length blocks.now ≤ vec_capacity starts.old }
     ensures filled { result ≡ true → starts.new.items ≡ plan_of plan.entry blocks.now }
     ensures unequal { result ≡ false → length (plan_of plan.entry blocks.now) ≢ length blocks.now }

@@ -3,6 +3,7 @@ ghost use Rattle.std.specs.Prelude.{◌≡◌, ◌≢◌, ℕ, ◌+◌, ◌-◌,
 ghost use Rattle.std.specs.List.{AllByRecursion, list_all};
 ghost use Rattle.rv_machine.specs.Marks.{IsClean, mark_at};
 ghost use Rattle.rv_machine.specs.Placement.{placed_at, is_in_heap, are_apart, is_valid};
+ghost use Rattle.rv_machine.specs.Places.{most_room};
 ghost use Rattle.alloc_service.specs.Forward.{IsSmall, MarksWithin, covers};
 
 use rv_machine::start::{LOWER_HALF, UPPER_HALF};
@@ -12,7 +13,7 @@ use rv_machine::{BlockPlace, Table};
 pub fn is_valid(table: &mut Table, heap: u64, blocks: &[BlockPlace], starts: &[u64]) -> bool
     requires clean { IsClean table.old }
     requires of_heap { table.old.heap ≡ heap }
-    requires most { heap ≤ 67108864 }
+    requires most { heap ≤ most_room }
     requires small { AllByRecursion IsSmall blocks.now }
     ensures exact { result ≡ is_valid heap blocks.now starts.now }
     ensures clean { IsClean table.new }
@@ -29,7 +30,7 @@ pub fn is_valid(table: &mut Table, heap: u64, blocks: &[BlockPlace], starts: &[u
 // Whether each block would lie inside a half.
 fn are_in_heap(heap: u64, blocks: &[BlockPlace], starts: &[u64]) -> bool
     requires lengths { length starts.now ≡ length blocks.now }
-    requires most { heap ≤ 67108864 }
+    requires most { heap ≤ most_room }
     requires small { AllByRecursion IsSmall blocks.now }
     ensures { result ≡ list_all (is_in_heap heap) (placed_at blocks.now starts.now) }
 {
@@ -43,7 +44,7 @@ fn are_in_heap(heap: u64, blocks: &[BlockPlace], starts: &[u64]) -> bool
 
 // Whether a block that starts there lies inside a half.
 fn is_in_heap(heap: u64, start: u64, words: u64) -> bool
-    requires most { heap ≤ 67108864 }
+    requires most { heap ≤ most_room }
     requires small { words ≤ 2 ^ 24 }
     ensures { result ≡ is_in_heap heap (record { start = start; words = words }) }
 {
@@ -54,7 +55,7 @@ fn is_in_heap(heap: u64, start: u64, words: u64) -> bool
 
 fn is_in_half(half: u64, heap: u64, start: u64, words: u64) -> bool
     requires half { half ≤ 2 ^ 32 }
-    requires most { heap ≤ 67108864 }
+    requires most { heap ≤ most_room }
     requires small { words ≤ 2 ^ 24 }
     ensures { IsTrue result ↔ ((half + 8 ≤ start) × (start + 8 * words ≤ half + heap)) }
 {
@@ -65,7 +66,7 @@ fn is_in_half(half: u64, heap: u64, start: u64, words: u64) -> bool
 fn claim(table: &mut Table, heap: u64, blocks: &[BlockPlace], starts: &[u64]) -> bool
     requires clean { IsClean table.old }
     requires of_heap { table.old.heap ≡ heap }
-    requires most { heap ≤ 67108864 }
+    requires most { heap ≤ most_room }
     requires lengths { length starts.now ≡ length blocks.now }
     requires small { AllByRecursion IsSmall blocks.now }
     requires inside { list_all (is_in_heap heap) (placed_at blocks.now starts.now) ≡ true }
@@ -86,7 +87,7 @@ fn claim(table: &mut Table, heap: u64, blocks: &[BlockPlace], starts: &[u64]) ->
 
 // Claims the words of one block.
 fn claim_block(table: &mut Table, start: u64, words: u64) -> bool
-    requires most { table.old.heap ≤ 67108864 }
+    requires most { table.old.heap ≤ most_room }
     requires small { words ≤ 2 ^ 24 }
     requires inside { is_in_heap table.old.heap (record { start = start; words = words }) ≡ true }
     ensures free { result ≡ true → (a : ℕ)
@@ -114,7 +115,7 @@ fn claim_block(table: &mut Table, start: u64, words: u64) -> bool
 // Takes all claims back.
 fn release(table: &mut Table, heap: u64, blocks: &[BlockPlace], starts: &[u64])
     requires of_heap { table.old.heap ≡ heap }
-    requires most { heap ≤ 67108864 }
+    requires most { heap ≤ most_room }
     requires lengths { length starts.now ≡ length blocks.now }
     requires small { AllByRecursion IsSmall blocks.now }
     requires inside { list_all (is_in_heap heap) (placed_at blocks.now starts.now) ≡ true }
@@ -128,7 +129,7 @@ fn release(table: &mut Table, heap: u64, blocks: &[BlockPlace], starts: &[u64])
 }
 
 fn release_block(table: &mut Table, start: u64, words: u64)
-    requires most { table.old.heap ≤ 67108864 }
+    requires most { table.old.heap ≤ most_room }
     requires small { words ≤ 2 ^ 24 }
     requires inside { is_in_heap table.old.heap (record { start = start; words = words }) ≡ true }
     ensures outside { (a : ℕ) → covers a (record { start = start; words = words }) ≡ false

@@ -4,6 +4,7 @@ ghost use Rattle.std.specs.Vec.{vec_capacity};
 ghost use Rattle.std.specs.List.{AllByRecursion};
 ghost use Rattle.rv_machine.specs.Observation.{young_blocks};
 ghost use Rattle.rv_machine.specs.Placement.{bytes_used};
+ghost use Rattle.rv_machine.specs.Places.{most_room};
 ghost use Rattle.alloc_service.specs.Young.{HasCells, Reads, Takes};
 
 use rv_machine::start::{YOUNG_START, YOUNG_TOP};
@@ -29,7 +30,7 @@ pub fn take_young(
     young: &mut Vec<BlockPlace>,
     blocks: &mut Vec<BlockPlace>,
 ) -> Taken
-    requires most { heap ≤ 67108864 }
+    requires most { heap ≤ most_room }
     requires empty { young.old.items ≡ [] }
     requires room { 4097 ≤ vec_capacity young.old }
     requires table { heap / 16 ≤ vec_capacity blocks.old }
@@ -86,7 +87,7 @@ fn read_young(memory: &Memory, from: u64, young: &mut Vec<BlockPlace>) -> bool
 
 /// The bytes of the blocks, with their headers.
 fn bytes_used(blocks: &[BlockPlace]) -> u64
-    requires { bytes_used blocks.now ≤ 67108864 }
+    requires { bytes_used blocks.now ≤ most_room }
     ensures { result ≡ bytes_used blocks.now }
 {
     let mut used = 0;

@@ -3,4 +3,4 @@
 
 mod limits;
 
-pub use limits::limit_fault;
+pub use limits::{LONGEST_TEXT, limit_fault};

@@ -10,6 +10,9 @@ ghost use Rattle.cmm_tree.specs.Rows.{row_of, bindings_of, cases_of, handlers_of
 use bs_fault::{Fault, noted, noted_if};
 use cmm_tree::{Binding, Case, CaseIndex, Expr, File, Form, Function, Handler, Item, Param};
 
+/// The most bytes of a text.
+pub const LONGEST_TEXT: u64 = 16_777_216;
+
 /// The most parameters of a function, and arguments of a call.
 const MOST_PARAMS: usize = 16;
 

@@ -12,13 +12,10 @@ use bs_fault::{Fault, FrontError, noted_optional};
 use bs_words::List;
 use cmm_data::data_fault;
 use cmm_lex::{Lexed, Token, lex};
-use cmm_limits::limit_fault;
+use cmm_limits::{LONGEST_TEXT, limit_fault};
 use cmm_parts::Stop;
 use cmm_tree::File;
 use std::alloc::Global;
-
-/// The most bytes of a text.
-const LONGEST_TEXT: usize = 16_777_216;
 
 /// How deep parentheses may nest.
 const NESTING: u32 = 250;
@@ -99,8 +96,10 @@ fn read_text(alloc: Global, text: &[u8]) -> Result<File, FrontError>
     ensures { MatchResult result (λ file. IsReading text.now (Ok (file_view file)))
         (IsStopOf text.now) }
 {
-    if text.len() > LONGEST_TEXT {
-        return Err(FrontError::Fault(Fault::TooLong { at: 16_777_216 }));
+    if text.len() as u64 > LONGEST_TEXT {
+        return Err(FrontError::Fault(Fault::TooLong {
+            at: LONGEST_TEXT as u32,
+        }));
     }
     let Lexed {
         tokens,

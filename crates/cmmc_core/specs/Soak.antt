@@ -7,6 +7,7 @@ use Rattle.command_line.specs.declared.command.Moves.{Moves}
 use Rattle.command_line.specs.declared.command.Moves.TheVariants.{Never, Seed}
 use Rattle.image_form.specs.Image.{tables_bytes}
 use Rattle.image_form.specs.Tables.{Tables}
+use Rattle.rv_machine.specs.Places.{most_room}
 use Rattle.rv_machine.specs.declared.setup.Arg.{Arg}
 use Rattle.rv_machine.specs.declared.setup.Arg.TheVariants.{Word}
 use Rattle.text_commands.specs.Lines.{need_text}
@@ -29,10 +30,6 @@ soak_args = Word 3 ∷ Word 4 ∷ []
 abbrev pub soak_steps : ℕ
 soak_steps = 1000000000
 
--- bytes of stack, and of each half of the heap
-abbrev pub soak_room : ℕ
-soak_room = 67108864
-
 abbrev pub soak_check : ℕ → CheckTree
 soak_check functions = record {
   entry = soak_entry functions;
@@ -47,8 +44,8 @@ soak_run functions moves = record {
   args = soak_args;
   answers = [];
   steps = soak_steps;
-  stack = soak_room;
-  heap = soak_room;
+  stack = most_room;
+  heap = most_room;
   moves = moves;
 }
 

@@ -23,15 +23,13 @@ use bs_words::Name;
 use cmm_gen::generate;
 use command_line::{Arg, CheckWords, Moves, RunWords};
 use image_form::{Image, write_image};
+use rv_machine::MOST_ROOM;
 use std::alloc::{AllocError, Global};
 use std::thread::Threads;
 use text_commands::{CheckRefusal, Gate, Trial, trial_of};
 
 /// The most instructions that a run retires, or units of fuel that it spends.
 const STEPS: u64 = 1_000_000_000;
-
-/// The bytes of the stack, and of each half of the heap.
-const ROOM: u32 = 67_108_864;
 
 /// Why nothing is reported of the text that is drawn.
 #[derive(Debug, Drop)]
@@ -180,8 +178,8 @@ fn run_words(alloc: Global, functions: u32, moves: Moves) -> Result<RunWords, Al
         args: arguments(alloc)?,
         answers: bs_words::List::new(alloc),
         steps: STEPS,
-        stack: ROOM,
-        heap: ROOM,
+        stack: MOST_ROOM,
+        heap: MOST_ROOM,
         moves,
     })
 }

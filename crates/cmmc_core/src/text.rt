@@ -7,10 +7,8 @@ ghost use Rattle.cmmc_core.specs.Refusal.{IsTextUnread};
 
 use bs_io::{InFault, Source, read_all};
 use bs_words::List;
+use cmm_limits::LONGEST_TEXT;
 use std::alloc::Global;
-
-/// The most bytes of a text.
-const LONGEST_TEXT: u64 = 16_777_216;
 
 /// Why a text was not read.
 #[derive(Debug, Drop)]

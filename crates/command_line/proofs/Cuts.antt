@@ -5,7 +5,8 @@ use Rattle.std.proofs.lemmas.List.Elements.{All-cons, All-head, All-tail, All-we
 use Rattle.bs_words.specs.Word.{sub_word}
 use Rattle.rv_machine.specs.declared.setup.Arg.{Arg}
 use Rattle.rv_machine.specs.declared.setup.Arg.TheVariants.{Word, Symbol}
-use Rattle.command_line.specs.Values.{Nothing, IsName, number_of, IsNumber, IsItem, number, negative, symbol, AreItems, last, more, IsItems, none, some}
+use Rattle.bs_words.specs.Symbol.{IsSymbol}
+use Rattle.command_line.specs.Values.{Nothing, number_of, IsNumber, IsItem, number, negative, symbol, AreItems, last, more, IsItems, none, some}
 
 abbrev NoComma : List ℕ → Type 0
 NoComma text = All (λ b. b ≢ 44) text
@@ -49,7 +50,7 @@ item-unique text a b (symbol name t is free e) (symbol name' t' is' free' e') =
 
 -- ---- one item from its first byte
 
-pub item_symbol : (text name name' : List ℕ) → NoComma text → text ≡ 64 ∷ name → (name' ≡ name) × IsName name → IsItem text (Symbol name')
+pub item_symbol : (text name name' : List ℕ) → NoComma text → text ≡ 64 ∷ name → (name' ≡ name) × IsSymbol name → IsItem text (Symbol name')
 item_symbol text name name' free t is =
     symbol name t is.1 (All-tail (λ b. b ≢ 44) 64 name (All-same (λ b. b ≢ 44) (64 ∷ name) text (sym t) free)) (ap Symbol is.0)
 
@@ -60,11 +61,11 @@ item_negative text digits n w t is e = negative digits n t is.0 is.1 (ap Word e)
 pub item_number : (text : List ℕ) (n : ℕ) → IsNumber text n × (n ≤ 9223372036854775807) → IsItem text (Word n)
 item_number text n is = let h = is.1 in number n is.0 (omega arith) refl
 
-pub no_symbol : (text name : List ℕ) → text ≡ 64 ∷ name → (IsName name → ⊥) → Nothing (IsItem text)
+pub no_symbol : (text name : List ℕ) → text ≡ 64 ∷ name → (IsSymbol name → ⊥) → Nothing (IsItem text)
 no_symbol text name t refuses item (number n is fits e) = let h = number-head 64 text name n is t in omega arith
 no_symbol text name t refuses item (negative digits n t' is fits e) = let h = (tail-same 64 45 name digits (sym t ∙ t')).0 in omega arith
 no_symbol text name t refuses item (symbol name' t' is free e) =
-    refuses (subst IsName (sym (tail-same 64 64 name name' (sym t ∙ t')).1) is)
+    refuses (subst IsSymbol (sym (tail-same 64 64 name name' (sym t ∙ t')).1) is)
 
 pub no_negative : (text digits : List ℕ) → text ≡ 45 ∷ digits → ((n : ℕ) → IsNumber digits n → 9223372036854775808 < n) → Nothing (IsItem text)
 no_negative text digits t past item (number n is fits e) = let h = number-head 45 text digits n is t in omega arith

@@ -6,7 +6,8 @@ use Rattle.std.proofs.lemmas.List.Elements.{All-cons}
 use Rattle.command_line.specs.declared.form.Slot.TheVariants.{Args, Answers, Steps, Stack, Heap, Fuel, Jobs}
 use Rattle.command_line.specs.declared.form.Slot.TheVariants as slot
 use Rattle.command_line.specs.Command.{default_jobs, default_steps, default_size, default_moves}
-use Rattle.command_line.specs.Values.{IsSteps, IsSize, IsMoves, never, IsItems, none, IsCounted, most_jobs, most_steps, largest_size}
+use Rattle.rv_machine.specs.Places.{most_room}
+use Rattle.command_line.specs.Values.{IsSteps, IsSize, IsMoves, never, IsItems, none, IsCounted, most_jobs, most_steps}
 use Rattle.command_line.specs.Program.{Defaults}
 use Rattle.command_line.proofs.Cuts.{list-unique}
 use Rattle.command_line.proofs.Unique.{steps-unique, size-unique, moves-unique, counted-unique}
@@ -34,7 +35,7 @@ steps_default = record {
 size_default : IsSize (codes "1048576") default_size
 size_default = record {
   number = record { some = leb-true 1 (length (codes "1048576")) refl; digits = all_digits (codes "1048576") refl; value = refl };
-  limit = leb-true default_size largest_size refl;
+  limit = leb-true default_size most_room refl;
   aligned = refl;
 }
 

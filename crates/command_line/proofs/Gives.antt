@@ -15,7 +15,8 @@ use Rattle.command_line.specs.declared.command.WordsError.{WordsError}
 use Rattle.command_line.specs.declared.command.WordsError.TheVariants.{ValueText}
 use Rattle.command_line.specs.Command.{Sets, given, left_out, Tells}
 use Rattle.command_line.specs.Program.{Stands, word_gives, word_lacks, Defaults, default_texts}
-use Rattle.command_line.specs.Values.{Nothing, IsName}
+use Rattle.bs_words.specs.Symbol.{IsSymbol}
+use Rattle.command_line.specs.Values.{Nothing}
 use Rattle.command_line.specs.Words.{prefix_of, fills, Gives}
 
 one-if : (b : Bool) → b ≡ true → ◌≡◌ {A = ℕ} (cond b 1 0) 1
@@ -163,8 +164,8 @@ stands_given others slot v empty (word_gives g) = g
 stands_given others slot v empty (word_lacks none is) = let clash : v ∷ [] ≡ [] = sym is ∙ empty in cc
 
 pub named_value : {E : Type 0} (others : List (List ℕ)) (v : List ℕ) → Gives others Plain v → (r : Result (List ℕ) E)
-    → IfOk r (λ bytes. (bytes ≡ v) × IsName v) → IfOk r (λ name. Gives others Plain name × IsName name)
-named_value others v g (Ok bytes) is = (subst (Gives others Plain) (sym is.0) g, subst IsName (sym is.0) is.1)
+    → IfOk r (λ bytes. (bytes ≡ v) × IsSymbol v) → IfOk r (λ name. Gives others Plain name × IsSymbol name)
+named_value others v g (Ok bytes) is = (subst (Gives others Plain) (sym is.0) g, subst IsSymbol (sym is.0) is.1)
 named_value others v g (Err e) is = tt
 
 -- the same of what a word has to tell

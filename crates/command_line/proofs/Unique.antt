@@ -12,7 +12,8 @@ use Rattle.stages.specs.declared.stage.Stage.TheVariants as stage
 use Rattle.command_line.specs.declared.command.Moves.{Moves}
 use Rattle.command_line.specs.declared.command.Moves.TheVariants.{Seed}
 use Rattle.command_line.specs.Command.{CommandTree, CompileCommand, RunCommand, CheckCommand, ListCommand, RunTree, CheckTree, IsRun, IsCheck, Means, IsCommand, compile, run, check, list, soak, default_jobs, default_steps, default_size, default_moves, Sets, given, left_out, Tells, WithinLimits, WithinFuel, KeepsLimits}
-use Rattle.command_line.specs.Values.{Nothing, IsSteps, IsSize, IsMoves, never, every, seeded, SeedsMoves, seed, IsItems, IsCounted, IsSeed, IsStage, stage_word, number_of, most_steps, largest_size, most_jobs, most_functions}
+use Rattle.rv_machine.specs.Places.{most_room}
+use Rattle.command_line.specs.Values.{Nothing, IsSteps, IsSize, IsMoves, never, every, seeded, SeedsMoves, seed, IsItems, IsCounted, IsSeed, IsStage, stage_word, number_of, most_steps, most_jobs, most_functions}
 use Rattle.command_line.specs.View.{view}
 use Rattle.command_line.specs.Words.{word_of, slots_of, IsForm, WellFormed}
 use Rattle.command_line.specs.declared.command.Command.{Command}
@@ -236,7 +237,7 @@ steps_within : (others : List (List ℕ)) (slot : Slot) (n : ℕ) → Sets other
 steps_within others slot n (given value g is) = is.limit
 steps_within others slot n (left_out none e) = omega arith
 
-size_within : (others : List (List ℕ)) (slot : Slot) (n : ℕ) → Sets others slot IsSize default_size n → (n ≤ largest_size) × (n % 16 ≡ 0)
+size_within : (others : List (List ℕ)) (slot : Slot) (n : ℕ) → Sets others slot IsSize default_size n → (n ≤ most_room) × (n % 16 ≡ 0)
 size_within others slot n (given value g is) = (is.limit, is.aligned)
 size_within others slot n (left_out none e) = (omega arith, rw e refl)
 

@@ -9,7 +9,9 @@ use Rattle.command_line.specs.declared.form.Slot.TheVariants as slot
 use Rattle.stages.specs.declared.stage.Stage.{Stage}
 use Rattle.command_line.specs.declared.command.Moves.{Moves}
 use Rattle.command_line.specs.declared.command.Moves.TheVariants.{Never}
-use Rattle.command_line.specs.Values.{IsName, IsSteps, IsSize, IsMoves, IsItems, IsCounted, IsSeed, IsStage, most_steps, largest_size, most_jobs, most_functions}
+use Rattle.rv_machine.specs.Places.{most_room}
+use Rattle.bs_words.specs.Symbol.{IsSymbol}
+use Rattle.command_line.specs.Values.{IsSteps, IsSize, IsMoves, IsItems, IsCounted, IsSeed, IsStage, most_steps, most_jobs, most_functions}
 use Rattle.command_line.specs.Words.{word_of, IsForm, Gives}
 
 -- What a run is to do.
@@ -69,7 +71,7 @@ pub data Sets {X : Type 0} (others : List (List ℕ)) (slot : Slot) (Reads : Lis
 -- The words after `run` are this run.
 pub record IsRun (others : List (List ℕ)) (run : RunTree) : Type 0 where
   pub entry : Gives others Plain run.entry
-  pub entry_name : IsName run.entry
+  pub entry_name : IsSymbol run.entry
   pub args : Sets others Args IsItems [] run.args
   pub answers : Sets others Answers IsItems [] run.answers
   pub steps : Sets others Steps IsSteps default_steps run.steps
@@ -80,7 +82,7 @@ pub record IsRun (others : List (List ℕ)) (run : RunTree) : Type 0 where
 -- The words after `check` are this run of a text.
 pub record IsCheck (others : List (List ℕ)) (check : CheckTree) : Type 0 where
   pub entry : Gives others Plain check.entry
-  pub entry_name : IsName check.entry
+  pub entry_name : IsSymbol check.entry
   pub args : Sets others Args IsItems [] check.args
   pub answers : Sets others Answers IsItems [] check.answers
   pub fuel : Sets others Fuel IsSteps default_steps check.fuel
@@ -110,16 +112,16 @@ AsksToCompile words = (jobs : ℕ) × IsCommand words (CompileCommand jobs)
 
 -- What is known of a run that words can ask for.
 pub record WithinLimits (run : RunTree) : Type 0 where
-  pub entry : IsName run.entry
+  pub entry : IsSymbol run.entry
   pub steps : run.steps ≤ most_steps
-  pub stack : run.stack ≤ largest_size
+  pub stack : run.stack ≤ most_room
   pub stack_aligned : run.stack % 16 ≡ 0
-  pub heap : run.heap ≤ largest_size
+  pub heap : run.heap ≤ most_room
   pub heap_aligned : run.heap % 16 ≡ 0
 
 -- What is known of a run of a text that words can ask for.
 pub record WithinFuel (check : CheckTree) : Type 0 where
-  pub entry : IsName check.entry
+  pub entry : IsSymbol check.entry
   pub fuel : check.fuel ≤ most_steps
 
 abbrev pub KeepsLimits : CommandTree → Type 0

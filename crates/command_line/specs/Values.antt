@@ -1,10 +1,12 @@
 -- How the values of a command line are written.
 use Rattle.std.specs.Prelude.{◌≡◌, ◌≢◌, ℕ, ◌+◌, ◌-◌, ◌*◌, ◌%◌, ◌^◌, ◌<◌, ◌≤◌, List, [], ◌∷◌, ◌++◌, codes, length, fold, All}
+use Rattle.bs_words.specs.Symbol.{IsSymbol}
 use Rattle.bs_words.specs.Word.{sub_word}
 use Rattle.command_line.specs.declared.command.Moves.{Moves}
 use Rattle.command_line.specs.declared.command.Moves.TheVariants.{Never, Every, Seed}
 use Rattle.stages.specs.declared.stage.Stage.{Stage}
 use Rattle.stages.specs.declared.stage.Stage.TheVariants as stage
+use Rattle.rv_machine.specs.Places.{most_room}
 use Rattle.rv_machine.specs.declared.setup.Arg.{Arg}
 use Rattle.rv_machine.specs.declared.setup.Arg.TheVariants.{Word, Symbol}
 
@@ -12,23 +14,11 @@ use Rattle.rv_machine.specs.declared.setup.Arg.TheVariants.{Word, Symbol}
 abbrev pub Nothing : {X : Type 0} → (X → Type 0) → Type 0
 Nothing {X} P = (x : X) → P x → ⊥
 
--- ---- names
-
--- a name of a function or a data symbol: 1 to 255 bytes, each 0x21 to 0x7E
-pub record IsName (bytes : List ℕ) : Type 0 where
-  pub some : 1 ≤ length bytes
-  pub short : length bytes ≤ 255
-  pub printed : All (λ b. (0x21 ≤ b) × (b ≤ 0x7E)) bytes
-
 -- ---- numbers
 
--- the most instructions that a run may be asked to retire, which is also the most fuel of a run of a text; and
--- the most bytes of a stack or half of a heap
+-- the most instructions that a run may be asked to retire, which is also the most fuel of a run of a text
 abbrev pub most_steps : ℕ
 most_steps = 1000000000000
-
-abbrev pub largest_size : ℕ
-largest_size = 67108864
 
 -- the number that digits write
 abbrev pub number_of : List ℕ → ℕ
@@ -48,7 +38,7 @@ pub record IsSteps (bytes : List ℕ) (n : ℕ) : Type 0 where
 -- the size of a stack or a half of a heap
 pub record IsSize (bytes : List ℕ) (n : ℕ) : Type 0 where
   pub number : IsNumber bytes n
-  pub limit : n ≤ largest_size
+  pub limit : n ≤ most_room
   pub aligned : n % 16 ≡ 0
 
 -- a number from 1 to the limit
@@ -111,7 +101,7 @@ pub data IsItem (text : List ℕ) (item : Arg) : Type 0 where
       → text ≡ 45 ∷ digits → IsNumber digits n → n ≤ 2 ^ 63 → item ≡ Word (sub_word 0 n) → IsItem text item
   -- `@` and a name without a comma
   symbol : (name : List ℕ)
-      → text ≡ 64 ∷ name → IsName name → All (λ b. b ≢ 44) name → item ≡ Symbol name → IsItem text item
+      → text ≡ 64 ∷ name → IsSymbol name → All (λ b. b ≢ 44) name → item ≡ Symbol name → IsItem text item
 
 -- one item or more, with a comma between each two
 pub data AreItems : List ℕ → List Arg → Type 0 where

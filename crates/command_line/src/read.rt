@@ -5,7 +5,8 @@ ghost use Rattle.bs_words.specs.Contents.{contents};
 ghost use Rattle.command_line.specs.declared.command.WordsError.{WordsError};
 ghost use Rattle.command_line.specs.declared.form.CommandWord.{CommandWord};
 ghost use Rattle.command_line.specs.declared.form.Slot.{Slot};
-ghost use Rattle.command_line.specs.Values.{IsName, IsSteps, IsSize, IsMoves, IsItems, IsCounted, IsSeed, IsStage, Nothing, most_jobs, most_functions};
+ghost use Rattle.bs_words.specs.Symbol.{IsSymbol};
+ghost use Rattle.command_line.specs.Values.{IsSteps, IsSize, IsMoves, IsItems, IsCounted, IsSeed, IsStage, Nothing, most_jobs, most_functions};
 ghost use Rattle.command_line.specs.Words.{fills, word_of, slots_of, WellFormed, IsForm, Gives};
 ghost use Rattle.command_line.specs.Program.{HasText, Stands, Defaults, id_of, program};
 ghost use Rattle.command_line.specs.Command.{CommandTree, Sets, Tells, IsRun, IsCheck, Means, IsCommand, KeepsLimits};
@@ -45,9 +46,9 @@ fn entry(alloc: Global, others: &[String], given: &ArgMatches<'_>) -> Result<Nam
     requires once { count_by (fills Slot.Plain) (texts others.now) ≤ 1 }
     requires stands { HasText (texts others.now) Slot.Plain
         (first_value (found_of given.now) (id_of Slot.Plain)) }
-    ensures value { IfOk result (λ name. Gives (texts others.now) Slot.Plain name × IsName name) }
+    ensures value { IfOk result (λ name. Gives (texts others.now) Slot.Plain name × IsSymbol name) }
     ensures bad { IsErrOf result WordsError.ValueText
-        → Nothing (λ name. Gives (texts others.now) Slot.Plain name × IsName name) }
+        → Nothing (λ name. Gives (texts others.now) Slot.Plain name × IsSymbol name) }
     ensures formed { ¬ IsErrOf result WordsError.Words }
 {
     values::name(alloc, text_for(others, given, Slot::Plain).as_bytes())

@@ -2,19 +2,17 @@
 ghost use Rattle.std.specs.Prelude.{◌≡◌, ◌≢◌, ◌<◌, ◌≤◌, ◌↔◌, ◌∷◌, ◌++◌, ℕ, MatchOption, IfOk, IsTrue, IsErrOf, All};
 ghost use Rattle.bs_words.specs.Contents.{contents};
 ghost use Rattle.command_line.specs.declared.command.WordsError.{WordsError};
-ghost use Rattle.command_line.specs.Values.{IsName, IsNumber, IsSteps, IsSize, IsMoves, SeedsMoves, IsItem, IsCounted, IsSeed, IsStage, IsItems, Nothing};
+ghost use Rattle.bs_words.specs.Symbol.{IsSymbol};
+ghost use Rattle.command_line.specs.Values.{IsNumber, IsSteps, IsSize, IsMoves, SeedsMoves, IsItem, IsCounted, IsSeed, IsStage, IsItems, Nothing};
 
 use crate::command::{Moves, WordsError};
 use bs_words::{List, Name, sub};
-use rv_machine::Arg;
+use rv_machine::{Arg, MOST_ROOM};
 use stages::Stage;
 use std::alloc::Global;
 
 /// The most instructions that a run may be asked to retire.
 const MOST_STEPS: u64 = 1_000_000_000_000;
-
-/// The most bytes of a stack or of half of a heap.
-const LARGEST_SIZE: u64 = 67_108_864;
 
 /// The most that a number after `-` may be, and without one.
 const MOST_NEGATIVE: u64 = 9_223_372_036_854_775_808;
@@ -59,7 +57,7 @@ pub(crate) fn size(text: &[u8]) -> Option<u32>
         (Nothing (IsSize text.now))
         (λ n. IsSize text.now n) }
 {
-    let bytes = number(text, LARGEST_SIZE)?;
+    let bytes = number(text, u64::from(MOST_ROOM))?;
     if bytes % 16 == 0 {
         Some(bytes as u32)
     } else {
@@ -152,15 +150,15 @@ pub(crate) fn stage(text: &[u8]) -> Option<Stage>
 
 /// Whether the text can be a name: 1 to 255 bytes, each 0x21 to 0x7E.
 fn is_name(text: &[u8]) -> bool
-    ensures { IsTrue result ↔ IsName text.now }
+    ensures { IsTrue result ↔ IsSymbol text.now }
 {
     !text.is_empty() && text.len() <= 255 && text.iter().all(|b| 0x21 <= *b && *b <= 0x7E)
 }
 
 /// The name that the text is.
 pub(crate) fn name(alloc: Global, text: &[u8]) -> Result<Name, WordsError>
-    ensures value { IfOk result (λ bytes. (bytes ≡ text.now) × IsName text.now) }
-    ensures bad { IsErrOf result WordsError.ValueText → ¬ IsName text.now }
+    ensures value { IfOk result (λ bytes. (bytes ≡ text.now) × IsSymbol text.now) }
+    ensures bad { IsErrOf result WordsError.ValueText → ¬ IsSymbol text.now }
     ensures formed { ¬ IsErrOf result WordsError.Words }
 {
     if !is_name(text) {

@@ -2,8 +2,9 @@
 -- the first field that breaks a rule or passes the end of the body. A field is known by the number of
 -- bytes of the body from it on.
 use Rattle.std.specs.Prelude.{◌≡◌, ℕ, zero, suc, ◌+◌, ◌-◌, ◌/◌, ◌%◌, Bool, true, ◌&&◌, ◌||◌, not, List, [], ◌∷◌, ◌++◌, length, take, drop, map, Option, Some, None, Result, Ok, Err, nat_lt, nat_le, ◌==◌, if◌then◌else◌}
-use Rattle.std.specs.List.{slice_get, list_all}
+use Rattle.std.specs.List.{slice_get}
 use Rattle.std.specs.Int.{Width, w16, w32, byte_len, from_le_bytes}
+use Rattle.bs_words.specs.Symbol.{is_symbol}
 use Rattle.bs_words.specs.declared.types.Comp.{Comp}
 use Rattle.bs_words.specs.declared.types.Comp.TheVariants.{Int, Val, Addr}
 use Rattle.bs_words.specs.declared.types.Ret.{Ret}
@@ -51,13 +52,8 @@ text_at bytes = do
   n ← number_at w16 bytes
   if nat_lt (length n.1) n.0 then Err (length bytes) else Ok (take n.0 n.1, drop n.0 n.1)
 
-unfoldable pub is_name : List ℕ → Bool
-is_name name =
-    nat_lt 0 (length name)
-    && (nat_le (length name) 255 && list_all (λ b. nat_le 0x21 b && nat_le b 0x7E) name)
-
 unfoldable pub name_at : List ℕ → Result (List ℕ × List ℕ) ℕ
-name_at = kept is_name text_at
+name_at = kept is_symbol text_at
 
 -- a name that is not among these
 unfoldable pub new_name_at : List (List ℕ) → List ℕ → Result (List ℕ × List ℕ) ℕ

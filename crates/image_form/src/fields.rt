@@ -1,7 +1,9 @@
 //! The fields of the bodies, each read as a value and the bytes after it.
-ghost use Rattle.std.specs.Prelude.{◌≡◌, List, ℕ, [], ◌∷◌, ◌++◌, ◌&&◌, ◌≤◌, nat_le, length, IsTrue, IfOk};
+ghost use Rattle.std.specs.Prelude.{◌≡◌, List, ℕ, [], ◌∷◌, ◌++◌, ◌≤◌, length, IsTrue, IfOk};
+ghost use Rattle.std.specs.Char.{is_ascii_graphic};
 ghost use Rattle.std.specs.Int.{w16, w32};
 ghost use Rattle.std.specs.List.{list_all};
+ghost use Rattle.bs_words.specs.Symbol.{is_symbol};
 ghost use Rattle.image_form.specs.Seen.{Holds};
 ghost use Rattle.image_form.specs.Fields.{
   Gives,
@@ -9,7 +11,6 @@ ghost use Rattle.image_form.specs.Fields.{
   number_at,
   wide_at,
   text_at,
-  is_name,
   name_at,
   new_name_at,
   comp_of,
@@ -83,26 +84,18 @@ fn text_from(bytes: &[u8]) -> Result<(&[u8], &[u8]), Stop>
     Ok(rest.split_at(len))
 }
 
-/// Whether the byte is a visible character of ASCII.
-fn is_visible(byte: u8) -> bool
-    ensures { result ≡ (nat_le 0x21 byte && nat_le byte 0x7E) }
+fn are_graphic(text: &[u8]) -> bool
+    ensures { result ≡ list_all is_ascii_graphic text.now }
 {
-    byte >= 0x21 && byte <= 0x7E
-}
-
-fn are_visible(text: &[u8]) -> bool
-    ensures { result ≡ list_all (λ b. nat_le 0x21 b && nat_le b 0x7E) text.now }
-{
-    text.iter().all(|byte| is_visible(*byte))
+    text.iter().all(|byte| byte.is_ascii_graphic())
 }
 
 /// Whether the text can be a name: 1 to 255 bytes, each a visible character of ASCII.
-#[tactic(auto, unfolding(crate::specs::Fields::is_name))]
 fn is_name(text: &[u8]) -> bool
-    ensures value { result ≡ is_name text.now }
+    ensures value { result ≡ is_symbol text.now }
     ensures short { IsTrue result → length text.now ≤ 255 }
 {
-    !text.is_empty() && text.len() <= 255 && are_visible(text)
+    !text.is_empty() && text.len() <= 255 && are_graphic(text)
 }
 
 #[tactic(auto, unfolding(crate::specs::Fields::name_at, crate::specs::Fields::kept))]
