@@ -8,7 +8,7 @@ use Rattle.cmm_meaning.specs.State.{Doing}
 use Rattle.mach_ir.specs.Acts.{Around, Target, On, At, Landing, AtLabel, AtHandler, Act, Goes, Pushes, Jumps, Unwinds, Asks, Replaces, Ends, EndsRaising, Stuck}
 use Rattle.mach_ir.specs.Formed.{IsFormed, WellFormed}
 use Rattle.mach_ir.specs.Runs.{Place, entered}
-use Rattle.mach_ir.specs.Meaning.{State, File, put_all, clear, killed, written, values, past_frame, passes_frame, mach_act, after_label, at_handler, code_at, tries_at, landing_code, start, tries_past}
+use Rattle.mach_ir.specs.Meaning.{State, File, put_all, clear, killed, written, values, past_frame, passes_frame, mach_act, after_label, at_handler, code_at, tries_at, landing_code, start}
 use Rattle.mach_ir.specs.Walks.{Among, OneOf, this, targets, may_raise, goes, raises, Live, LiveAcross}
 use Rattle.mach_ir.specs.Keeps.{ValsWritten, wrote_unless, Begins, Does}
 use Rattle.mach_ir.specs.declared.mach.MachOp.{MachOp}
@@ -20,13 +20,14 @@ use Rattle.mach_laws.proofs.General as general
 use Rattle.mach_laws.proofs.General.{at}
 use Rattle.mach_laws.proofs.Leads.{IsTry, is_try, MayLand, lands_at_label, lands_at_handler, Within, goes_in, pushes_in, jumps_in, unwinds_in, asks_in, within}
 use Rattle.mach_laws.proofs.Level as level
-use Rattle.mach_laws.proofs.Places.{tries_expand, ending_next, ending_label, ending_land, stands_of}
+use Rattle.mach_laws.proofs.Places.{ending_next, ending_label, ending_land, stands_of}
 use Rattle.mach_laws.proofs.Simulate.{Agrees}
 use Rattle.mach_laws.proofs.Among.{split_among}
 use Rattle.split_rules.proofs.Known.{values_same, past_same, cleared, not_cleared, among_or_not, PutsBoth, put_both, IsRaised, Told, told_jump, told_unwind, told_ask, IsSilent, told, label_silent, try_silent}
 use Rattle.split_rules.proofs.Formed.{contains_of}
 use Rattle.dead_rules.specs.Dropped.{may_go, IsUsed, on, aside, without, dropped, AreDead}
-use Rattle.dead_rules.proofs.Live.{used_live, label_is, handler_is, none_killed, lift, live_back, across_back, was_register, used_by}
+use Rattle.dead_rules.proofs.Left.{tries_here, label_is, landing_is}
+use Rattle.dead_rules.proofs.Live.{used_live, none_killed, lift, live_back, across_back, was_register, used_by}
 use Rattle.dead_rules.proofs.Text.{pure_of, pure_no_frame, goes_on, Fate, falls, remains, fate, keeps_marks}
 
 module _ (m : Mach) (drops : ℕ → Bool) (dead : AreDead m drops) (formed : WellFormed m) where
@@ -88,18 +89,6 @@ module _ (m : Mach) (drops : ℕ → Bool) (dead : AreDead m drops) (formed : We
       }
 
   -- ---- where it goes
-
-  handlers_same : (tries : List ℕ) → at_handler q.code tries ≡ expand f (at_handler m.code tries)
-  handlers_same [] = refl
-  handlers_same (l ∷ tries) = handler_is m drops dead l
-
-  lands_same : (this_code that_code : List Instr) (to : Landing) → tries_at that_code ≡ tries_at this_code →
-      landing_code q.code that_code to ≡ expand f (landing_code m.code this_code to)
-  lands_same this_code that_code (AtLabel l) e = label_is m drops dead l
-  lands_same this_code that_code AtHandler e = ap (at_handler q.code) e ∙ handlers_same (tries_at this_code)
-
-  tries_same : (i : Instr) (next : List Instr) → tries_at (i ∷ expand f next) ≡ tries_at (i ∷ next)
-  tries_same i next = ap (tries_past i.op) (tries_expand f (keeps_marks drops) next)
 
   caught : {n : ℕ} {i : Instr} {next : List Instr} → may_raise i.op ≡ true → (tries : List ℕ) → tries_at (i ∷ next) ≡ tries →
       IsUsed m n (at_handler m.code tries) → IsUsed m n (i ∷ next)
@@ -164,7 +153,7 @@ module _ (m : Mach) (drops : ℕ → Bool) (dead : AreDead m drops) (formed : We
         general.elsewhere refl
         (λ w. (
           (refl, after_same vs d p (At l) o),
-          subst (λ code. Agrees q (written m i) (at code p.file y)) (sym (label_is m drops dead l))
+          subst (λ code. Agrees q (written m i) (at code p.file y)) (sym (label_is m drops l))
               (agrees_by (after_label l m.code) (ending_label l m.code) d p.file y (written m i) (after_same vs d p (At l) o)
               (put_wrote vs d p y.raised) w),
         ))
@@ -178,7 +167,7 @@ module _ (m : Mach) (drops : ℕ → Bool) (dead : AreDead m drops) (formed : We
     lands to may y s w = (
       (refl, landed to may),
       subst (λ code. Agrees q (written m i) (at code b' y))
-          (sym (lands_same (i ∷ next) (i ∷ expand f next) to (tries_same i next)))
+          (sym (landing_is m drops (i ∷ next) (i ∷ expand f next) to (tries_here drops i next refl)))
           (agrees_by (landing_code m.code (i ∷ next) to) (ending_land to (i ∷ next) m.code) a' b' y (written m i)
           (landed to may) (silent_wrote i y.raised a' b' s) w),
     )
@@ -193,9 +182,9 @@ module _ (m : Mach) (drops : ℕ → Bool) (dead : AreDead m drops) (formed : We
         (λ d e.
         let p = put_both c.setting.end i.results vs (clear (killed m i) a') (clear (killed m i) b') d e in
         (p.file, p.puts, past_to vs d p after to o))
-    acts_same y (Jumps to after) (jumps_in l) (told_jump s) = general.both_jump (tries_same i next) (lands to l after s)
+    acts_same y (Jumps to after) (jumps_in l) (told_jump s) = general.both_jump (tries_here drops i next refl) (lands to l after s)
     acts_same y (Unwinds after) (unwinds_in r) (told_unwind s) =
-        general.both_unwind (tries_same i next) (lands AtHandler (lands_at_handler r) after s)
+        general.both_unwind (tries_here drops i next refl) (lands AtHandler (lands_at_handler r) after s)
     acts_same y (Pushes after) (pushes_in t) u =
         general.both_push refl refl
         (λ w. (

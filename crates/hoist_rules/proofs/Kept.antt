@@ -9,10 +9,10 @@ use Rattle.bs_words.specs.declared.values.Value.{Value}
 use Rattle.bs_words.specs.declared.values.Value.TheVariants as value
 use Rattle.bs_words.proofs.Lists.{head_same, tail_same}
 use Rattle.cmm_meaning.specs.State.{Doing}
-use Rattle.mach_ir.specs.Acts.{Around, Target, On, At, Landing, AtLabel, AtHandler, Act, Goes, Pushes, Jumps, Unwinds, Asks, Replaces, Ends, EndsRaising, Stuck}
+use Rattle.mach_ir.specs.Acts.{Around, Target, On, At, Landing, Goes, Replaces, Stuck}
 use Rattle.mach_ir.specs.Formed.{WellFormed}
 use Rattle.mach_ir.specs.Runs.{Place, entered}
-use Rattle.mach_ir.specs.Meaning.{Held, State, File, unless_addr, with_held, put, put_all, clear, killed, written, values, past_frame, passes_frame, mach_act, after_label, at_handler, tries_at, landing_code, start, tries_past}
+use Rattle.mach_ir.specs.Meaning.{Held, State, File, unless_addr, with_held, put, put_all, clear, killed, written, values, past_frame, passes_frame, mach_act, after_label, landing_code, start}
 use Rattle.mach_ir.specs.Walks.{Among, OneOf, targets, IsRegister, Live, LiveAcross}
 use Rattle.mach_ir.specs.Keeps.{ValsWritten, wrote_unless, Begins, Does}
 use Rattle.mach_ir.specs.declared.reg.Reg.{Reg}
@@ -21,14 +21,15 @@ use Rattle.mach_ir.specs.declared.mach.Mach.{Mach}
 use Rattle.mach_laws.specs.Expand.{Ending, expand}
 use Rattle.mach_laws.proofs.General as general
 use Rattle.mach_laws.proofs.General.{at}
-use Rattle.mach_laws.proofs.Leads.{MayLand, Within, goes_in, pushes_in, jumps_in, unwinds_in, asks_in, lands_at_handler, within}
+use Rattle.mach_laws.proofs.Leads.{MayLand}
 use Rattle.mach_laws.proofs.Level as level
-use Rattle.mach_laws.proofs.Places.{tries_expand, ending_next, ending_label, ending_land, stands_of}
+use Rattle.mach_laws.proofs.Places.{ending_next, ending_label, ending_land, stands_of}
 use Rattle.mach_laws.proofs.Simulate.{Agrees}
 use Rattle.mach_laws.proofs.Among.{left_among, right_among}
 use Rattle.mach_laws.proofs.Files.{put_other}
 use Rattle.places_rules.proofs.Files.{past_same, cleared, not_cleared, among_or_not, put_here, PutsBoth, put_both}
 use Rattle.dead_rules.specs.Dropped.{may_go, without}
+use Rattle.dead_rules.proofs.Left.{tries_here, label_is, landing_is}
 use Rattle.dead_rules.proofs.Text.{pure_of, pure_no_frame, Fate, falls, remains, fate, keeps_marks}
 use Rattle.hoist_rules.specs.Hoisted.{MayMove, hoisted, MayAllMove}
 use Rattle.hoist_rules.proofs.Moved as at_entry_of
@@ -147,23 +148,6 @@ module _ (m : Mach) (moves : ℕ → Bool) (may : MayAllMove m moves) (formed : 
             (at_entry_of.made_or_not m moves may r.number);
       }
 
-  -- ---- where it goes
-
-  label_is : (l : ℕ) → after_label l rest_of.code ≡ expand f (after_label l m.code)
-  label_is = at_entry_of.label_is m moves may
-
-  handlers_same : (tries : List ℕ) → at_handler rest_of.code tries ≡ expand f (at_handler m.code tries)
-  handlers_same [] = refl
-  handlers_same (l ∷ tries) = at_entry_of.handler_is m moves may l
-
-  lands_same : (this_code that_code : List Instr) (to : Landing) → tries_at that_code ≡ tries_at this_code →
-      landing_code rest_of.code that_code to ≡ expand f (landing_code m.code this_code to)
-  lands_same this_code that_code (AtLabel l) e = label_is l
-  lands_same this_code that_code AtHandler e = ap (at_handler rest_of.code) e ∙ handlers_same (tries_at this_code)
-
-  tries_same : (i : Instr) (next : List Instr) → tries_at (i ∷ expand f next) ≡ tries_at (i ∷ next)
-  tries_same i next = ap (tries_past i.op) (tries_expand f (keeps_marks moves) next)
-
   -- the relation does not depend on the place
   abbrev Rel : List Instr → File → File → Type 0
   Rel rest a b = Same a b
@@ -226,7 +210,7 @@ module _ (m : Mach) (moves : ℕ → Bool) (may : MayAllMove m moves) (formed : 
           general.elsewhere refl
           (λ w. (
             (refl, s),
-            subst (λ code. Agrees rest_of (written m i) (at code p.file y)) (sym (label_is l))
+            subst (λ code. Agrees rest_of (written m i) (at code p.file y)) (sym (label_is m moves l))
                 (agrees_by (after_label l m.code) (ending_label l m.code) d p.file y (written m i) s w),
           ))
 
@@ -235,46 +219,37 @@ module _ (m : Mach) (moves : ℕ → Bool) (may : MayAllMove m moves) (formed : 
       lands to l y w = (
         (refl, past),
         subst (λ code. Agrees rest_of (written m i) (at code b' y))
-            (sym (lands_same (i ∷ next) (i ∷ expand f next) to (tries_same i next)))
+            (sym (landing_is m moves (i ∷ next) (i ∷ expand f next) to (tries_here moves i next refl)))
             (agrees_by (landing_code m.code (i ∷ next) to) (ending_land to (i ∷ next) m.code) a' b' y (written m i) past w),
       )
-
-      acts_same : (y : Around) (act : Act) → Within i.op act →
-          general.Acts c m rest_of f (keeps_marks moves) refl Suit Round i i next [] y y a' b' act act
-      acts_same y (Goes vs to after) (goes_in o) =
-          general.both_go
-          (λ d e.
-          let p = put_both c.setting.end i.results vs (clear (killed m i) a') (clear (killed m i) b') d e in
-          (p.file, p.puts, past_to vs d p after to o))
-      acts_same y (Jumps to after) (jumps_in l) = general.both_jump (tries_same i next) (lands to l after)
-      acts_same y (Unwinds after) (unwinds_in r) =
-          general.both_unwind (tries_same i next) (lands AtHandler (lands_at_handler r) after)
-      acts_same y (Pushes after) (pushes_in t) =
-          general.both_push refl refl
-          (λ w. ((refl, past), agrees_by next (ending_next ending) a' b' after (written m i) past w))
-      acts_same y (Asks whom vs go) (asks_in w) =
-          general.both_ask (record { memory = refl; tries = refl }) (λ d. acts_same y (go d) (w d))
-      acts_same y (Replaces whom vs kept) w = general.both_replace (record { memory = refl; tries = refl })
-      acts_same y (Ends d) w = general.both_end
-      acts_same y (EndsRaising d) w = general.both_raise
-      acts_same y Stuck w = general.stuck_first
 
       -- an instruction that is left
       left_there : (y : Around) (vs : List Value) → values a i.args ≡ Some vs → f (length next) i ≡ i ∷ [] →
           general.Replaces c m rest_of f (keeps_marks moves) refl Suit Round i next y y a b vs
       left_there y vs e shape =
-          record {
+          level.replaces c m rest_of f (keeps_marks moves) refl Suit Rel y
+          (record {
             pre = [];
             main = i;
             post = [];
             shape = shape;
+            same_op = refl;
             between = b;
             passing = general.passed;
             vals = λ known. vals_before i next a b y ending same known;
-            read = vs;
             reads = values_more a b i.args (λ n. ⊎_elim inl (λ z. inr z.0) (same.each n)) vs e;
-            alike = acts_same y (mach_act c.setting i.op vs y) (within c.setting i.op vs y);
-          }
+            same = record {
+              goes = λ vs d e.
+                  let p = put_both c.setting.end i.results vs (clear (killed m i) a') (clear (killed m i) b') d e in
+                  (p.file, p.puts, λ y t o. past_to vs d p y t o);
+              lands = λ y to l. lands to l y;
+              tries = tries_here moves i next refl;
+              pushes = λ t. (
+                refl,
+                λ y w. ((refl, past), agrees_by next (ending_next ending) a' b' y (written m i) past w),
+              );
+            };
+          })
 
     -- one that has moved
     moved_away : (y : Around) (vs : List Value) → f (length next) i ≡ [] → moves (length next) ≡ true →
