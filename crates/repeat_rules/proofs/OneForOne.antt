@@ -1,19 +1,24 @@
 -- Code in which one instruction stands for each, in its place. It writes what that one did, and has its operation, or both only
 -- compute: so labels, tries and walks are what they were.
 use Rattle.std.proofs.Common.{◌≡◌, ◌≢◌, ℕ, suc, Bool, true, false, ◌⊎◌, inl, inr, ⊎_elim, List, [], ◌∷◌, ◌++◌, length, refl, sym, ap, ◌∙◌, subst, append_assoc}
-use Rattle.std.proofs.lemmas.List.Elements.{Contains-get_or}
-use Rattle.std.specs.List.{All, Contains}
-use Rattle.std.specs.Prelude.{◌≤◌, slice_index_or}
+use Rattle.std.proofs.lemmas.List.{append_cancel_right}
+use Rattle.std.proofs.lemmas.List.Elements.{Contains-get_or, All-contains}
+use Rattle.std.specs.List.{All, AllPairs, Contains}
+use Rattle.std.specs.Prelude.{◌<◌, ◌≤◌, slice_index_or}
+use Rattle.std.proofs.Math.Nat.{le_trans}
 use Rattle.std.proofs.lemmas.Bool.{both_ways}
 use Rattle.std.proofs.lemmas.Option.{same_Some}
 use Rattle.bs_words.specs.declared.types.Comp.TheVariants as comp
 use Rattle.bs_words.specs.declared.types.Loc.TheVariants as loc
 use Rattle.bs_words.proofs.Lists.{none_in, first_in, later_in, in_cons, head_same, tail_same, none_there}
 use Rattle.mach_ir.specs.Acts.{Target, On, At}
-use Rattle.mach_ir.specs.Formed.{labels_in, labels_of, LeadsTo, HasPlace, place_here, place_below, HasHandler, handler_here, handler_below, is_exit, LabelsStand, tries_left, leaves, IsNested, CasesAgree, WellFormed}
+use Rattle.mach_ir.specs.Formed.{comps, IsFormed, AreDistinct, labels_in, labels_of, LeadsTo, HasPlace, place_here, place_below, HasHandler, handler_here, handler_below, is_exit, LabelsStand, tries_left, leaves, IsNested, CasesAgree, WellFormed}
+use Rattle.mach_ir.specs.Forms.{results_of}
 use Rattle.mach_ir.specs.Placed.{MayShare, WellPlaced}
 use Rattle.mach_ir.specs.Meaning.{Held, State, Nothing, has_label, is_handler_of, after_label, from_handler, code_at, tries_at, destroyed_by, killed_by, written, passes_frame}
+use Rattle.mach_ir.specs.Sizes.{operand_count, Size, HasSize}
 use Rattle.mach_ir.specs.Walks.{Among, OneOf, targets, may_raise, goes, Raises, raises, Reached, at_entry, by_step, by_raise, Writes, Live, read, on, aside, LiveAfter, after_step, LiveAcross, across_step, across_raise, InCode, in_args, in_results, further, IsRegister, NoAddrLive, Stands, here, below, Meets, Joined, one_way, other_way}
+use Rattle.mach_ir.specs.declared.op.Leaving.TheVariants as leaving
 use Rattle.mach_ir.specs.declared.op.Op.TheVariants as op
 use Rattle.mach_ir.specs.declared.op.Pure.{Pure}
 use Rattle.mach_ir.specs.declared.reg.Reg.{Reg}
@@ -180,6 +185,21 @@ module _ (again : ℕ → Instr → Instr) where
         whole = ap (λ xs. again (length code) i ∷ xs) w.whole;
       }
 
+  -- what is before the code after an instruction ends with what stands for that instruction
+  pub made_past : {i : Instr} {next code : List Instr} (made : List Instr) → Ending (i ∷ next) code → expand f code ≡ made ++ expand f next →
+      (b : Made (i ∷ next) code) × (made ≡ b.made ++ again (length next) i ∷ [])
+  made_past {i} {next} {code} made ending whole = (
+    b,
+    append_cancel_right made (b.made ++ x ∷ []) (expand f next)
+        (sym whole ∙ b.whole ∙ sym (append_assoc b.made (x ∷ []) (expand f next))),
+  )
+    where
+      x : Instr
+      x = again (length next) i
+
+      b : Made (i ∷ next) code
+      b = made_to ending
+
   pub same_length : (code : List Instr) → length (expand f code) ≡ length code
   same_length [] = refl
   same_length (i ∷ is) = ap suc (same_length is)
@@ -268,7 +288,7 @@ module _ (again : ℕ → Instr → Instr) (alike : (k : ℕ) (i : Instr) → St
     was : (i : Instr) (next : List Instr) (f : Mark) → (again (length next) i).op ≡ mach.Mark f → i.op ≡ mach.Mark f
     was i next f e = mark_was f (alike (length next) i).op e
 
-    pub labels_stand : LabelsStand (record m { code = expand (one_each again) m.code })
+    labels_stand : LabelsStand (record m { code = expand (one_each again) m.code })
     labels_stand =
         record {
           named = both again m.code (λ j zs. (l : ℕ) → LeadsTo j.op l → HasPlace l (now m).code)
@@ -282,7 +302,7 @@ module _ (again : ℕ → Instr → Instr) (alike : (k : ℕ) (i : Instr) → St
               (λ i next s l end e. handler_there ((formed.labels).handlers i next s l end (was i next (mark.Leave l end) e)));
         }
 
-    pub nested : IsNested (record m { code = expand (one_each again) m.code })
+    nested : IsNested (record m { code = expand (one_each again) m.code })
     nested =
         record {
           at_entry = tries_same m.code ∙ (formed.nested).at_entry;
@@ -349,7 +369,7 @@ module _ (again : ℕ → Instr → Instr) (alike : (k : ℕ) (i : Instr) → St
         record { instr = w.instr; among = later_in (again (length is) j) w.instr (expand g is) w.among; same = w.same })
         (in_cons j i is c)
 
-    pub cases : CasesAgree (record m { code = expand (one_each again) m.code })
+    cases : CasesAgree (record m { code = expand (one_each again) m.code })
     cases =
         record {
           agree = λ i j c d labels indexes l end e h k.
@@ -361,6 +381,44 @@ module _ (again : ℕ → Instr → Instr) (alike : (k : ℕ) (i : Instr) → St
               (formed.cases).none b.instr b.among indexes l end b.same
               (λ i c labels o k. let w = has (mark.Switch labels) m.code i c o in h w.instr w.among labels w.same k);
         }
+
+    -- where each that stands for an instruction is formed, and returns what the function gives
+    pub still_formed : ((r : Reg) → IsRegister (record m { code = expand (one_each again) m.code }) r → IsRegister m r) →
+        ((i : Instr) (next : List Instr) → Stands i next m.code → IsFormed (again (length next) i)) →
+        ((i : Instr) (next : List Instr) → Stands i next m.code → (again (length next) i).op ≡ mach.Op (op.Leaving leaving.Return) →
+        comps (again (length next) i).args ≡ results_of m.result) →
+        WellFormed (record m { code = expand (one_each again) m.code })
+    still_formed was_register instrs returns =
+        record {
+          numbers = λ r k i j e. formed.numbers r k (was_register r i) (was_register k j) e;
+          params = formed.params;
+          params_distinct = formed.params_distinct;
+          instrs = all_in again m.code IsFormed instrs;
+          distinct = all_in again m.code (λ (i : Instr). AreDistinct i.results)
+              (λ i next s.
+              subst AreDistinct (sym (alike (length next) i).results)
+              (All-contains (λ (i : Instr). AreDistinct i.results) m.code i formed.distinct (contains_of s)));
+          returns = each_in again m.code (λ (j : Instr). j.op ≡ mach.Op (op.Leaving leaving.Return) → comps j.args ≡ results_of m.result)
+              returns;
+          labels_once = subst (λ ls. AllPairs (λ k l. k ≢ l) ls) (sym (same_labels m.code)) formed.labels_once;
+          labels_below = subst (λ ls. All (λ l. l < m.labels) ls) (sym (same_labels m.code)) formed.labels_below;
+          labels = labels_stand;
+          nested = nested;
+          cases = cases;
+        }
+
+  -- with no more operands it has the sizes that it had
+  pub still_small : (m : Mach) → ((r : Reg) → IsRegister (record m { code = expand (one_each again) m.code }) r → IsRegister m r) →
+      operand_count (expand (one_each again) m.code) ≤ operand_count m.code → (s : Size) → HasSize m s →
+      HasSize (record m { code = expand (one_each again) m.code }) s
+  still_small m was_register fewer s h =
+      record {
+        instrs = subst (λ n. n ≤ s.instrs) (sym (same_length again m.code)) h.instrs;
+        operands = le_trans fewer h.operands;
+        numbers = λ r i. h.numbers r (was_register r i);
+        origins = λ r i. h.origins r (was_register r i);
+        labels = h.labels;
+      }
 
   -- ---- walks
 
