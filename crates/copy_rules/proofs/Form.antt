@@ -10,10 +10,7 @@ use Rattle.mach_ir.specs.Formed.{comps, IsFormed, MarkHasForm, formed_op, formed
 use Rattle.mach_ir.specs.Seats.{AreSeated, mach_operand_seats, mach_result_seats, places_of, Seated}
 use Rattle.mach_ir.specs.Sizes.{operand_count, Size, HasSize}
 use Rattle.mach_ir.specs.Walks.{IsRegister, is_param, is_colour, is_in_code, Stands, here, below}
-use Rattle.mach_ir.specs.declared.op.Leaving.TheVariants as leaving
-use Rattle.mach_ir.specs.declared.op.Op.TheVariants as op
 use Rattle.mach_ir.specs.declared.reg.Reg.{Reg}
-use Rattle.mach_ir.specs.declared.mach.MachOp.TheVariants as mach
 use Rattle.mach_ir.specs.declared.mach.Instr.{Instr}
 use Rattle.mach_ir.specs.declared.mach.Mach.{Mach}
 use Rattle.mach_laws.specs.Expand.{expand, KeepsMarks}

@@ -13,7 +13,6 @@ use Rattle.mach_ir.specs.Meaning.{after_label, from_handler, code_at, tries_at, 
 use Rattle.mach_ir.specs.Placed.{is_straight, WellPlaced}
 use Rattle.mach_ir.specs.Seats.{Seated}
 use Rattle.mach_ir.specs.Walks.{OneOf, this, other, may_raise, IsRegister, Joined, Stands}
-use Rattle.mach_ir.specs.declared.op.Leaving.TheVariants as leaving
 use Rattle.mach_ir.specs.declared.op.Op.TheVariants as op
 use Rattle.mach_ir.specs.declared.mach.Mark.{Mark}
 use Rattle.mach_ir.specs.declared.mach.Mark.TheVariants as mark

@@ -10,11 +10,7 @@ use Rattle.mach_ir.specs.Meaning.{tries_at, tries_past}
 use Rattle.mach_ir.specs.Placed.{is_straight, WellPlaced}
 use Rattle.mach_ir.specs.Seats.{AreSeated, anywhere, places_of, mach_operand_seats, mach_result_seats, Seated}
 use Rattle.mach_ir.specs.Walks.{IsRegister, Stands}
-use Rattle.mach_ir.specs.declared.op.Leaving.TheVariants as leaving
-use Rattle.mach_ir.specs.declared.op.Op.TheVariants as op
-use Rattle.mach_ir.specs.declared.mach.Mark.TheVariants as mark
 use Rattle.mach_ir.specs.declared.mach.MachOp.{MachOp}
-use Rattle.mach_ir.specs.declared.mach.MachOp.TheVariants as mach
 use Rattle.mach_ir.specs.declared.reg.Reg.{Reg}
 use Rattle.mach_ir.specs.declared.mach.Instr.{Instr}
 use Rattle.mach_ir.specs.declared.mach.Mach.{Mach}
