@@ -1,6 +1,6 @@
 -- The result is well-formed, and its operands and results are where the conventions put them.
-use Rattle.std.proofs.Common.{◌≡◌, ◌≢◌, ℕ, zero, suc, ◌<◌, ◌≤◌, Bool, true, false, inl, inr, List, [], ◌∷◌, ◌++◌, length, Option, Some, None, refl, sym, ap, ◌∙◌, subst, arith}
-use Rattle.std.specs.List.{All, AllPairs, Contains}
+use Rattle.std.proofs.Common.{◌≡◌, ◌≢◌, ℕ, zero, suc, ◌<◌, ◌≤◌, Bool, true, false, ◌⊎◌, inl, inr, List, [], ◌∷◌, ◌++◌, length, Option, Some, None, refl, sym, ap, ◌∙◌, subst, arith}
+use Rattle.std.specs.List.{All, Contains}
 use Rattle.std.specs.Prelude.{slice_index_or}
 use Rattle.std.proofs.lemmas.Bool.{true≢false}
 use Rattle.std.proofs.lemmas.List.{length-append}
@@ -17,22 +17,20 @@ use Rattle.combine_rules.proofs.Places.{merged, keeps_marks}
 use Rattle.combine_rules.proofs.Registers.{Came, stays, opens, came}
 use Rattle.combine_rules.proofs.Scan.{bytes_append}
 use Rattle.combine_rules.proofs.Sizes.{register_before}
-use Rattle.mach_ir.specs.Acts.{On, At}
 use Rattle.mach_ir.specs.Blocks.{bytes_of}
 use Rattle.mach_ir.specs.Forms as form
 use Rattle.mach_ir.specs.Forms.{HasForm, IsBlock, reservation_most}
-use Rattle.mach_ir.specs.Formed.{IsFormed, formed_op, formed_mark, comps, AreDistinct, labels_of, labels_in, HasPlace, place_here, place_below, HasHandler, handler_here, handler_below, LeadsTo, LabelsStand, tries_left, leaves, IsNested, CasesAgree, WellFormed}
+use Rattle.mach_ir.specs.Formed.{IsFormed, formed_op, formed_mark, comps, AreDistinct, labels_of, labels_in, HasPlace, place_here, place_below, HasHandler, handler_here, handler_below, WellFormed}
 use Rattle.mach_ir.specs.Meaning.{has_label, is_handler_of, after_label, from_handler, tries_at, tries_past}
+use Rattle.mach_ir.specs.Placed.{is_straight}
 use Rattle.mach_ir.specs.Seats.{Seated, AreSeated, anywhere, mach_operand_seats, mach_result_seats, places_of}
-use Rattle.mach_ir.specs.Walks.{Among, first, later, OneOf, other, may_raise, Stands, here, below}
+use Rattle.mach_ir.specs.Walks.{Among, first, later, Stands, here, below}
 use Rattle.mach_ir.specs.declared.blocks.NewBlock.{NewBlock}
 use Rattle.mach_ir.specs.declared.op.Access.TheVariants as access
-use Rattle.mach_ir.specs.declared.op.Leaving.TheVariants as leaving
 use Rattle.mach_ir.specs.declared.op.Op.{Op}
 use Rattle.mach_ir.specs.declared.op.Op.TheVariants as op
 use Rattle.mach_ir.specs.declared.reg.Reg.{Reg}
 use Rattle.mach_ir.specs.declared.mach.Mark.{Mark}
-use Rattle.mach_ir.specs.declared.mach.Mark.TheVariants as mark
 use Rattle.mach_ir.specs.declared.mach.MachOp.{MachOp}
 use Rattle.mach_ir.specs.declared.mach.MachOp.TheVariants as mach
 use Rattle.mach_ir.specs.declared.mach.Instr.{Instr}
@@ -41,6 +39,8 @@ use Rattle.mach_laws.specs.Expand.{Ending}
 use Rattle.mach_laws.proofs.Places.{ending_next, tries_expand, stands_of, ending_of, contains_of, stands_in}
 use Rattle.mach_laws.proofs.Among.{left_among}
 use Rattle.mach_laws.proofs.Instructions.{same_op, no_mark, length_comps}
+use Rattle.pass_rules.proofs.Formed.{ComesFrom, is_new, stood, KeepsPlaces}
+use Rattle.pass_rules.proofs.Formed as places
 
 -- ---- labels, places, tries and marks
 
@@ -307,122 +307,36 @@ module _ (m : Mach) (is : IsCombinable m) where
       each_in (λ (i : Instr). AreDistinct i.results)
       (λ i c. All-contains (λ (i : Instr). AreDistinct i.results) m.code i formed.distinct c) opened_distinct
 
-  -- ---- where an instruction that is no allocation was
+  -- ---- where an instruction was
 
-  record Stood (j : Instr) (ys : List Instr) : Type 0 where
-    next : List Instr
-    held : Option ℕ
-    stands : Stands j next m.code
-    after : ys ≡ (scan held next).code
-
-  stood : (j : Instr) (ys : List Instr) → Stands j ys q.code → ((blocks : List NewBlock) → Allocates j blocks → ⊥) → Stood j ys
-  stood j ys s none = by j ys (came None m.code j ys s) none
+  keeps_places : KeepsPlaces m q.code
+  keeps_places =
+      record {
+        whence = λ j ys s. comes j ys (came None m.code j ys s);
+        among = λ j c. let s = stands_in q.code j c in among_or_new j s.0 (came None m.code j s.0 s.1);
+        marks = λ j k e c. let s = stands_in m.code j c in contains_of (mark_there None m.code j s.0 k e s.1).1;
+        places = λ l p. place_there None m.code p;
+        labels = labels_scan None m.code;
+        tries = tries_scan None m.code;
+        label_tries = λ l. ap tries_at (label_is m l) ∙ tries_expand (merged m.code) (keeps_marks m.code) (after_label l m.code);
+        handler_tries = λ l.
+            ap tries_at (handler_is m l) ∙ tries_expand (merged m.code) (keeps_marks m.code) (from_handler l m.code);
+        registers = register_before m;
+      }
     where
-      by : (j : Instr) (ys : List Instr) → Came m.code j ys → ((blocks : List NewBlock) → Allocates j blocks → ⊥) → Stood j ys
-      by j ys (stays {next = next} h s n e) none = record { next = next; held = h; stands = s; after = e }
-      by j ys (opens i blocks s a same t) none = absurd (none _ (ap (λ (k : Instr). k.op) same))
+      comes : (j : Instr) (ys : List Instr) → Came m.code j ys → ComesFrom m q.code j ys
+      comes j ys (stays {next = next} h s n e) =
+          stood s (ap tries_at e ∙ tries_scan h next) (λ l p. subst (HasPlace l) (sym e) (place_there h next p))
+          (λ l p. subst (HasHandler l) (sym e) (handler_there h next p))
+      comes j ys (opens i blocks s a same t) = is_new (ap (λ (k : Instr). is_straight k.op) same)
 
-  tries_after : {j : Instr} {ys : List Instr} (w : Stood j ys) → tries_at ys ≡ tries_at w.next
-  tries_after w = ap tries_at w.after ∙ tries_scan w.held w.next
-
-  tries_from : {j : Instr} {ys : List Instr} (w : Stood j ys) → tries_at (j ∷ ys) ≡ tries_at (j ∷ w.next)
-  tries_from {j} w = ap (tries_past j.op) (tries_after w)
-
-  mark_apart : (j : Instr) (k : Mark) → j.op ≡ mach.Mark k → (blocks : List NewBlock) → Allocates j blocks → ⊥
-  mark_apart j k e blocks a = no_mark k (op.Access (access.Alloc blocks)) (sym e ∙ a)
-
-  leads_apart : (j : Instr) (l : ℕ) → LeadsTo j.op l → (blocks : List NewBlock) → Allocates j blocks → ⊥
-  leads_apart j l o blocks a = by (subst (λ f. LeadsTo f l) a o)
-    where
-      by : OneOf (At l) (On ∷ []) → ⊥
-      by (other o) = elim o [ ]
-
-  raises_apart : (j : Instr) → may_raise j.op ≡ true → (blocks : List NewBlock) → Allocates j blocks → ⊥
-  raises_apart j r blocks a = true≢false (sym r ∙ ap may_raise a)
-
-  leaves_apart : (j : Instr) → leaves j.op ≡ true → (blocks : List NewBlock) → Allocates j blocks → ⊥
-  leaves_apart j r blocks a = true≢false (sym r ∙ ap leaves a)
-
-  labels_stand : LabelsStand q
-  labels_stand =
-      record {
-        named = λ i next s l o.
-            let w = stood i next s (leads_apart i l o) in place_there None m.code ((formed.labels).named i w.next w.stands l o);
-        forward = λ i next s l o e.
-            let w = stood i next s (leads_apart i l o) in
-            subst (HasPlace l) (sym w.after) (place_there w.held w.next ((formed.labels).forward i w.next w.stands l o e));
-        handlers = λ i next s l end e.
-            let w = stood i next s (mark_apart i (mark.Leave l end) e) in
-            subst (HasHandler l) (sym w.after) (handler_there w.held w.next ((formed.labels).handlers i w.next w.stands l end e));
-      }
-
-  label_tries : (l : ℕ) → tries_at (after_label l q.code) ≡ tries_at (after_label l m.code)
-  label_tries l = ap tries_at (label_is m l) ∙ tries_expand (merged m.code) (keeps_marks m.code) (after_label l m.code)
-
-  handler_tries : (l : ℕ) → tries_at (from_handler l q.code) ≡ tries_at (from_handler l m.code)
-  handler_tries l = ap tries_at (handler_is m l) ∙ tries_expand (merged m.code) (keeps_marks m.code) (from_handler l m.code)
-
-  nested : IsNested q
-  nested =
-      record {
-        at_entry = tries_scan None m.code ∙ (formed.nested).at_entry;
-        at_label = λ i next s l o.
-            let w = stood i next s (leads_apart i l o) in
-            label_tries l ∙ (formed.nested).at_label i w.next w.stands l o ∙ ap (tries_left i.op) (sym (tries_from w));
-        at_try = λ i next s l e.
-            let w = stood i next s (mark_apart i (mark.Try l) e) in
-            tries_after w ∙ (formed.nested).at_try i w.next w.stands l e ∙ ap (λ ts. l ∷ ts) (sym (tries_from w));
-        at_handler = λ i next s r l tries e.
-            let w = stood i next s (raises_apart i r) in
-            handler_tries l ∙ (formed.nested).at_handler i w.next w.stands r l tries (sym (tries_from w) ∙ e);
-        at_own_handler = λ i next s l e.
-            let w = stood i next s (mark_apart i (mark.Try l) e) in
-            handler_tries l ∙ (formed.nested).at_own_handler i w.next w.stands l e ∙ sym (tries_from w);
-        at_exit = λ i next s l n e.
-            let w = stood i next s (mark_apart i (mark.Exit l n) e) in
-            subst (λ ts. n ≤ length ts) (sym (tries_from w)) ((formed.nested).at_exit i w.next w.stands l n e);
-        at_end = λ i next s e.
-            let w = stood i next s (leaves_apart i e) in
-            tries_from w ∙ (formed.nested).at_end i w.next w.stands e;
-      }
-
-  mark_in : (k : Mark) (j : Instr) → Contains q.code j → j.op ≡ mach.Mark k → Contains m.code j
-  mark_in k j c e = let s = stands_in q.code j c in contains_of (stood j s.0 s.1 (mark_apart j k e)).stands
-
-  mark_kept : (k : Mark) (j : Instr) → Contains m.code j → j.op ≡ mach.Mark k → Contains q.code j
-  mark_kept k j c e = let s = stands_in m.code j c in contains_of (mark_there None m.code j s.0 k e s.1).1
-
-  cases : CasesAgree q
-  cases =
-      record {
-        agree = λ i j c d labels indexes l end e h k.
-            (formed.cases).agree i j (mark_in (mark.Switch labels) i c e) (mark_in (mark.Case indexes l end) j d h) labels indexes l end e h k;
-        none = λ j d indexes l end e h.
-            (formed.cases).none j (mark_in (mark.Case indexes l end) j d e) indexes l end e
-            (λ i c labels o k. h i (mark_kept (mark.Switch labels) i c o) labels o k);
-      }
+      among_or_new : (j : Instr) (ys : List Instr) → Came m.code j ys → (is_straight j.op ≡ true) ⊎ Contains m.code j
+      among_or_new j ys (stays h s n e) = inr (contains_of s)
+      among_or_new j ys (opens i blocks s a same t) = inl (ap (λ (k : Instr). is_straight k.op) same)
 
   -- The result is well-formed.
   pub combined_formed : WellFormed (combined m)
-  combined_formed =
-      record {
-        numbers = λ r k i j e. formed.numbers r k (register_before m r i) (register_before m k j) e;
-        params = formed.params;
-        params_distinct = formed.params_distinct;
-        instrs = instrs;
-        distinct = results_distinct;
-        returns = λ i c e.
-            let s = stands_in q.code i c in
-            formed.returns i (contains_of (stood i s.0 s.1 (λ blocks a. no_return blocks (sym e ∙ a))).stands) e;
-        labels_once = subst (λ ls. AllPairs (λ k l. k ≢ l) ls) (sym (labels_scan None m.code)) formed.labels_once;
-        labels_below = subst (λ ls. All (λ l. l < m.labels) ls) (sym (labels_scan None m.code)) formed.labels_below;
-        labels = labels_stand;
-        nested = nested;
-        cases = cases;
-      }
-    where
-      no_return : (blocks : List NewBlock) → mach.Op (op.Leaving leaving.Return) ≡ mach.Op (op.Access (access.Alloc blocks)) → ⊥
-      no_return blocks e = cc
+  combined_formed = places.still_formed m q.code formed keeps_places instrs results_distinct
 
 -- ---- places by the conventions
 

@@ -14,6 +14,7 @@ use Rattle.mach_ir.specs.Walks.{Among, goes, Writes, Live, LiveAfter, after_step
 use Rattle.mach_ir.specs.declared.reg.Reg.{Reg}
 use Rattle.mach_ir.specs.declared.mach.Instr.{Instr}
 use Rattle.mach_ir.specs.declared.mach.Mach.{Mach}
+use Rattle.pass_rules.proofs.Formed as places
 use Rattle.mach_laws.specs.Expand.{expand, Ending, all, more}
 use Rattle.mach_laws.proofs.Places.{ending_next, ending_label, stands_of}
 use Rattle.mach_laws.proofs.Among.{none_among, split_among, number_among}
@@ -121,17 +122,7 @@ module _ (m : Mach) (is : IsCombinable m) where
 
   -- Where the function is well placed, the result is.
   pub combined_placed : WellPlaced m → WellPlaced (combined m)
-  combined_placed placed =
-      record {
-        colours = record {
-          each = (placed.colours).each;
-          least = λ r k c i e. (placed.colours).least r k c (register_before m k i) e;
-        };
-        agree = record {
-          places = λ r i. (placed.agree).places r (register_before m r i);
-          apart = λ r k i j joined fixed e.
-              let x = register_before m r i in
-              let y = register_before m k j in
-              (placed.agree).apart r k x y (joined_back r k x y fixed (λ z. fixed (e ∙ z)) joined) fixed e;
-        };
-      }
+  combined_placed =
+      places.still_placed m q.code (register_before m)
+      (λ r k i j joined fixed e.
+      joined_back r k (register_before m r i) (register_before m k j) fixed (λ z. fixed (e ∙ z)) joined)

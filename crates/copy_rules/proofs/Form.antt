@@ -1,25 +1,24 @@
 -- A function whose copies are propagated is well-formed, and is where it was.
-use Rattle.std.proofs.Common.{◌≡◌, ◌≢◌, ℕ, suc, ◌+◌, ◌<◌, ◌⊎◌, ⊎_elim, List, [], ◌∷◌, ◌++◌, length, map, refl, sym, ap, ◌∙◌, subst, arith, append_assoc}
+use Rattle.std.proofs.Common.{◌≡◌, ℕ, suc, ◌+◌, ◌⊎◌, ⊎_elim, List, [], ◌∷◌, ◌++◌, length, map, refl, sym, ap, ◌∙◌, subst, append_assoc}
 use Rattle.std.proofs.lemmas.List.Elements.{Contains-append_cases, All-contains}
-use Rattle.std.specs.List.{All, AllPairs, Contains}
+use Rattle.std.proofs.Math.Nat.{le_of_eq}
+use Rattle.std.specs.List.{All, Contains}
 use Rattle.bs_words.proofs.Lists.{none_in, first_in, later_in, in_cons}
 use Rattle.copy_rules.specs.Propagated.{move, ReadFor, source, itself, again, in_place, with_sources, IsBefore}
-use Rattle.mach_ir.specs.Forms.{HasForm, results_of}
-use Rattle.mach_ir.specs.Formed.{comps, IsFormed, MarkHasForm, formed_op, formed_mark, AreDistinct, WellFormed}
+use Rattle.mach_ir.specs.Forms.{HasForm}
+use Rattle.mach_ir.specs.Formed.{comps, IsFormed, MarkHasForm, formed_op, formed_mark, WellFormed}
 use Rattle.mach_ir.specs.Seats.{AreSeated, mach_operand_seats, mach_result_seats, places_of, Seated}
 use Rattle.mach_ir.specs.Sizes.{operand_count, Size, HasSize}
 use Rattle.mach_ir.specs.Walks.{IsRegister, is_param, is_colour, is_in_code, Stands, here, below}
-use Rattle.mach_ir.specs.declared.op.Leaving.TheVariants as leaving
-use Rattle.mach_ir.specs.declared.op.Op.TheVariants as op
 use Rattle.mach_ir.specs.declared.reg.Reg.{Reg}
-use Rattle.mach_ir.specs.declared.mach.MachOp.TheVariants as mach
 use Rattle.mach_ir.specs.declared.mach.Instr.{Instr}
 use Rattle.mach_ir.specs.declared.mach.Mach.{Mach}
 use Rattle.mach_laws.specs.Expand.{expand, KeepsMarks}
 use Rattle.mach_laws.proofs.Places.{stands_behind, args_in, results_in, contains_of}
 use Rattle.mach_laws.proofs.InPlace as text
-use Rattle.mach_laws.proofs.InPlace.{AreAlike, same_op, both, each_in, all_in, same_labels}
-use Rattle.repeat_rules.proofs.OneForOne.{in_append, in_code_stands, StandsFor, before_of, same_length}
+use Rattle.mach_laws.proofs.InPlace.{AreAlike, same_op, both, each_in}
+use Rattle.repeat_rules.proofs.OneForOne.{in_append, in_code_stands, StandsFor, before_of}
+use Rattle.repeat_rules.proofs.OneForOne as one
 
 -- ---- lists
 
@@ -173,22 +172,9 @@ module _ (m : Mach) (plan : ℕ → Reg → Reg)
 
     still_formed : WellFormed q
     still_formed =
-        record {
-          numbers = λ r k i j e. formed.numbers r k (was_register r i) (was_register k j) e;
-          params = formed.params;
-          params_distinct = formed.params_distinct;
-          instrs = all_in (again plan) m.code IsFormed
-              (λ i next s. formed_again (plan (length next)) (form_of i (contains_of s)) (same_comps i next s));
-          distinct = all_in (again plan) m.code (λ (i : Instr). AreDistinct i.results)
-              (λ i next s. All-contains (λ (i : Instr). AreDistinct i.results) m.code i formed.distinct (contains_of s));
-          returns = each_in (again plan) m.code (λ (j : Instr). j.op ≡ mach.Op (op.Leaving leaving.Return) → comps j.args ≡ results_of m.result)
-              (λ i next s e. same_comps i next s ∙ formed.returns i (contains_of s) e);
-          labels_once = subst (λ ls. AllPairs (λ k l. k ≢ l) ls) (sym (same_labels (again plan) (same_ops plan) m.code)) formed.labels_once;
-          labels_below = subst (λ ls. All (λ l. l < m.labels) ls) (sym (same_labels (again plan) (same_ops plan) m.code)) formed.labels_below;
-          labels = text.labels_stand (again plan) (same_ops plan) m q refl formed.labels;
-          nested = text.nested (again plan) (same_ops plan) m q refl formed.nested;
-          cases = text.cases (again plan) (same_ops plan) m q refl formed.cases;
-        }
+        one.still_formed (again plan) (alike plan) m formed was_register
+        (λ i next s. formed_again (plan (length next)) (form_of i (contains_of s)) (same_comps i next s))
+        (λ i next s e. same_comps i next s ∙ formed.returns i (contains_of s) e)
 
     still_seated : Seated m → Seated q
     still_seated seated =
@@ -202,18 +188,7 @@ module _ (m : Mach) (plan : ℕ → Reg → Reg)
         }
 
     as_small : (s : Size) → HasSize m s → HasSize q s
-    as_small s h =
-        let a = same_length (again plan) m.code in
-        let b = same_count plan m.code in
-        let c = h.instrs in
-        let d = h.operands in
-        record {
-          instrs = omega (arith, a, c);
-          operands = omega (arith, b, d);
-          numbers = λ r i. h.numbers r (was_register r i);
-          origins = λ r i. h.origins r (was_register r i);
-          labels = h.labels;
-        }
+    as_small = one.still_small (again plan) (alike plan) m was_register (le_of_eq (same_count plan m.code))
 
     pub form_kept : IsFormKept m (record m { code = with_sources plan m.code })
     form_kept = record { formed = still_formed; seated = still_seated; registers = was_register; size = as_small }

@@ -1,10 +1,9 @@
 -- Which copies stand where a code is left, and what an instruction leaves of them.
-use Rattle.std.proofs.Common.{◌≡◌, ◌≢◌, ℕ, true, false, ⊎_elim, List, [], ◌∷◌, ◌++◌, length, refl, sym, ap, ◌∙◌, subst, append_assoc}
+use Rattle.std.proofs.Common.{◌≡◌, ◌≢◌, ℕ, true, false, ⊎_elim, List, [], ◌∷◌, ◌++◌, length, refl, sym, ap, subst}
 use Rattle.std.proofs.lemmas.Bool.{cases_Bool, both_ways}
 use Rattle.std.proofs.lemmas.List.{append_cancel_right}
-use Rattle.std.proofs.lemmas.List.Elements.{Contains-get_or, All-contains}
+use Rattle.std.proofs.lemmas.List.Elements.{All-contains}
 use Rattle.std.specs.List.{Contains}
-use Rattle.std.specs.Prelude.{slice_index_or}
 use Rattle.bs_words.specs.declared.types.Comp.{Comp}
 use Rattle.bs_words.specs.declared.types.Comp.TheVariants as comp
 use Rattle.bs_words.proofs.Lists.{none_in}
@@ -22,9 +21,9 @@ use Rattle.mach_ir.specs.declared.mach.Instr.{Instr}
 use Rattle.mach_ir.specs.declared.mach.Mach.{Mach}
 use Rattle.mach_laws.specs.Expand.{Ending, expand}
 use Rattle.repeat_rules.specs.Repeated.{allocates, Ends}
-use Rattle.repeat_rules.proofs.OneForOne.{in_append, in_front, Before, before_of, Made, made_to}
+use Rattle.repeat_rules.proofs.OneForOne.{in_append, in_front, Before, before_of, Made, made_past}
 use Rattle.repeat_rules.proofs.Runs as run
-use Rattle.repeat_rules.proofs.Runs.{Last, it_is, in_run, last_of, none_before, IsWithin}
+use Rattle.repeat_rules.proofs.Runs.{straight_front, Last, it_is, in_run, last_of, none_before, IsWithin}
 
 -- ---- operations
 
@@ -74,9 +73,7 @@ restricted c s w ys zs e =
       others = w.others;
       run = ys;
       within = refl;
-      straight = λ k d lt.
-          All-contains (λ (i : Instr). is_straight i.op ≡ true) w.run (slice_index_or ys k d) w.straight
-          (to_run (slice_index_or ys k d) (Contains-get_or ys k d lt));
+      straight = straight_front w.run ys zs e w.straight;
       same_comp = w.same_comp;
       source_open = w.source_open;
       copy_open = w.copy_open;
@@ -137,18 +134,16 @@ module _ (m : Mach) (plan : ℕ → Reg → Reg) where
 
   -- what stands after an instruction
   pub earlier_of : {i : Instr} {next : List Instr} → Ending (i ∷ next) m.code → (c s : Reg) → Standing next c s → Earlier i next c s
-  earlier_of {i} {next} ending c s w = of_since (since b.made x c s (subst (λ made. IsCopy made c s) same w.copies))
+  earlier_of {i} {next} ending c s w = of_since (since b.made x c s (subst (λ made. IsCopy made c s) past.1 w.copies))
     where
       x : Instr
       x = again plan (length next) i
 
-      b : Made (again plan) (i ∷ next) m.code
-      b = made_to (again plan) ending
+      past : (b : Made (again plan) (i ∷ next) m.code) × (w.made ≡ b.made ++ x ∷ [])
+      past = made_past (again plan) w.made ending w.whole
 
-      same : w.made ≡ b.made ++ x ∷ []
-      same =
-          append_cancel_right w.made (b.made ++ x ∷ []) (expand f next)
-          (sym w.whole ∙ b.whole ∙ sym (append_assoc b.made (x ∷ []) (expand f next)))
+      b : Made (again plan) (i ∷ next) m.code
+      b = past.0
 
       of_since : Since b.made x c s → Earlier i next c s
       of_since (just_there e) = just_now e

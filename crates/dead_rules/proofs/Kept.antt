@@ -8,7 +8,7 @@ use Rattle.cmm_meaning.specs.State.{Doing}
 use Rattle.mach_ir.specs.Acts.{Around, Target, On, At, Landing, AtLabel, AtHandler, Replaces}
 use Rattle.mach_ir.specs.Formed.{IsFormed, WellFormed}
 use Rattle.mach_ir.specs.Runs.{Place, entered}
-use Rattle.mach_ir.specs.Meaning.{State, File, put_all, clear, killed, written, values, past_frame, passes_frame, after_label, at_handler, code_at, tries_at, landing_code, start, tries_past}
+use Rattle.mach_ir.specs.Meaning.{State, File, put_all, clear, killed, written, values, past_frame, passes_frame, after_label, at_handler, code_at, tries_at, landing_code, start}
 use Rattle.mach_ir.specs.Walks.{Among, OneOf, targets, may_raise, goes, raises, Live, LiveAcross}
 use Rattle.mach_ir.specs.Keeps.{ValsWritten, wrote_unless, Begins, Does}
 use Rattle.mach_ir.specs.declared.reg.Reg.{Reg}
@@ -19,13 +19,14 @@ use Rattle.mach_laws.proofs.General as general
 use Rattle.mach_laws.proofs.General.{at}
 use Rattle.mach_laws.proofs.Leads.{IsTry, MayLand, lands_at_label, lands_at_handler, try_on}
 use Rattle.mach_laws.proofs.Level as level
-use Rattle.mach_laws.proofs.Places.{tries_expand, ending_next, ending_label, ending_land, stands_of, contains_of, land_expand}
+use Rattle.mach_laws.proofs.Places.{ending_next, ending_label, ending_land, stands_of, contains_of, land_expand}
 use Rattle.mach_laws.proofs.Simulate.{Agrees}
 use Rattle.mach_laws.proofs.Among.{split_among}
 use Rattle.mach_laws.proofs.Raised.{IsRaised, IsSilent, label_silent, try_silent, told}
 use Rattle.split_rules.proofs.Known.{values_same, past_same, cleared, not_cleared, among_or_not, PutsBoth, put_both}
 use Rattle.dead_rules.specs.Dropped.{may_go, IsUsed, on, aside, without, dropped, AreDead}
-use Rattle.dead_rules.proofs.Live.{used_live, label_is, none_killed, lift, live_back, across_back, was_register, used_by}
+use Rattle.dead_rules.proofs.Live.{used_live, none_killed, lift, live_back, across_back, was_register, used_by}
+use Rattle.dead_rules.proofs.Left.{tries_here, label_is}
 use Rattle.dead_rules.proofs.Text.{pure_of, pure_no_frame, goes_on, Fate, falls, remains, fate, keeps_marks}
 
 module _ (m : Mach) (drops : ℕ → Bool) (dead : AreDead m drops) (formed : WellFormed m) where
@@ -88,9 +89,6 @@ module _ (m : Mach) (drops : ℕ → Bool) (dead : AreDead m drops) (formed : We
 
   -- ---- where it goes
 
-  tries_same : (i : Instr) (next : List Instr) → tries_at (i ∷ expand f next) ≡ tries_at (i ∷ next)
-  tries_same i next = ap (tries_past i.op) (tries_expand f (keeps_marks drops) next)
-
   caught : {n : ℕ} {i : Instr} {next : List Instr} → may_raise i.op ≡ true → (tries : List ℕ) → tries_at (i ∷ next) ≡ tries →
       IsUsed m n (at_handler m.code tries) → IsUsed m n (i ∷ next)
   caught r [] e u = elim u [ ]
@@ -151,7 +149,7 @@ module _ (m : Mach) (drops : ℕ → Bool) (dead : AreDead m drops) (formed : We
         general.elsewhere refl
         (λ w. (
           (refl, after_same vs d p (At l) o),
-          subst (λ code. Agrees q (written m i) (at code p.file y)) (sym (label_is m drops dead l))
+          subst (λ code. Agrees q (written m i) (at code p.file y)) (sym (label_is m drops l))
               (agrees_by (after_label l m.code) (ending_label l m.code) d p.file y (written m i) (after_same vs d p (At l) o)
               (put_wrote vs d p y.raised) w),
         ))
@@ -165,7 +163,7 @@ module _ (m : Mach) (drops : ℕ → Bool) (dead : AreDead m drops) (formed : We
     lands to may y s w = (
       (refl, landed to may),
       subst (λ code. Agrees q (written m i) (at code b' y))
-          (sym (land_expand f (keeps_marks drops) m.code (i ∷ next) (i ∷ expand f next) to (tries_same i next)))
+          (sym (land_expand f (keeps_marks drops) m.code (i ∷ next) (i ∷ expand f next) to (tries_here drops i next refl)))
           (agrees_by (landing_code m.code (i ∷ next) to) (ending_land to (i ∷ next) m.code) a' b' y (written m i)
           (landed to may) (silent_wrote i y.raised a' b' s) w),
     )
@@ -180,7 +178,7 @@ module _ (m : Mach) (drops : ℕ → Bool) (dead : AreDead m drops) (formed : We
               let p = put_both c.setting.end i.results vs (clear (killed m i) a') (clear (killed m i) b') d e in
               (p.file, p.puts, λ y to o. past_to vs d p y to o);
           lands = λ y to l s. lands to l y s;
-          tries = tries_same i next;
+          tries = tries_here drops i next refl;
           pushes = λ t. (
             refl,
             λ y w. (

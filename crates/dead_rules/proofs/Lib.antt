@@ -1,4 +1,5 @@
 pub mod Text
+pub mod Left
 pub mod Live
 pub mod Kept
 pub mod Whole

@@ -5,21 +5,21 @@ use Rattle.std.specs.Prelude.{slice_index_or}
 use Rattle.std.proofs.lemmas.List.Elements.{Contains-get_or, All-contains}
 use Rattle.std.proofs.Math.Nat.{le_of_eq}
 use Rattle.mach_ir.specs.Formed.{is_exit, WellFormed}
-use Rattle.mach_ir.specs.Meaning.{passes_frame, tries_at, tries_past}
+use Rattle.mach_ir.specs.Meaning.{passes_frame, tries_at}
 use Rattle.mach_ir.specs.Walks.{Stands, here, below}
 use Rattle.mach_ir.specs.declared.mach.Instr.{Instr}
 use Rattle.mach_ir.specs.declared.mach.Mach.{Mach}
 use Rattle.mach_laws.specs.Expand.{expand}
 use Rattle.mach_laws.proofs.Places.{tries_expand}
-use Rattle.pass_rules.specs.Carried.{OffsetFits, EndsInReturn, at_return, further, IsCarried}
+use Rattle.pass_rules.specs.Carried.{OffsetFits, IsCarried}
 use Rattle.pass_rules.specs.Measures.{instr_words, code_words, one_if, code_points, exits, operands_with, other_operands}
 use Rattle.pass_rules.proofs.Carried.{exit_one, ends_second}
 use Rattle.dead_rules.specs.Dropped.{without}
-use Rattle.dead_rules.proofs.Text.{Fate, falls, remains, fate, keeps_marks}
+use Rattle.dead_rules.proofs.Left.{IsMain, was_main, still_ends, tries_here}
+use Rattle.dead_rules.proofs.Text.{keeps_marks}
 use Rattle.bs_words.proofs.Lists.{tail_same}
 use Rattle.hoist_rules.specs.Hoisted.{moved, hoisted, MayAllMove, IsHoisted, IsKept}
 use Rattle.hoist_rules.proofs.Moved as at_entry_of
-use Rattle.hoist_rules.proofs.Live as live
 use Rattle.hoist_rules.proofs.Whole as whole
 
 module _ (m : Mach) (moves : ℕ → Bool) (may : MayAllMove m moves) (formed : WellFormed m) where
@@ -35,20 +35,12 @@ module _ (m : Mach) (moves : ℕ → Bool) (may : MayAllMove m moves) (formed : 
   abbrev front : List Instr
   front = expand (moved moves) m.code
 
-  still_ends : {code : List Instr} → EndsInReturn code → EndsInReturn (expand f code)
-  still_ends at_return = at_return
-  still_ends (further {i = i} {is = is} e) = by (fate moves i is) (still_ends e)
-    where
-      by : Fate moves i is → EndsInReturn (expand f is) → EndsInReturn (expand f (i ∷ is))
-      by (falls g d s h) t = subst EndsInReturn (sym h) t
-      by (remains k s h) t = subst EndsInReturn (sym h) (further t)
-
   -- no try is round the entry
   front_tries : {j : Instr} {zs xs : List Instr} → at_entry_of.Front m moves may xs → {code : List Instr} →
       code ≡ xs ++ rest_of.code → Stands j zs code →
-      (tries_at (j ∷ zs) ≡ tries_at rest_of.code) ⊎ live.IsMain m moves may j zs m.code
+      (tries_at (j ∷ zs) ≡ tries_at rest_of.code) ⊎ IsMain moves j zs m.code
   front_tries {j} {zs} at_entry_of.front_end e s =
-      inr (live.was_main m moves may m.code j zs (subst (Stands j zs) e s))
+      inr (was_main moves m.code j zs (subst (Stands j zs) e s))
   front_tries (at_entry_of.front_one s h k) e here =
       inl
       (ap tries_at e ∙ at_entry_of.tries_past_front m moves may rest_of.code (at_entry_of.front_one s h k))
@@ -63,7 +55,7 @@ module _ (m : Mach) (moves : ℕ → Bool) (may : MayAllMove m moves) (formed : 
       subst (λ k. k ≤ most) (sym n) (least most))
       (λ w.
       subst (λ ts. length ts ≤ most)
-      (sym (ap (tries_past i.op) (ap tries_at w.same ∙ tries_expand f (keeps_marks moves) w.next)))
+      (sym (tries_here moves i w.next w.same))
       (known i w.next w.stands))
       (front_tries (at_entry_of.whole_front m moves may) refl s)
     where
@@ -82,7 +74,7 @@ module _ (m : Mach) (moves : ℕ → Bool) (may : MayAllMove m moves) (formed : 
         offsets = λ fit k d lt.
             All-contains (λ (i : Instr). OffsetFits i.op) m.code (slice_index_or q.code k d) fit
             (whole.contains_back m moves may (slice_index_or q.code k d) (Contains-get_or q.code k d lt));
-        ends = λ e. ends_second front rest_of.code (still_ends e);
+        ends = λ e. ends_second front rest_of.code (still_ends moves e);
         colours_low = λ low r k c i e. low r k c (whole.was m moves may k i) e;
       }
 

@@ -13,7 +13,7 @@ use Rattle.cmm_meaning.specs.State.{Doing}
 use Rattle.mach_ir.specs.Acts.{Around, Target, On, At, Landing, Goes, Replaces, Stuck}
 use Rattle.mach_ir.specs.Formed.{IsFormed, WellFormed}
 use Rattle.mach_ir.specs.Runs.{Place, entered}
-use Rattle.mach_ir.specs.Meaning.{Held, State, File, unless_addr, with_held, put, put_all, clear, killed, written, values, past_frame, passes_frame, mach_act, after_label, tries_at, landing_code, start, tries_past}
+use Rattle.mach_ir.specs.Meaning.{Held, State, File, unless_addr, with_held, put, put_all, clear, killed, written, values, past_frame, passes_frame, mach_act, after_label, landing_code, start}
 use Rattle.mach_ir.specs.Walks.{Among, OneOf, targets, IsRegister, Live, LiveAcross}
 use Rattle.mach_ir.specs.Keeps.{ValsWritten, wrote_unless, Begins, Does}
 use Rattle.mach_ir.specs.declared.reg.Reg.{Reg}
@@ -24,13 +24,14 @@ use Rattle.mach_laws.proofs.General as general
 use Rattle.mach_laws.proofs.General.{at}
 use Rattle.mach_laws.proofs.Leads.{MayLand}
 use Rattle.mach_laws.proofs.Level as level
-use Rattle.mach_laws.proofs.Places.{tries_expand, ending_next, ending_label, ending_land, stands_of, land_expand, contains_of}
+use Rattle.mach_laws.proofs.Places.{ending_next, ending_label, ending_land, stands_of, land_expand, contains_of}
 use Rattle.mach_laws.proofs.Simulate.{Agrees}
 use Rattle.mach_laws.proofs.Among.{left_among, right_among}
 use Rattle.mach_laws.proofs.Files.{put_other}
 use Rattle.mach_laws.proofs.Raised.{IsSilent, told}
 use Rattle.places_rules.proofs.Files.{past_same, cleared, not_cleared, among_or_not, put_here, PutsBoth, put_both}
 use Rattle.dead_rules.specs.Dropped.{may_go, without}
+use Rattle.dead_rules.proofs.Left.{tries_here, label_is}
 use Rattle.dead_rules.proofs.Text.{pure_of, pure_no_frame, Fate, falls, remains, fate, keeps_marks}
 use Rattle.hoist_rules.specs.Hoisted.{MayMove, hoisted, MayAllMove}
 use Rattle.hoist_rules.proofs.Moved as at_entry_of
@@ -149,14 +150,6 @@ module _ (m : Mach) (moves : ℕ → Bool) (may : MayAllMove m moves) (formed : 
             (at_entry_of.made_or_not m moves may r.number);
       }
 
-  -- ---- where it goes
-
-  label_is : (l : ℕ) → after_label l rest_of.code ≡ expand f (after_label l m.code)
-  label_is = at_entry_of.label_is m moves may
-
-  tries_same : (i : Instr) (next : List Instr) → tries_at (i ∷ expand f next) ≡ tries_at (i ∷ next)
-  tries_same i next = ap (tries_past i.op) (tries_expand f (keeps_marks moves) next)
-
   -- the relation does not depend on the place
   abbrev Rel : List Instr → File → File → Type 0
   Rel rest a b = Same a b
@@ -219,7 +212,7 @@ module _ (m : Mach) (moves : ℕ → Bool) (may : MayAllMove m moves) (formed : 
           general.elsewhere refl
           (λ w. (
             (refl, s),
-            subst (λ code. Agrees rest_of (written m i) (at code p.file y)) (sym (label_is l))
+            subst (λ code. Agrees rest_of (written m i) (at code p.file y)) (sym (label_is m moves l))
                 (agrees_by (after_label l m.code) (ending_label l m.code) d p.file y (written m i) s w),
           ))
 
@@ -228,7 +221,7 @@ module _ (m : Mach) (moves : ℕ → Bool) (may : MayAllMove m moves) (formed : 
       lands to l y w = (
         (refl, past),
         subst (λ code. Agrees rest_of (written m i) (at code b' y))
-            (sym (land_expand f (keeps_marks moves) m.code (i ∷ next) (i ∷ expand f next) to (tries_same i next)))
+            (sym (land_expand f (keeps_marks moves) m.code (i ∷ next) (i ∷ expand f next) to (tries_here moves i next refl)))
             (agrees_by (landing_code m.code (i ∷ next) to) (ending_land to (i ∷ next) m.code) a' b' y (written m i) past w),
       )
 
@@ -239,7 +232,7 @@ module _ (m : Mach) (moves : ℕ → Bool) (may : MayAllMove m moves) (formed : 
                 let p = put_both c.setting.end i.results vs (clear (killed m i) a') (clear (killed m i) b') d e in
                 (p.file, p.puts, λ y to o. past_to vs d p y to o);
             lands = λ y to l s. lands to l y;
-            tries = tries_same i next;
+            tries = tries_here moves i next refl;
             pushes = λ t. (refl, λ y w. ((refl, past), agrees_by next (ending_next ending) a' b' y (written m i) past w));
           }
 

@@ -1,21 +1,23 @@
 -- What is live, joined and reached in a function whose constants are made at the entry was so before, the registers of
 -- those constants excepted.
-use Rattle.std.proofs.Common.{◌≡◌, ℕ, Bool, true, false, inl, inr, ◌⊎◌, ⊎_elim, List, [], ◌∷◌, ◌++◌, length, refl, sym, ap, ◌∙◌, subst}
+use Rattle.std.proofs.Common.{◌≡◌, ℕ, Bool, true, inl, inr, ◌⊎◌, ⊎_elim, List, [], ◌∷◌, ◌++◌, length, refl, sym, ◌∙◌, subst}
 use Rattle.std.specs.List.{Contains}
 use Rattle.std.proofs.lemmas.Bool.{both_ways}
-use Rattle.mach_ir.specs.Acts.{Target, On, At}
+use Rattle.mach_ir.specs.Acts.{Target, On}
 use Rattle.bs_words.specs.declared.types.Comp.TheVariants as comp
-use Rattle.bs_words.proofs.Lists.{none_in, head_same, tail_same, none_there}
-use Rattle.mach_ir.specs.Meaning.{after_label, from_handler, code_at, killed, passes_frame, tries_at, tries_past}
+use Rattle.bs_words.proofs.Lists.{none_in, head_same, tail_same}
+use Rattle.mach_ir.specs.Meaning.{after_label, from_handler, code_at, killed, passes_frame, tries_at}
 use Rattle.mach_ir.specs.Walks.{Among, OneOf, targets, may_raise, goes, raises, Reached, at_entry, by_step, by_raise, Live, read, on, aside, LiveAfter, after_step, LiveAcross, across_step, across_raise, InCode, in_args, in_results, further, IsRegister, is_param, is_colour, is_in_code, Stands, here, below, NoAddrLive, Meets, at_write, at_params, Joined, one_way, other_way}
 use Rattle.mach_ir.specs.declared.reg.Reg.{Reg}
 use Rattle.mach_ir.specs.declared.mach.Instr.{Instr}
 use Rattle.mach_ir.specs.declared.mach.Mach.{Mach}
 use Rattle.mach_laws.specs.Expand.{expand, Ending, all}
-use Rattle.mach_laws.proofs.Places.{tries_expand, ending_next, ending_label, ending_from_handler, stands_of, ending_of}
+use Rattle.mach_laws.proofs.Places.{ending_of}
 use Rattle.mach_laws.proofs.Among.{split_among}
 use Rattle.dead_rules.specs.Dropped.{may_go, without}
-use Rattle.dead_rules.proofs.Text.{pure_of, pure_on, pure_only, pure_quiet, pure_no_frame, Fate, falls, remains, fate, keeps_marks}
+use Rattle.dead_rules.proofs.Left as what_is_left
+use Rattle.dead_rules.proofs.Left.{IsMain, was_main, code_back, label_is, handler_is, first_kept, gone_reached, WasReached, reached_on, reached_aside, GoesBack}
+use Rattle.dead_rules.proofs.Text.{pure_of, pure_on, pure_only, pure_quiet, pure_no_frame}
 use Rattle.hoist_rules.specs.Hoisted.{MayMove, hoisted, MayAllMove}
 use Rattle.hoist_rules.proofs.Moved as at_entry_of
 use Rattle.hoist_rules.proofs.Moved.{first_part, second_part, in_part}
@@ -33,15 +35,7 @@ module _ (m : Mach) (moves : ℕ → Bool) (may : MayAllMove m moves) where
   abbrev IsMade : ℕ → Type 0
   IsMade = at_entry_of.IsMade m moves may
 
-  -- ---- the first instruction that is left
-
-  pub record IsFirst (rest : List Instr) (j : Instr) (zs : List Instr) : Type 0 where
-    pub next : List Instr
-    pub same : zs ≡ expand f next
-    pub ending : Ending (j ∷ next) m.code
-    pub kept : may_go j.op ≡ true → moves (length next) ≡ false
-    pub back : (n : ℕ) → (IsMade n → ⊥) → Live m n (j ∷ next) → Live m n rest
-    pub reached : Reached m rest → Reached m (j ∷ next)
+  -- ---- what is left, without its entry
 
   lift : {n : ℕ} {i : Instr} {next : List Instr} → Stands i next m.code → may_go i.op ≡ true → moves (length next) ≡ true →
       (IsMade n → ⊥) → Live m n next → Live m n (i ∷ next)
@@ -52,82 +46,28 @@ module _ (m : Mach) (moves : ℕ → Bool) (may : MayAllMove m moves) where
       (at_entry_of.none_killed m moves may n (may i next s d)) (split_among n i.results (killed m i) w))
       (goes On (pure_on (pure_of i.op g))) v
 
-  pub first_kept : (rest : List Instr) → Ending rest m.code → (j : Instr) (zs : List Instr) → j ∷ zs ≡ expand f rest → IsFirst rest j zs
-  first_kept [] ending j zs e = absurd (none_there (sym e))
-  first_kept (i ∷ is) ending j zs e = by (fate moves i is) (λ h. first_kept is (ending_next ending) j zs h)
-    where
-      by : Fate moves i is → (j ∷ zs ≡ expand f is → IsFirst is j zs) → IsFirst (i ∷ is) j zs
-      by (falls g d s h) again =
-          let w = again (e ∙ h) in
-          record {
-            next = w.next;
-            same = w.same;
-            ending = w.ending;
-            kept = w.kept;
-            back = λ n free u. lift (stands_of ending) g d free (w.back n free u);
-            reached = λ r. w.reached (by_step r (goes On (pure_on (pure_of i.op g))));
-          }
-      by (remains k s h) again =
-          subst (λ (x : Instr). IsFirst (i ∷ is) x zs) (sym (head_same (e ∙ h)))
-          (record {
-            next = is;
-            same = tail_same (e ∙ h);
-            ending = ending;
-            kept = k;
-            back = λ n free u. u;
-            reached = λ r. r;
-          })
-
-  pub tries_here : (j : Instr) {zs : List Instr} (next : List Instr) → zs ≡ expand f next → tries_at (j ∷ zs) ≡ tries_at (j ∷ next)
-  tries_here j next e = ap (tries_past j.op) (ap tries_at e ∙ tries_expand f (keeps_marks moves) next)
-
-  label_is : (l : ℕ) → after_label l rest_of.code ≡ expand f (after_label l m.code)
-  label_is = at_entry_of.label_is m moves may
-
-  handler_is : (l : ℕ) → from_handler l rest_of.code ≡ expand f (from_handler l m.code)
-  handler_is = at_entry_of.handler_is m moves may
-
-  -- ---- what is left, without its entry
+  goes_back : {n : ℕ} → (IsMade n → ⊥) → GoesBack m moves n (Live m n)
+  goes_back free =
+      record {
+        over = λ i next s g d v. lift s g d free v;
+        at_read = λ i next s kept a. read a;
+        at_step = λ i next to writes l v. on writes l v;
+        at_raise = λ i next to r v. aside r v;
+        is_live = λ rest v. v;
+      }
 
   pub live_back : {n : ℕ} {ys : List Instr} → Live rest_of n ys → (IsMade n → ⊥) → (rest : List Instr) → Ending rest m.code →
       ys ≡ expand f rest → Live m n rest
-  live_back {n} (read {i = j} {next = zs} a) free rest ending e =
-      let w = first_kept rest ending j zs e in w.back n free (read a)
-  live_back {n} (on {i = j} {next = zs} writes (goes t o) v) free rest ending e =
-      let w = first_kept rest ending j zs e in
-      w.back n free (by w.next w.same w.ending t o (λ to end h. live_back v free to end h))
-    where
-      by : (next : List Instr) → zs ≡ expand f next → Ending (j ∷ next) m.code → (t : Target) → OneOf t (targets j.op) →
-          ((to : List Instr) → Ending to m.code → code_at rest_of.code zs t ≡ expand f to → Live m n to) → Live m n (j ∷ next)
-      by next same end On o ih = on writes (goes On o) (ih next (ending_next end) same)
-      by next same end (At l) o ih = on writes (goes (At l) o) (ih (after_label l m.code) (ending_label l m.code) (label_is l))
-  live_back {n} (aside {i = j} {next = zs} (raises {l = l} {tries = tries} r h) v) free rest ending e =
-      let w = first_kept rest ending j zs e in
-      w.back n free
-      (aside (raises r (sym (tries_here j w.next w.same) ∙ h))
-      (live_back v free (from_handler l m.code) (ending_from_handler l m.code) (handler_is l)))
+  live_back {n} v free = what_is_left.live_back m moves (rest_of).params n (Live m n) (goes_back free) v
 
   pub across_back : {n : ℕ} {j : Instr} {zs : List Instr} (next : List Instr) → (IsMade n → ⊥) → Ending (j ∷ next) m.code →
       zs ≡ expand f next → LiveAcross rest_of n j zs → LiveAcross m n j next
-  across_back {n} {j} {zs} next free ending e (across_step writes (goes t o) v) = by t o v
-    where
-      by : (t : Target) → OneOf t (targets j.op) → Live rest_of n (code_at rest_of.code zs t) → LiveAcross m n j next
-      by On o v = across_step writes (goes On o) (live_back v free next (ending_next ending) e)
-      by (At l) o v =
-          across_step writes (goes (At l) o)
-          (live_back v free (after_label l m.code) (ending_label l m.code) (label_is l))
-  across_back {n} {j} {zs} next free ending e (across_raise (raises {l = l} {tries = tries} r h) v) =
-      across_raise (raises r (sym (tries_here j next e) ∙ h))
-      (live_back v free (from_handler l m.code) (ending_from_handler l m.code) (handler_is l))
+  across_back {n} next free ending e v =
+      (what_is_left.across_back m moves (rest_of).params n (Live m n) (goes_back free) next ending e v).0
 
   pub after_back : {n : ℕ} {j : Instr} {zs : List Instr} (next : List Instr) → (IsMade n → ⊥) → Ending (j ∷ next) m.code →
       zs ≡ expand f next → LiveAfter rest_of n j zs → LiveAfter m n j next
-  after_back {n} {j} {zs} next free ending e (after_step (goes t o) v) = by t o v
-    where
-      by : (t : Target) → OneOf t (targets j.op) → Live rest_of n (code_at rest_of.code zs t) → LiveAfter m n j next
-      by On o v = after_step (goes On o) (live_back v free next (ending_next ending) e)
-      by (At l) o v =
-          after_step (goes (At l) o) (live_back v free (after_label l m.code) (ending_label l m.code) (label_is l))
+  after_back {n} next free = what_is_left.after_back m moves (rest_of).params n (Live m n) (goes_back free) next
 
   -- ---- with its entry, walks are the same
 
@@ -159,19 +99,6 @@ module _ (m : Mach) (moves : ℕ → Bool) (may : MayAllMove m moves) where
 
   -- ---- registers
 
-  code_back : {r : Reg} (code : List Instr) → InCode r (expand f code) → InCode r code
-  code_back [] c = c
-  code_back {r} (i ∷ is) c = by (fate moves i is) (λ d. code_back is d)
-    where
-      of_head : InCode r (i ∷ expand f is) → (InCode r (expand f is) → InCode r is) → InCode r (i ∷ is)
-      of_head (in_args a) again = in_args a
-      of_head (in_results a) again = in_results a
-      of_head (further d) again = further (again d)
-
-      by : Fate moves i is → (InCode r (expand f is) → InCode r is) → InCode r (i ∷ is)
-      by (falls g d e h) again = further (again (subst (InCode r) h c))
-      by (remains k e h) again = of_head (subst (InCode r) h c) again
-
   pub stands_in_code : {r : Reg} {i : Instr} {next code : List Instr} → Stands i next code → InCode r (i ∷ []) → InCode r code
   stands_in_code here (in_args a) = in_args a
   stands_in_code here (in_results a) = in_results a
@@ -195,7 +122,7 @@ module _ (m : Mach) (moves : ℕ → Bool) (may : MayAllMove m moves) where
   was_register r (is_colour c) = is_colour c
   was_register r (is_in_code c) =
       is_in_code
-      (⊎_elim (λ d. front_back (at_entry_of.whole_front m moves may) d) (λ d. code_back m.code d)
+      (⊎_elim (λ d. front_back (at_entry_of.whole_front m moves may) d) (λ d. code_back moves m.code d)
       (either (at_entry_of.front m moves may) rest_of.code c))
 
   results_code : {r : Reg} (xs : List Instr) → Contains (at_entry_of.results_in xs) r → InCode r xs
@@ -222,7 +149,7 @@ module _ (m : Mach) (moves : ℕ → Bool) (may : MayAllMove m moves) where
       (front_back (at_entry_of.whole_front m moves may) (results_code (at_entry_of.front m moves may) d)))
       (in_part m.params made_there c)
   rest_register r (is_colour c) = is_colour c
-  rest_register r (is_in_code c) = is_in_code (code_back m.code c)
+  rest_register r (is_in_code c) = is_in_code (code_back moves m.code c)
 
   pub to_rest : (r : Reg) → IsRegister q r → IsRegister rest_of r
   to_rest r (is_param c) = is_param (first_part m.params made_there c)
@@ -234,37 +161,14 @@ module _ (m : Mach) (moves : ℕ → Bool) (may : MayAllMove m moves) where
 
   -- ---- what is in the second
 
-  pub record IsMain (j : Instr) (zs code : List Instr) : Type 0 where
-    pub next : List Instr
-    pub stands : Stands j next code
-    pub same : zs ≡ expand f next
-    pub kept : may_go j.op ≡ true → moves (length next) ≡ false
-
-  pub was_main : (code : List Instr) (j : Instr) (zs : List Instr) → Stands j zs (expand f code) → IsMain j zs code
-  was_main [] j zs s = elim s [ ]
-  was_main (i ∷ is) j zs s = by (fate moves i is) (λ t. was_main is j zs t)
-    where
-      more_of : IsMain j zs is → IsMain j zs (i ∷ is)
-      more_of w = record { next = w.next; stands = below w.stands; same = w.same; kept = w.kept }
-
-      at_head : {x : Instr} {ys : List Instr} → (may_go i.op ≡ true → moves (length is) ≡ false) → i ≡ x → ys ≡ expand f is →
-          Stands j zs (x ∷ ys) → (Stands j zs (expand f is) → IsMain j zs is) → IsMain j zs (i ∷ is)
-      at_head k e h here again =
-          subst (λ (x : Instr). IsMain x zs (i ∷ is)) e (record { next = is; stands = here; same = h; kept = k })
-      at_head k e h (below t) again = more_of (again (subst (Stands j zs) h t))
-
-      by : Fate moves i is → (Stands j zs (expand f is) → IsMain j zs is) → IsMain j zs (i ∷ is)
-      by (falls g d e h) again = more_of (again (subst (Stands j zs) h s))
-      by (remains k e h) again = at_head k refl refl (subst (Stands j zs) h s) again
-
   -- it is made at the entry, or left
   pub data Whence (j : Instr) (zs : List Instr) : Type 0 where
     at_the_entry : {next : List Instr} → Stands j next m.code → moves (length next) ≡ true → Whence j zs
-    left : IsMain j zs m.code → Whence j zs
+    left : IsMain moves j zs m.code → Whence j zs
 
   from_front : {j : Instr} {zs xs : List Instr} → at_entry_of.Front m moves may xs → {code : List Instr} →
       code ≡ xs ++ rest_of.code → Stands j zs code → Whence j zs
-  from_front {j} {zs} at_entry_of.front_end e s = left (was_main m.code j zs (subst (Stands j zs) e s))
+  from_front {j} {zs} at_entry_of.front_end e s = left (was_main moves m.code j zs (subst (Stands j zs) e s))
   from_front {j} {zs} (at_entry_of.front_one {next = next} s h k) e here =
       at_the_entry (subst (λ (i : Instr). Stands i next m.code) (sym (head_same e)) s) h
   from_front (at_entry_of.front_one s h k) e (below t) = from_front k (tail_same e) t
@@ -321,49 +225,22 @@ module _ (m : Mach) (moves : ℕ → Bool) (may : MayAllMove m moves) where
 
   -- ---- what is reached
 
-  record WasReached (ys : List Instr) : Type 0 where
-    rest : List Instr
-    ending : Ending rest m.code
-    same : ys ≡ expand f rest
-    reached : Reached m rest
-
   data Reaches (ys : List Instr) : Type 0 where
     in_front : {xs : List Instr} → at_entry_of.Front m moves may xs → ys ≡ xs ++ rest_of.code → Reaches ys
-    behind_it : WasReached ys → Reaches ys
+    behind_it : WasReached m moves ys → Reaches ys
 
-  rest_on : {j : Instr} {zs : List Instr} → WasReached (j ∷ zs) → (t : Target) → OneOf t (targets j.op) →
-      WasReached (code_at q.code zs t)
-  rest_on {j} {zs} b t o =
-      let w = first_kept b.rest b.ending j zs b.same in by w.next w.same w.ending (w.reached b.reached) t o
-    where
-      by : (next : List Instr) → zs ≡ expand f next → Ending (j ∷ next) m.code → Reached m (j ∷ next) → (t : Target) →
-          OneOf t (targets j.op) → WasReached (code_at q.code zs t)
-      by next same end r On o = record { rest = next; ending = ending_next end; same = same; reached = by_step r (goes On o) }
-      by next same end r (At l) o =
-          record {
-            rest = after_label l m.code;
-            ending = ending_label l m.code;
-            same = label_same l ∙ label_is l;
-            reached = by_step r (goes (At l) o);
-          }
+  label_so : (l : ℕ) → after_label l q.code ≡ expand f (after_label l m.code)
+  label_so l = label_same l ∙ label_is m moves l
 
-  rest_aside : {j : Instr} {zs : List Instr} (l : ℕ) (tries : List ℕ) → WasReached (j ∷ zs) → may_raise j.op ≡ true →
-      tries_at (j ∷ zs) ≡ l ∷ tries → WasReached (from_handler l q.code)
-  rest_aside {j} {zs} l tries b e h =
-      let w = first_kept b.rest b.ending j zs b.same in
-      record {
-        rest = from_handler l m.code;
-        ending = ending_from_handler l m.code;
-        same = handler_same l ∙ handler_is l;
-        reached = by_raise (w.reached b.reached) (raises e (sym (tries_here j w.next w.same) ∙ h));
-      }
+  handler_so : (l : ℕ) → from_handler l q.code ≡ expand f (from_handler l m.code)
+  handler_so l = handler_same l ∙ handler_is m moves l
 
-  at_first : {ys : List Instr} → ys ≡ rest_of.code → WasReached ys
+  at_first : {ys : List Instr} → ys ≡ rest_of.code → WasReached m moves ys
   at_first e = record { rest = m.code; ending = all; same = e; reached = at_entry }
 
   step_on : {j : Instr} {zs : List Instr} → Reaches (j ∷ zs) → (t : Target) → OneOf t (targets j.op) → Reaches (code_at q.code zs t)
-  step_on (behind_it b) t o = behind_it (rest_on b t o)
-  step_on (in_front at_entry_of.front_end e) t o = behind_it (rest_on (at_first e) t o)
+  step_on (behind_it b) t o = behind_it (reached_on m moves q.code label_so handler_so b t o)
+  step_on (in_front at_entry_of.front_end e) t o = behind_it (reached_on m moves q.code label_so handler_so (at_first e) t o)
   step_on {j} {zs} (in_front (at_entry_of.front_one {i = i} {next = next} s h k) e) t o =
       subst (λ t. Reaches (code_at q.code zs t))
       (sym (only_on (may i next s h) (subst (λ (i : Instr). OneOf t (targets i.op)) (head_same e) o)))
@@ -371,8 +248,8 @@ module _ (m : Mach) (moves : ℕ → Bool) (may : MayAllMove m moves) where
 
   aside_on : {j : Instr} {zs : List Instr} (l : ℕ) (tries : List ℕ) → Reaches (j ∷ zs) → may_raise j.op ≡ true →
       tries_at (j ∷ zs) ≡ l ∷ tries → Reaches (from_handler l q.code)
-  aside_on l tries (behind_it b) r h = behind_it (rest_aside l tries b r h)
-  aside_on l tries (in_front at_entry_of.front_end e) r h = behind_it (rest_aside l tries (at_first e) r h)
+  aside_on l tries (behind_it b) r h = behind_it (reached_aside m moves q.code label_so handler_so l tries b r h)
+  aside_on l tries (in_front at_entry_of.front_end e) r h = behind_it (reached_aside m moves q.code label_so handler_so l tries (at_first e) r h)
   aside_on l tries (in_front (at_entry_of.front_one {i = i} {next = next} s t k) e) r h =
       absurd (no_raise (may i next s t) (subst (λ (i : Instr). may_raise i.op ≡ true) (head_same e) r))
 
@@ -389,11 +266,11 @@ module _ (m : Mach) (moves : ℕ → Bool) (may : MayAllMove m moves) where
             by j zs (reached_back r) frame x (was_register x one) addr v (at_entry_of.made_or_not m moves may x.number);
       }
     where
-      main : (j : Instr) (zs : List Instr) → WasReached (j ∷ zs) → passes_frame j.op ≡ true → (x : Reg) → IsRegister m x →
+      main : (j : Instr) (zs : List Instr) → WasReached m moves (j ∷ zs) → passes_frame j.op ≡ true → (x : Reg) → IsRegister m x →
           x.comp ≡ comp.Addr → LiveAcross q x.number j zs → (IsMade x.number → ⊥) → ⊥
       main j zs b frame x one addr v free =
-          let w = first_kept b.rest b.ending j zs b.same in
-          none.none j w.next (w.reached b.reached) frame x one addr (across_back w.next free w.ending w.same (across_same v))
+          let w = first_kept m moves b.rest b.ending j zs b.same in
+          none.none j w.next (gone_reached m moves w.gone b.reached) frame x one addr (across_back w.next free w.ending w.same (across_same v))
 
       by : (j : Instr) (zs : List Instr) → Reaches (j ∷ zs) → passes_frame j.op ≡ true → (x : Reg) → IsRegister m x →
           x.comp ≡ comp.Addr → LiveAcross q x.number j zs → IsMade x.number ⊎ (IsMade x.number → ⊥) → ⊥

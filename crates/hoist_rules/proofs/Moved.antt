@@ -9,11 +9,11 @@ use Rattle.mach_ir.specs.declared.reg.Reg.{Reg}
 use Rattle.mach_ir.specs.declared.mach.Instr.{Instr}
 use Rattle.mach_ir.specs.declared.mach.Mach.{Mach}
 use Rattle.mach_laws.specs.Expand.{expand, Ending, all}
-use Rattle.mach_laws.proofs.Places.{label_expand, handler_expand, ending_next, stands_of, shorter}
+use Rattle.mach_laws.proofs.Places.{ending_next, stands_of, shorter}
 use Rattle.mach_laws.proofs.Among.{none_among, left_among}
 use Rattle.places_rules.proofs.Files.{among_or_not}
 use Rattle.dead_rules.specs.Dropped.{may_go, without}
-use Rattle.dead_rules.proofs.Text.{keeps_marks, pure_of, pure_kills}
+use Rattle.dead_rules.proofs.Text.{pure_of, pure_kills}
 use Rattle.bs_words.proofs.Lists.{none_in, first_in, later_in, in_cons}
 use Rattle.hoist_rules.specs.Hoisted.{MayMove, moved, hoisted, MayAllMove}
 
@@ -205,12 +205,6 @@ module _ (m : Mach) (moves : ℕ → Bool) (may : MayAllMove m moves) where
   pub land_same : (there : List Instr) (to : Landing) → landing_code q.code there to ≡ landing_code rest_of.code there to
   land_same there (AtLabel l) = label_same l
   land_same there AtHandler = handlers_same (tries_at there)
-
-  pub label_is : (l : ℕ) → after_label l rest_of.code ≡ expand f (after_label l m.code)
-  label_is l = label_expand f (keeps_marks moves) l m.code
-
-  pub handler_is : (l : ℕ) → from_handler l rest_of.code ≡ expand f (from_handler l m.code)
-  handler_is l = handler_expand f (keeps_marks moves) l m.code
 
   -- ---- where what moves is at the entry
 

@@ -1,37 +1,33 @@
 -- What a function keeps whose constants are made at the entry.
-use Rattle.std.proofs.Common.{◌≡◌, ◌≢◌, ℕ, ◌+◌, ◌<◌, ◌≤◌, Bool, true, false, cond, inl, ⊎_elim, List, [], ◌∷◌, ◌++◌, length, refl, sym, ap, ◌∙◌, subst, arith}
-use Rattle.std.proofs.lemmas.List.Elements.{Contains-get_or, All-contains}
-use Rattle.std.specs.List.{All, AllPairs, Contains}
-use Rattle.std.specs.Prelude.{slice_index_or}
+use Rattle.std.proofs.Common.{◌≡◌, ℕ, ◌+◌, ◌≤◌, Bool, true, false, cond, inl, inr, List, [], ◌∷◌, ◌++◌, length, refl, sym, ap, ◌∙◌, subst, arith}
+use Rattle.std.specs.List.{Contains}
 use Rattle.std.proofs.lemmas.Bool.{both_ways}
 use Rattle.bs_words.specs.declared.types.Comp.{Comp}
 use Rattle.bs_words.specs.declared.types.Comp.TheVariants as comp
 use Rattle.bs_words.specs.declared.types.Loc.TheVariants as loc
-use Rattle.bs_words.proofs.Lists.{none_in, first_in, later_in, in_cons, head_same, tail_same, none_there}
-use Rattle.mach_ir.specs.Acts.{On, At}
-use Rattle.mach_ir.specs.Formed.{IsFormed, AreDistinct, labels_in, HasPlace, place_here, place_below, HasHandler, handler_here, handler_below, LeadsTo, is_exit, LabelsStand, tries_left, leaves, IsNested, CasesAgree, WellFormed}
-use Rattle.mach_ir.specs.Keeps.{Keeps, NamesSymbol, NamesExternal, IsNamedIn}
-use Rattle.mach_ir.specs.Meaning.{is_addr, after_label, from_handler, code_at, tries_at, tries_past}
-use Rattle.mach_ir.specs.Placed.{WellPlaced, AllocatesFresh, IsFresh, is_straight, AreStraight}
+use Rattle.bs_words.proofs.Lists.{later_in}
+use Rattle.mach_ir.specs.Formed.{IsFormed, AreDistinct, labels_in, HasPlace, place_below, HasHandler, WellFormed}
+use Rattle.mach_ir.specs.Keeps.{Keeps, NamesSymbol, NamesExternal}
+use Rattle.mach_ir.specs.Meaning.{is_addr, after_label, from_handler}
+use Rattle.mach_ir.specs.Placed.{WellPlaced, AllocatesFresh, IsFresh, AreStraight}
 use Rattle.mach_ir.specs.Seats.{Seated}
 use Rattle.mach_ir.specs.Sizes.{operand_count, Size, HasSize}
-use Rattle.mach_ir.specs.Walks.{Among, may_raise, Writes, IsRegister, Stands}
+use Rattle.mach_ir.specs.Walks.{Among, Writes, IsRegister, Stands}
 use Rattle.mach_ir.specs.declared.blocks.NewBlock.{NewBlock}
 use Rattle.mach_ir.specs.declared.op.Access.TheVariants as access
 use Rattle.mach_ir.specs.declared.op.Op.TheVariants as op
 use Rattle.mach_ir.specs.declared.op.Pure.TheVariants as pure
-use Rattle.mach_ir.specs.declared.mach.Mark.{Mark}
-use Rattle.mach_ir.specs.declared.mach.Mark.TheVariants as mark
-use Rattle.mach_ir.specs.declared.mach.MachOp.{MachOp}
 use Rattle.mach_ir.specs.declared.mach.MachOp.TheVariants as mach
 use Rattle.mach_ir.specs.declared.reg.Reg.{Reg}
 use Rattle.mach_ir.specs.declared.mach.Instr.{Instr}
 use Rattle.mach_ir.specs.declared.mach.Mach.{Mach}
 use Rattle.mach_laws.specs.Expand.{expand, Ending, all}
-use Rattle.mach_laws.proofs.Places.{tries_expand, ending_next, stands_of, stands_behind, stands_within, head_of, tail_of, straight_cons, straight_none, contains_of, stands_in}
-use Rattle.mach_laws.proofs.Instructions.{no_op}
+use Rattle.mach_laws.proofs.Places.{ending_next, stands_of, stands_behind, stands_within, head_of, tail_of, straight_cons, contains_of, stands_in}
+use Rattle.pass_rules.proofs.Formed.{ComesFrom, is_new, stood, KeepsPlaces}
+use Rattle.pass_rules.proofs.Formed as places
 use Rattle.dead_rules.specs.Dropped.{may_go, without}
-use Rattle.dead_rules.proofs.Text.{pure_of, pure_straight, label_stays, handler_stays, mark_stays, Fate, falls, remains, fate, keeps_marks, same_labels}
+use Rattle.dead_rules.proofs.Left.{IsMain, contains_left, place_left, handler_left, tries_before, run_back, label_is, handler_is}
+use Rattle.dead_rules.proofs.Text.{pure_of, pure_straight, mark_stays, Fate, falls, remains, fate, same_labels}
 use Rattle.hoist_rules.specs.Hoisted.{MayMove, moved, hoisted, MayAllMove}
 use Rattle.hoist_rules.proofs.Moved as at_entry_of
 use Rattle.hoist_rules.proofs.Live as live
@@ -67,9 +63,6 @@ module _ (m : Mach) (moves : ℕ → Bool) (may : MayAllMove m moves) where
   abbrev IsMade : ℕ → Type 0
   IsMade = at_entry_of.IsMade m moves may
 
-  abbrev IsMain : Instr → List Instr → List Instr → Type 0
-  IsMain = live.IsMain m moves may
-
   abbrev Whence : Instr → List Instr → Type 0
   Whence = live.Whence m moves may
 
@@ -78,23 +71,6 @@ module _ (m : Mach) (moves : ℕ → Bool) (may : MayAllMove m moves) where
 
   pub whence : {j : Instr} {zs : List Instr} → Stands j zs q.code → Whence j zs
   whence = live.whence m moves may
-
-  -- ---- what moves is no mark, and leaves nothing
-
-  never_mark : {i : Instr} {next : List Instr} → MayMove m i next → (g : Mark) → i.op ≡ mach.Mark g → ⊥
-  never_mark v g e = no_op _ g (sym (ap (λ (i : Instr). i.op) v.is) ∙ e)
-
-  never_leads : {i : Instr} {next : List Instr} → MayMove m i next → (l : ℕ) → LeadsTo i.op l → ⊥
-  never_leads v l o = no_label (live.only_on m moves may v o)
-    where
-      no_label : At l ≡ On → ⊥
-      no_label e = cc
-
-  never_raises : {i : Instr} {next : List Instr} → MayMove m i next → may_raise i.op ≡ true → ⊥
-  never_raises v r = live.no_raise m moves may v r
-
-  never_leaves : {i : Instr} {next : List Instr} → MayMove m i next → leaves i.op ≡ true → ⊥
-  never_leaves v e = both_ways true (sym e ∙ ap (λ (i : Instr). leaves i.op) v.is) refl
 
   -- ---- what is in the code
 
@@ -105,47 +81,10 @@ module _ (m : Mach) (moves : ℕ → Bool) (may : MayAllMove m moves) where
       by (live.at_the_entry s h) = contains_of s
       by (live.left o) = contains_of o.stands
 
-  contains_left : (code : List Instr) (i : Instr) → may_go i.op ≡ false → Contains code i → Contains (expand f code) i
-  contains_left [] i k c = absurd (none_in i c)
-  contains_left (j ∷ is) i k c = by (fate moves j is) (λ d. contains_left is i k d)
-    where
-      by : Fate moves j is → (Contains is i → Contains (expand f is) i) → Contains (expand f (j ∷ is)) i
-      by (falls g d s h) again =
-          ⊎_elim (λ e. absurd (both_ways (may_go j.op) (ap (λ (x : Instr). may_go x.op) e ∙ k) g))
-          (λ t. subst (λ xs. Contains xs i) (sym h) (again t)) (in_cons j i is c)
-      by (remains g s h) again =
-          subst (λ xs. Contains xs i) (sym h)
-          (⊎_elim (λ e. subst (Contains (j ∷ expand f is)) e (first_in j (expand f is)))
-          (λ t. later_in j i (expand f is) (again t)) (in_cons j i is c))
-
   contains_there : (i : Instr) → may_go i.op ≡ false → Contains m.code i → Contains q.code i
-  contains_there i k c = in_second i front rest_of.code (contains_left m.code i k c)
+  contains_there i k c = in_second i front rest_of.code (contains_left moves m.code i k c)
 
   -- ---- labels
-
-  place_left : {l : ℕ} {code : List Instr} → HasPlace l code → HasPlace l (expand f code)
-  place_left {l} (place_here {i = i} {is = is} e) = by (fate moves i is)
-    where
-      by : Fate moves i is → HasPlace l (expand f (i ∷ is))
-      by (falls g d s h) = absurd (both_ways (may_go i.op) (label_stays l i.op e) g)
-      by (remains k s h) = subst (HasPlace l) (sym h) (place_here e)
-  place_left {l} (place_below {i = i} {is = is} p) = by (fate moves i is) (place_left p)
-    where
-      by : Fate moves i is → HasPlace l (expand f is) → HasPlace l (expand f (i ∷ is))
-      by (falls g d s h) t = subst (HasPlace l) (sym h) t
-      by (remains k s h) t = subst (HasPlace l) (sym h) (place_below t)
-
-  handler_left : {l : ℕ} {code : List Instr} → HasHandler l code → HasHandler l (expand f code)
-  handler_left {l} (handler_here {i = i} {is = is} e) = by (fate moves i is)
-    where
-      by : Fate moves i is → HasHandler l (expand f (i ∷ is))
-      by (falls g d s h) = absurd (both_ways (may_go i.op) (handler_stays l i.op e) g)
-      by (remains k s h) = subst (HasHandler l) (sym h) (handler_here e)
-  handler_left {l} (handler_below {i = i} {is = is} p) = by (fate moves i is) (handler_left p)
-    where
-      by : Fate moves i is → HasHandler l (expand f is) → HasHandler l (expand f (i ∷ is))
-      by (falls g d s h) t = subst (HasHandler l) (sym h) t
-      by (remains k s h) t = subst (HasHandler l) (sym h) (handler_below t)
 
   labels_past : {xs : List Instr} (ys : List Instr) → at_entry_of.Front m moves may xs → labels_in (xs ++ ys) ≡ labels_in ys
   labels_past ys at_entry_of.front_end = refl
@@ -154,24 +93,6 @@ module _ (m : Mach) (moves : ℕ → Bool) (may : MayAllMove m moves) where
 
   labels_same : labels_in q.code ≡ labels_in m.code
   labels_same = labels_past rest_of.code (at_entry_of.whole_front m moves may) ∙ same_labels moves m.code
-
-  -- ---- tries
-
-  next_tries : {j : Instr} {zs : List Instr} (w : IsMain j zs m.code) → tries_at zs ≡ tries_at w.next
-  next_tries w = ap tries_at w.same ∙ tries_expand f (keeps_marks moves) w.next
-
-  main_tries : {j : Instr} {zs : List Instr} (w : IsMain j zs m.code) → tries_at (j ∷ zs) ≡ tries_at (j ∷ w.next)
-  main_tries {j} w = ap (tries_past j.op) (next_tries w)
-
-  label_tries : (l : ℕ) → tries_at (after_label l q.code) ≡ tries_at (after_label l m.code)
-  label_tries l =
-      ap tries_at (at_entry_of.label_same m moves may l ∙ at_entry_of.label_is m moves may l)
-      ∙ tries_expand f (keeps_marks moves) (after_label l m.code)
-
-  handler_tries : (l : ℕ) → tries_at (from_handler l q.code) ≡ tries_at (from_handler l m.code)
-  handler_tries l =
-      ap tries_at (at_entry_of.handler_same m moves may l ∙ at_entry_of.handler_is m moves may l)
-      ∙ tries_expand f (keeps_marks moves) (from_handler l m.code)
 
   -- ---- allocations
 
@@ -182,43 +103,11 @@ module _ (m : Mach) (moves : ℕ → Bool) (may : MayAllMove m moves) where
       no_alloc : (w : ℕ) → mach.Op (op.Pure (pure.Constant w)) ≡ mach.Op (op.Access (access.Alloc blocks)) → ⊥
       no_alloc w e = cc
 
-  record WasRun (rest : List Instr) (i : Instr) : Type 0 where
-    run : List Instr
-    next : List Instr
-    same : rest ≡ run ++ i ∷ next
-    straight : AreStraight run
-
-  run_back : (rest run : List Instr) (i : Instr) (zs : List Instr) → run ++ i ∷ zs ≡ expand f rest → AreStraight run → WasRun rest i
-  run_back [] [] i zs e st = absurd (none_there (sym e))
-  run_back [] (x ∷ run) i zs e st = absurd (none_there (sym e))
-  run_back (x ∷ rest) run i zs e st = by (fate moves x rest) run e st (λ run e st. run_back rest run i zs e st)
-    where
-      by : Fate moves x rest → (run : List Instr) → run ++ i ∷ zs ≡ expand f (x ∷ rest) → AreStraight run →
-          ((run : List Instr) → run ++ i ∷ zs ≡ expand f rest → AreStraight run → WasRun rest i) → WasRun (x ∷ rest) i
-      by (falls g d s h) run e st again =
-          let w = again run (e ∙ h) st in
-          record {
-            run = x ∷ w.run;
-            next = w.next;
-            same = ap (λ xs. x ∷ xs) w.same;
-            straight = straight_cons x w.run (pure_straight (pure_of x.op g)) w.straight;
-          }
-      by (remains k s h) [] e st again =
-          record { run = []; next = rest; same = ap (λ y. y ∷ rest) (sym (head_same (e ∙ h))); straight = straight_none }
-      by (remains k s h) (y ∷ ys) e st again =
-          let w = again ys (tail_same (e ∙ h)) (tail_of y ys st) in
-          record {
-            run = x ∷ w.run;
-            next = w.next;
-            same = ap (λ xs. x ∷ xs) w.same;
-            straight = straight_cons x w.run (subst (λ (y : Instr). is_straight y.op ≡ true) (head_same (e ∙ h)) (head_of y ys st)) w.straight;
-          }
-
   pub still_fresh : AllocatesFresh m → AllocatesFresh q
   still_fresh known = record { fresh = λ i zs s blocks e r c. by i zs blocks e r c (whence s) }
     where
       main : (i : Instr) (zs : List Instr) (blocks : List NewBlock) → i.op ≡ mach.Op (op.Access (access.Alloc blocks)) → (r : Reg) →
-          Contains i.results r → IsMain i zs m.code → IsFresh q i zs r
+          Contains i.results r → IsMain moves i zs m.code → IsFresh q i zs r
       main i zs blocks e r c w =
           record {
             open_place = h.open_place;
@@ -245,7 +134,7 @@ module _ (m : Mach) (moves : ℕ → Bool) (may : MayAllMove m moves) where
           unread : (j : Instr) (run : List Instr) → AreStraight (j ∷ run) → Among r.number j.args → Whence j (run ++ i ∷ zs) → ⊥
           unread j run st a (live.at_the_entry {next = next} t g) = live.no_read m moves may (may j next t g) a
           unread j run st a (live.left v) =
-              let u = run_back v.next run i zs v.same (tail_of j run st) in
+              let u = run_back moves v.next run i zs v.same (tail_of j run st) in
               let there : Stands j (u.run ++ i ∷ u.next) m.code = subst (λ xs. Stands j xs m.code) u.same v.stands in
               (known.fresh i u.next (stands_within there (stands_behind u.run i u.next)) blocks e r c).unread j u.run there
               (straight_cons j u.run (head_of j run st) u.straight) a
@@ -313,20 +202,31 @@ module _ (m : Mach) (moves : ℕ → Bool) (may : MayAllMove m moves) where
         labels = h.labels;
       }
 
-  named_before : (Named : MachOp → Type 0) → IsNamedIn Named q → IsNamedIn Named m
-  named_before Named n = record { instr = n.instr; among = contains_back n.instr n.among; named = n.named }
-
   pub still_seated : Seated m → Seated q
-  still_seated seated =
-      record {
-        params = seated.params;
-        operands = λ i c. seated.operands i (contains_back i c);
-        results = λ i c. seated.results i (contains_back i c);
-      }
+  still_seated = places.still_seated m q.code contains_back
 
-  each_in : (P : Instr → Type 0) → ((i : Instr) → Contains m.code i → P i) → All P q.code
-  each_in P h = λ k d lt.
-      h (slice_index_or q.code k d) (contains_back (slice_index_or q.code k d) (Contains-get_or q.code k d lt))
+  keeps_places : KeepsPlaces m q.code
+  keeps_places =
+      record {
+        whence = λ i zs s. comes (whence s);
+        among = λ i c. inr (contains_back i c);
+        marks = λ i g e c. contains_there i (mark_stays g i.op e) c;
+        places = λ l p. place_second front rest_of.code (place_left moves p);
+        labels = labels_same;
+        tries = at_entry_of.tries_past_front m moves may rest_of.code (at_entry_of.whole_front m moves may)
+            ∙ tries_before moves m.code refl;
+        label_tries = λ l. tries_before moves (after_label l m.code) (at_entry_of.label_same m moves may l ∙ label_is m moves l);
+        handler_tries = λ l.
+            tries_before moves (from_handler l m.code) (at_entry_of.handler_same m moves may l ∙ handler_is m moves l);
+        registers = was;
+      }
+    where
+      comes : {i : Instr} {zs : List Instr} → Whence i zs → ComesFrom m q.code i zs
+      comes {i} (live.at_the_entry {next = next} s h) =
+          is_new (pure_straight (pure_of i.op (at_entry_of.may_go_so m moves may (may i next s h))))
+      comes (live.left w) =
+          stood w.stands (tries_before moves w.next w.same) (λ l p. subst (HasPlace l) (sym w.same) (place_left moves p))
+          (λ l p. subst (HasHandler l) (sym w.same) (handler_left moves p))
 
   module _ (formed : WellFormed m) where
     -- a register of that number is open, and of ints
@@ -335,122 +235,21 @@ module _ (m : Mach) (moves : ℕ → Bool) (may : MayAllMove m moves) where
         formed.numbers r (at_entry_of.move_of m moves may a).register i (entry.made_register m moves may a)
         (sym (at_entry_of.made_number m moves may a))
 
-    labels_stand : LabelsStand q
-    labels_stand =
-        record {
-          named = λ i zs s l o. named i l o (whence s);
-          forward = λ i zs s l o e. forward i l o e (whence s);
-          handlers = λ i zs s l end e. handlers i l end e (whence s);
-        }
-      where
-        named : (i : Instr) {zs : List Instr} (l : ℕ) → LeadsTo i.op l → Whence i zs → HasPlace l q.code
-        named i l o (live.at_the_entry {next = next} s h) = absurd (never_leads (may i next s h) l o)
-        named i l o (live.left w) =
-            place_second front rest_of.code (place_left ((formed.labels).named i w.next w.stands l o))
-
-        forward : (i : Instr) {zs : List Instr} (l : ℕ) → LeadsTo i.op l → is_exit i.op ≡ false → Whence i zs → HasPlace l zs
-        forward i l o e (live.at_the_entry {next = next} s h) = absurd (never_leads (may i next s h) l o)
-        forward i l o e (live.left w) =
-            subst (HasPlace l) (sym w.same) (place_left ((formed.labels).forward i w.next w.stands l o e))
-
-        handlers : (i : Instr) {zs : List Instr} (l end : ℕ) → i.op ≡ mach.Mark (mark.Leave l end) → Whence i zs → HasHandler l zs
-        handlers i l end e (live.at_the_entry {next = next} s h) = absurd (never_mark (may i next s h) (mark.Leave l end) e)
-        handlers i l end e (live.left w) =
-            subst (HasHandler l) (sym w.same) (handler_left ((formed.labels).handlers i w.next w.stands l end e))
-
-    nested : IsNested q
-    nested =
-        record {
-          at_entry = at_entry_of.tries_past_front m moves may rest_of.code (at_entry_of.whole_front m moves may)
-              ∙ tries_expand f (keeps_marks moves) m.code ∙ (formed.nested).at_entry;
-          at_label = λ i zs s l o. at_label i zs l o (whence s);
-          at_try = λ i zs s l e. at_try i zs l e (whence s);
-          at_handler = λ i zs s r l tries e. at_handler i zs r l tries e (whence s);
-          at_own_handler = λ i zs s l e. at_own_handler i zs l e (whence s);
-          at_exit = λ i zs s l n e. at_exit i zs l n e (whence s);
-          at_end = λ i zs s e. at_end i zs e (whence s);
-        }
-      where
-        at_label : (i : Instr) (zs : List Instr) (l : ℕ) → LeadsTo i.op l → Whence i zs →
-            tries_at (code_at q.code zs (At l)) ≡ tries_left i.op (tries_at (i ∷ zs))
-        at_label i zs l o (live.at_the_entry {next = next} s h) = absurd (never_leads (may i next s h) l o)
-        at_label i zs l o (live.left w) =
-            label_tries l ∙ (formed.nested).at_label i w.next w.stands l o ∙ ap (tries_left i.op) (sym (main_tries w))
-
-        at_try : (i : Instr) (zs : List Instr) (l : ℕ) → i.op ≡ mach.Mark (mark.Try l) → Whence i zs →
-            tries_at zs ≡ l ∷ tries_at (i ∷ zs)
-        at_try i zs l e (live.at_the_entry {next = next} s h) = absurd (never_mark (may i next s h) (mark.Try l) e)
-        at_try i zs l e (live.left w) =
-            next_tries w ∙ (formed.nested).at_try i w.next w.stands l e ∙ ap (λ ts. l ∷ ts) (sym (main_tries w))
-
-        at_handler : (i : Instr) (zs : List Instr) → may_raise i.op ≡ true → (l : ℕ) (tries : List ℕ) →
-            tries_at (i ∷ zs) ≡ l ∷ tries → Whence i zs → tries_at (from_handler l q.code) ≡ tries
-        at_handler i zs r l tries e (live.at_the_entry {next = next} s h) = absurd (never_raises (may i next s h) r)
-        at_handler i zs r l tries e (live.left w) =
-            handler_tries l ∙ (formed.nested).at_handler i w.next w.stands r l tries (sym (main_tries w) ∙ e)
-
-        at_own_handler : (i : Instr) (zs : List Instr) (l : ℕ) → i.op ≡ mach.Mark (mark.Try l) → Whence i zs →
-            tries_at (from_handler l q.code) ≡ tries_at (i ∷ zs)
-        at_own_handler i zs l e (live.at_the_entry {next = next} s h) = absurd (never_mark (may i next s h) (mark.Try l) e)
-        at_own_handler i zs l e (live.left w) =
-            handler_tries l ∙ (formed.nested).at_own_handler i w.next w.stands l e ∙ sym (main_tries w)
-
-        at_exit : (i : Instr) (zs : List Instr) (l n : ℕ) → i.op ≡ mach.Mark (mark.Exit l n) → Whence i zs →
-            n ≤ length (tries_at (i ∷ zs))
-        at_exit i zs l n e (live.at_the_entry {next = next} s h) = absurd (never_mark (may i next s h) (mark.Exit l n) e)
-        at_exit i zs l n e (live.left w) =
-            subst (λ ts. n ≤ length ts) (sym (main_tries w)) ((formed.nested).at_exit i w.next w.stands l n e)
-
-        at_end : (i : Instr) (zs : List Instr) → leaves i.op ≡ true → Whence i zs → tries_at (i ∷ zs) ≡ []
-        at_end i zs e (live.at_the_entry {next = next} s h) = absurd (never_leaves (may i next s h) e)
-        at_end i zs e (live.left w) = main_tries w ∙ (formed.nested).at_end i w.next w.stands e
-
-    cases : CasesAgree q
-    cases =
-        record {
-          agree = λ i j c d labels indexes l end e h k.
-              (formed.cases).agree i j (contains_back i c) (contains_back j d) labels indexes l end e h k;
-          none = λ j d indexes l end e h.
-              (formed.cases).none j (contains_back j d) indexes l end e
-              (λ i c labels o k. h i (contains_there i (mark_stays (mark.Switch labels) i.op o) c) labels o k);
-        }
-
     pub still_formed : WellFormed q
     still_formed =
-        record {
-          numbers = λ r k i j e. formed.numbers r k (was r i) (was k j) e;
-          params = formed.params;
-          params_distinct = formed.params_distinct;
-          instrs = each_in IsFormed (λ i c. All-contains IsFormed m.code i formed.instrs c);
-          distinct = each_in (λ (i : Instr). AreDistinct i.results)
-              (λ i c. All-contains (λ (i : Instr). AreDistinct i.results) m.code i formed.distinct c);
-          returns = λ i c e. formed.returns i (contains_back i c) e;
-          labels_once = subst (λ ls. AllPairs (λ k l. k ≢ l) ls) (sym labels_same) formed.labels_once;
-          labels_below = subst (λ ls. All (λ l. l < m.labels) ls) (sym labels_same) formed.labels_below;
-          labels = labels_stand;
-          nested = nested;
-          cases = cases;
-        }
+        places.still_formed m q.code formed keeps_places
+        (places.all_still m q.code contains_back IsFormed formed.instrs)
+        (places.all_still m q.code contains_back (λ (i : Instr). AreDistinct i.results) formed.distinct)
 
     open_of : (r : Reg) → IsRegister m r → IsMade r.number → r.loc ≡ loc.Unset
     open_of r i a = ap (λ (r : Reg). r.loc) (made_is r i a) ∙ (at_entry_of.move_of m moves may a).open_place
 
     pub still_placed : WellPlaced m → WellPlaced q
-    still_placed placed =
-        record {
-          colours = record {
-            each = (placed.colours).each;
-            least = λ r k c i e. (placed.colours).least r k c (was k i) e;
-          };
-          agree = record {
-            places = λ r i. (placed.agree).places r (was r i);
-            apart = λ r k i j joined fixed e.
-                (placed.agree).apart r k (was r i) (was k j)
-                (live.joined_back m moves may (λ a. fixed (open_of r (was r i) a))
-                (λ a. fixed (e ∙ open_of k (was k j) a)) joined)
-                fixed e;
-          };
-        }
+    still_placed =
+        places.still_placed m q.code was
+        (λ r k i j joined fixed e.
+        live.joined_back m moves may (λ a. fixed (open_of r (was r i) a)) (λ a. fixed (e ∙ open_of k (was k j) a))
+        joined)
 
     pub still_keeps : Keeps m q
     still_keeps =
@@ -460,8 +259,8 @@ module _ (m : Mach) (moves : ℕ → Bool) (may : MayAllMove m moves) where
           does = does_hoisted m moves may formed;
           origins = λ r i loose. record { register = r; among = was r i; loose = loose; same = refl };
           slots = λ r k i s. inl (record { register = r; among = was r i; stands = s; same = refl });
-          symbols = λ name n. named_before (NamesSymbol name) n;
-          externals = λ row n. named_before (NamesExternal row) n;
+          symbols = λ name. places.named_before m q.code contains_back (NamesSymbol name);
+          externals = λ row. places.named_before m q.code contains_back (NamesExternal row);
           addrs = live.no_addr_back m moves may
               (λ r i a addr.
               both_ways (is_addr r.comp) (ap (λ (r : Reg). is_addr r.comp) (made_is r i a) ∙ entry.never_addr (at_entry_of.move_of m moves may a).fits) (is_one r.comp addr));

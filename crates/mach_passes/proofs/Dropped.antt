@@ -1,16 +1,15 @@
 -- Dropping what only computes and is not used carries: no word, frame point or exit is new, and tries are where they were.
-use Rattle.std.proofs.Common.{◌≡◌, ℕ, suc, ◌≤◌, Bool, true, false, cond, List, [], ◌∷◌, length, sym, ap, ◌∙◌, subst, arith}
+use Rattle.std.proofs.Common.{ℕ, suc, ◌≤◌, Bool, true, false, cond, List, [], ◌∷◌, length, sym, ap, subst, arith}
 use Rattle.std.specs.List.{Contains}
 use Rattle.std.specs.Prelude.{slice_index_or}
 use Rattle.std.proofs.lemmas.List.Elements.{Contains-get_or, All-contains}
-use Rattle.hoist_rules.specs.Known.{without, dropped, AreDead, IsDropped, OffsetFits, EndsInReturn, at_return, further, IsCarried, code_words, code_points, exits, other_operands}
-use Rattle.hoist_rules.proofs.Known.{IsMain, was_main, was_register, Fate, falls, remains, fate, keeps_marks, exits_both}
+use Rattle.hoist_rules.specs.Known.{without, dropped, AreDead, IsDropped, OffsetFits, IsCarried, code_words, code_points, exits, other_operands}
+use Rattle.hoist_rules.proofs.Known.{was_main, still_ends, tries_here, was_register, Fate, falls, remains, fate, exits_both}
 use Rattle.mach_ir.specs.Formed.{is_exit, WellFormed}
-use Rattle.mach_ir.specs.Meaning.{tries_at, tries_past}
 use Rattle.mach_ir.specs.declared.mach.Instr.{Instr}
 use Rattle.mach_ir.specs.declared.mach.Mach.{Mach}
 use Rattle.mach_laws.specs.Expand.{expand}
-use Rattle.mach_laws.proofs.Places.{tries_expand, contains_of, stands_in}
+use Rattle.mach_laws.proofs.Places.{contains_of, stands_in}
 
 exits_later : (b : Bool) (n : ℕ) → n ≤ cond b (suc n) n
 exits_later true n = omega arith
@@ -70,20 +69,9 @@ module _ (m : Mach) (drops : ℕ → Bool) (dead : AreDead m drops) where
 
   -- ---- the rest
 
-  tries_here : {i : Instr} {zs : List Instr} (w : IsMain m drops dead i zs m.code) → tries_at (i ∷ zs) ≡ tries_at (i ∷ w.next)
-  tries_here {i} w = ap (tries_past i.op) (ap tries_at w.same ∙ tries_expand f (keeps_marks drops) w.next)
-
   contains_back : (i : Instr) → Contains q.code i → Contains m.code i
   contains_back i c =
-      let s = stands_in q.code i c in contains_of (was_main m drops dead m.code i s.0 s.1).stands
-
-  still_ends : {code : List Instr} → EndsInReturn code → EndsInReturn (expand f code)
-  still_ends at_return = at_return
-  still_ends (further {i = i} {is = is} e) = by (fate drops i is) (still_ends e)
-    where
-      by : Fate drops i is → EndsInReturn (expand f is) → EndsInReturn (expand f (i ∷ is))
-      by (falls g d s h) t = subst EndsInReturn (sym h) t
-      by (remains k s h) t = subst EndsInReturn (sym h) (further t)
+      let s = stands_in q.code i c in contains_of (was_main drops m.code i s.0 s.1).stands
 
   carried : IsCarried 0 m (dropped drops m)
   carried =
@@ -93,12 +81,12 @@ module _ (m : Mach) (drops : ℕ → Bool) (dead : AreDead m drops) where
         operands = fewer_operands m.code;
         exits = fewer_exits m.code;
         tries = λ most known i zs s.
-            let w = was_main m drops dead m.code i zs s in
-            subst (λ ts. length ts ≤ most) (sym (tries_here w)) (known i w.next w.stands);
+            let w = was_main drops m.code i zs s in
+            subst (λ ts. length ts ≤ most) (sym (tries_here drops i w.next w.same)) (known i w.next w.stands);
         offsets = λ fit k d lt.
             All-contains (λ (i : Instr). OffsetFits i.op) m.code (slice_index_or q.code k d) fit
             (contains_back (slice_index_or q.code k d) (Contains-get_or q.code k d lt));
-        ends = still_ends;
+        ends = still_ends drops;
         colours_low = λ low r k c i e. low r k c (was_register m drops dead k i) e;
       }
 

@@ -5,6 +5,7 @@ use Rattle.mach_ir.specs.Sizes.{Size, IsSmall, HasRoom, IsCountable}
 use Rattle.mach_ir.specs.declared.mach.Mach.{Mach}
 use Rattle.mach_passes.specs.Prepared.{IsPreparable, prepared_size}
 use Rattle.mach_passes.specs.Stages.{HasNoRepeats, IsCleaned, IsReadied, HasSlots}
+use Rattle.pass_rules.proofs.Room.{small_within, room_within}
 use Rattle.sink_rules.specs.Known.{spilled_size}
 use Rattle.split_rules.specs.Split.{split_size}
 use Rattle.mach_passes.proofs.Whole.{IsStage, stage_then, sunk_size, hoist_stage, repeats_stage, small_stage, ready_stage, slots_stage}
@@ -15,30 +16,13 @@ room_after : {more : ℕ} {grown : Size → Size} {m q : Mach} (wider : Size →
 room_after {grown = grown} wider stage room =
     record { size = grown room.size; within = stage.size room.size room.within; small = room.small }
 
-room_within : {m : Mach} (wide narrow : Size → Size) → ((s : Size) → IsSmall (wide s) → IsSmall (narrow s)) → HasRoom wide m → HasRoom narrow m
-room_within wide narrow less room = record { size = room.size; within = room.within; small = less room.size room.small }
-
 small_at_first : (parameters : ℕ) (s : Size) → IsSmall (prepared_size parameters s) → IsSmall s
-small_at_first parameters s small =
-    let places = small.places in
-    let operands = small.operands in
-    let registers = small.registers in
-    record {
-      places = omega (arith, places);
-      operands = omega (arith, operands);
-      registers = omega (arith, registers);
-      labels = small.labels;
-    }
+small_at_first parameters s =
+    small_within s (prepared_size parameters s) (omega arith) (omega arith) (omega arith) (omega arith)
 
 small_with_slots : (parameters : ℕ) (s : Size) → IsSmall (prepared_size parameters s) → IsSmall (spilled_size (sunk_size s))
-small_with_slots parameters s small =
-    let registers = small.registers in
-    record {
-      places = small.places;
-      operands = small.operands;
-      registers = omega (arith, registers);
-      labels = small.labels;
-    }
+small_with_slots parameters s =
+    small_within (spilled_size (sunk_size s)) (prepared_size parameters s) (omega arith) (omega arith) (omega arith) (omega arith)
 
 module _ (m : Mach) (is : IsPreparable m) (room : HasRoom (prepared_size (length m.params)) m) where
   pub countable : IsCountable m

@@ -1,15 +1,15 @@
 -- A function whose repeats are moves is well-formed, and is where it was.
-use Rattle.std.proofs.Common.{◌≡◌, ◌≢◌, ℕ, ◌<◌, ◌≤◌, Bool, true, false, cond, ◌⊎◌, inl, inr, ⊎_elim, List, [], ◌∷◌, ◌++◌, length, Option, Some, None, refl, sym, ap, ◌∙◌, subst, arith}
-use Rattle.std.specs.List.{All, AllPairs, Contains}
+use Rattle.std.proofs.Common.{◌≡◌, ◌≢◌, ℕ, ◌≤◌, Bool, true, false, cond, ◌⊎◌, inl, inr, ⊎_elim, List, [], ◌∷◌, ◌++◌, length, Option, Some, None, refl, sym, ap, ◌∙◌, subst, arith}
+use Rattle.std.specs.List.{All, Contains}
 use Rattle.std.proofs.lemmas.Bool.{both_ways}
 use Rattle.std.proofs.lemmas.List.Elements.{All-contains}
 use Rattle.bs_words.specs.declared.types.Comp.{Comp}
 use Rattle.bs_words.proofs.Lists.{none_in, first_in, later_in, in_cons, head_same, tail_same, none_there}
 use Rattle.mach_ir.specs.Forms as form
 use Rattle.mach_ir.specs.Forms.{HasForm, results_of}
-use Rattle.mach_ir.specs.Formed.{comps, IsFormed, formed_op, formed_mark, AreDistinct, WellFormed}
+use Rattle.mach_ir.specs.Formed.{comps, IsFormed, formed_op, formed_mark, WellFormed}
 use Rattle.mach_ir.specs.Seats.{AreSeated, anywhere, mach_operand_seats, mach_result_seats, places_of, Seated}
-use Rattle.mach_ir.specs.Sizes.{operand_count, Size, HasSize}
+use Rattle.mach_ir.specs.Sizes.{operand_count}
 use Rattle.mach_ir.specs.Walks.{IsRegister, is_param, is_colour, is_in_code, Stands}
 use Rattle.mach_ir.specs.declared.op.CopyKind.TheVariants as copy
 use Rattle.mach_ir.specs.declared.op.Leaving.TheVariants as leaving
@@ -24,8 +24,9 @@ use Rattle.mach_laws.specs.Expand.{expand, KeepsMarks}
 use Rattle.mach_laws.proofs.Places.{args_in, results_in, contains_of, stands_in}
 use Rattle.repeat_rules.specs.Repeated.{is_operator, Repeats, from_earlier, again, in_place, IsBefore, IsRepeated, IsFormKept}
 use Rattle.mach_laws.proofs.InPlace as text
-use Rattle.mach_laws.proofs.InPlace.{AreAlike, IsPure, is_pure, same_op, both_pure, IsMain, was_main, each_in, all_in, same_labels}
-use Rattle.repeat_rules.proofs.OneForOne.{in_append, in_front, in_code_stands, StandsFor, before_of, same_length}
+use Rattle.mach_laws.proofs.InPlace.{AreAlike, IsPure, is_pure, same_op, both_pure, IsMain, was_main, each_in}
+use Rattle.repeat_rules.proofs.OneForOne.{in_append, in_front, in_code_stands, StandsFor, before_of}
+use Rattle.repeat_rules.proofs.OneForOne as one
 
 -- ---- operators
 
@@ -271,23 +272,8 @@ module _ (m : Mach) (plan : ℕ → Option Reg) where
 
     still_formed : WellFormed q
     still_formed =
-        record {
-          numbers = λ r k i j e. formed.numbers r k (was r i) (was k j) e;
-          params = formed.params;
-          params_distinct = formed.params_distinct;
-          instrs = all_in (again plan) m.code IsFormed (λ i next s. formed_again (length next) i (contains_of s));
-          distinct = all_in (again plan) m.code (λ (i : Instr). AreDistinct i.results)
-              (λ i next s.
-              let d = All-contains (λ (i : Instr). AreDistinct i.results) m.code i formed.distinct (contains_of s) in
-              either_way plan (λ (i : Instr). AreDistinct i.results) (length next) i d (λ r. d));
-          returns = each_in (again plan) m.code (λ j. j.op ≡ mach.Op (op.Leaving leaving.Return) → comps j.args ≡ results_of m.result)
-              (λ i next s. returns_same (length next) i (contains_of s));
-          labels_once = subst (λ ls. AllPairs (λ k l. k ≢ l) ls) (sym (same_labels (again plan) (same_ops plan) m.code)) formed.labels_once;
-          labels_below = subst (λ ls. All (λ l. l < m.labels) ls) (sym (same_labels (again plan) (same_ops plan) m.code)) formed.labels_below;
-          labels = text.labels_stand (again plan) (same_ops plan) m q refl formed.labels;
-          nested = text.nested (again plan) (same_ops plan) m q refl formed.nested;
-          cases = text.cases (again plan) (same_ops plan) m q refl formed.cases;
-        }
+        one.still_formed (again plan) (alike plan) m formed was (λ i next s. formed_again (length next) i (contains_of s))
+        (λ i next s. returns_same (length next) i (contains_of s))
 
     still_seated : Seated m → Seated q
     still_seated seated =
@@ -303,20 +289,6 @@ module _ (m : Mach) (plan : ℕ → Option Reg) where
               (seated.results i (contains_of s)) (λ r. anywhere));
         }
 
-    smaller : (s : Size) → HasSize m s → HasSize q s
-    smaller s h =
-        let a = same_length (again plan) m.code in
-        let b = fewer plan m.code form_of in
-        let c = h.instrs in
-        let d = h.operands in
-        record {
-          instrs = omega (arith, a, c);
-          operands = omega (arith, b, d);
-          numbers = λ r i. h.numbers r (was r i);
-          origins = λ r i. h.origins r (was r i);
-          labels = h.labels;
-        }
-
     pub kept_by : IsFormKept m (record m { code = expand (in_place plan) m.code })
     kept_by =
         record {
@@ -325,7 +297,7 @@ module _ (m : Mach) (plan : ℕ → Option Reg) where
           params = refl;
           registers = was;
           none_left = left_none stays;
-          size = smaller;
+          size = one.still_small (again plan) (alike plan) m was (fewer plan m.code form_of);
         }
 
 pub form_kept : (m q : Mach) → WellFormed m → IsRepeated m q → IsFormKept m q

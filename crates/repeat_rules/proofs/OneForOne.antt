@@ -1,6 +1,10 @@
 -- Code in which one instruction stands in the place of each, and writes what that one did.
 use Rattle.std.proofs.Common.{◌≡◌, ◌≢◌, ℕ, suc, true, ◌⊎◌, inl, inr, ⊎_elim, List, [], ◌∷◌, ◌++◌, length, refl, sym, ap, ◌∙◌, subst, append_assoc}
-use Rattle.std.specs.List.{Contains}
+use Rattle.std.proofs.lemmas.List.{append_cancel_right}
+use Rattle.std.proofs.lemmas.List.Elements.{All-contains}
+use Rattle.std.specs.List.{All, AllPairs, Contains}
+use Rattle.std.specs.Prelude.{◌<◌, ◌≤◌}
+use Rattle.std.proofs.Math.Nat.{le_trans}
 use Rattle.std.proofs.lemmas.Option.{same_Some}
 use Rattle.bs_words.specs.declared.types.Comp.TheVariants as comp
 use Rattle.bs_words.specs.declared.types.Loc.TheVariants as loc
@@ -9,11 +13,17 @@ use Rattle.mach_ir.specs.Acts.{Target, On, At}
 use Rattle.mach_ir.specs.Placed.{MayShare, WellPlaced}
 use Rattle.mach_ir.specs.Meaning.{Held, State, Nothing, after_label, from_handler, code_at, destroyed_by, killed_by, written, passes_frame}
 use Rattle.mach_ir.specs.Walks.{Among, goes, Writes, Live, on, aside, LiveAfter, after_step, LiveAcross, across_step, across_raise, InCode, in_args, in_results, further, IsRegister, NoAddrLive, Stands, here, below, Meets, Joined, one_way, other_way}
+use Rattle.mach_ir.specs.Formed.{comps, IsFormed, AreDistinct, leaves, WellFormed}
+use Rattle.mach_ir.specs.Forms.{results_of}
+use Rattle.mach_ir.specs.Sizes.{operand_count, Size, HasSize}
+use Rattle.mach_ir.specs.declared.op.Leaving.TheVariants as leaving
 use Rattle.mach_ir.specs.declared.op.Op.TheVariants as op
+use Rattle.mach_ir.specs.declared.mach.MachOp.TheVariants as mach
 use Rattle.mach_ir.specs.declared.reg.Reg.{Reg}
 use Rattle.mach_ir.specs.declared.mach.Instr.{Instr}
 use Rattle.mach_ir.specs.declared.mach.Mach.{Mach}
 use Rattle.mach_laws.specs.Expand.{expand, Ending, all, more}
+use Rattle.mach_laws.proofs.Places.{contains_of}
 use Rattle.mach_laws.proofs.Simulate.{Agrees}
 use Rattle.mach_laws.proofs.InPlace as text
 use Rattle.mach_laws.proofs.InPlace.{AreAlike, one_each, op_same}
@@ -82,6 +92,21 @@ module _ (again : ℕ → Instr → Instr) where
         whole = ap (λ xs. again (length code) i ∷ xs) w.whole;
       }
 
+  -- what is before the code after an instruction ends with what stands for that instruction
+  pub made_past : {i : Instr} {next code : List Instr} (made : List Instr) → Ending (i ∷ next) code → expand f code ≡ made ++ expand f next →
+      (b : Made (i ∷ next) code) × (made ≡ b.made ++ again (length next) i ∷ [])
+  made_past {i} {next} {code} made ending whole = (
+    b,
+    append_cancel_right made (b.made ++ x ∷ []) (expand f next)
+        (sym whole ∙ b.whole ∙ sym (append_assoc b.made (x ∷ []) (expand f next))),
+  )
+    where
+      x : Instr
+      x = again (length next) i
+
+      b : Made (i ∷ next) code
+      b = made_to ending
+
   pub same_length : (code : List Instr) → length (expand f code) ≡ length code
   same_length [] = refl
   same_length (i ∷ is) = ap suc (same_length is)
@@ -114,6 +139,47 @@ module _ (again : ℕ → Instr → Instr) (alike : (k : ℕ) (i : Instr) → St
 
   abbrev now : Mach → Mach
   now m = record m { code = expand g m.code }
+
+  -- ---- form and sizes
+
+  -- where each that stands for an instruction is formed, and returns what the function gives
+  pub still_formed : (m : Mach) → WellFormed m →
+      ((r : Reg) → IsRegister (record m { code = expand (one_each again) m.code }) r → IsRegister m r) →
+      ((i : Instr) (next : List Instr) → Stands i next m.code → IsFormed (again (length next) i)) →
+      ((i : Instr) (next : List Instr) → Stands i next m.code → (again (length next) i).op ≡ mach.Op (op.Leaving leaving.Return) →
+      comps (again (length next) i).args ≡ results_of m.result) →
+      WellFormed (record m { code = expand (one_each again) m.code })
+  still_formed m formed was_register instrs returns =
+      record {
+        numbers = λ r k i j e. formed.numbers r k (was_register r i) (was_register k j) e;
+        params = formed.params;
+        params_distinct = formed.params_distinct;
+        instrs = text.all_in again m.code IsFormed instrs;
+        distinct = text.all_in again m.code (λ (i : Instr). AreDistinct i.results)
+            (λ i next s.
+            subst AreDistinct (sym (alike (length next) i).results)
+            (All-contains (λ (i : Instr). AreDistinct i.results) m.code i formed.distinct (contains_of s)));
+        returns = text.each_in again m.code (λ (j : Instr). j.op ≡ mach.Op (op.Leaving leaving.Return) → comps j.args ≡ results_of m.result)
+            returns;
+        labels_once = subst (λ ls. AllPairs (λ k l. k ≢ l) ls) (sym (text.same_labels again ops m.code)) formed.labels_once;
+        labels_below = subst (λ ls. All (λ l. l < m.labels) ls) (sym (text.same_labels again ops m.code)) formed.labels_below;
+        labels = text.labels_stand again ops m (now m) refl formed.labels;
+        nested = text.nested again ops m (now m) refl formed.nested;
+        cases = text.cases again ops m (now m) refl formed.cases;
+      }
+
+  -- with no more operands it has the sizes that it had
+  pub still_small : (m : Mach) → ((r : Reg) → IsRegister (record m { code = expand (one_each again) m.code }) r → IsRegister m r) →
+      operand_count (expand (one_each again) m.code) ≤ operand_count m.code → (s : Size) → HasSize m s →
+      HasSize (record m { code = expand (one_each again) m.code }) s
+  still_small m was_register fewer s h =
+      record {
+        instrs = subst (λ n. n ≤ s.instrs) (sym (same_length again m.code)) h.instrs;
+        operands = le_trans fewer h.operands;
+        numbers = λ r i. h.numbers r (was_register r i);
+        origins = λ r i. h.origins r (was_register r i);
+        labels = h.labels;
+      }
 
   -- ---- walks
 

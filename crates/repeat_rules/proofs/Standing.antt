@@ -1,9 +1,8 @@
 -- Which results still stand where a code is left, and what an instruction leaves of them.
-use Rattle.std.proofs.Common.{◌≡◌, ◌≢◌, ℕ, true, false, ⊎_elim, List, [], ◌∷◌, ◌++◌, length, Option, Some, refl, sym, ap, ◌∙◌, subst, append_assoc}
+use Rattle.std.proofs.Common.{◌≡◌, ◌≢◌, ℕ, true, false, ⊎_elim, List, [], ◌∷◌, ◌++◌, length, Option, Some, refl, sym, ap, ◌∙◌, subst}
 use Rattle.std.proofs.lemmas.List.{append_cancel_right}
-use Rattle.std.proofs.lemmas.List.Elements.{Contains-get_or, All-contains}
+use Rattle.std.proofs.lemmas.List.Elements.{All-contains}
 use Rattle.std.specs.List.{Contains}
-use Rattle.std.specs.Prelude.{slice_index_or}
 use Rattle.std.proofs.lemmas.Bool.{both_ways}
 use Rattle.bs_words.specs.declared.types.Comp.TheVariants as comp
 use Rattle.bs_words.proofs.Lists.{first_in, later_in, in_cons}
@@ -22,10 +21,10 @@ use Rattle.mach_ir.specs.declared.mach.Mach.{Mach}
 use Rattle.mach_laws.specs.Expand.{Ending, expand}
 use Rattle.repeat_rules.specs.Repeated.{is_operator, allocates, Ends, StillStands, Repeats, again, in_place, with_moves, IsBefore}
 use Rattle.mach_laws.proofs.InPlace.{of_pure, op_same}
-use Rattle.repeat_rules.proofs.OneForOne.{in_append, in_front, Made, made_to, before_of}
+use Rattle.repeat_rules.proofs.OneForOne.{in_append, in_front, Made, before_of, made_past}
 use Rattle.repeat_rules.proofs.Form.{operator_pure, Fate, unchanged, moved, fate, alike, same_ops}
 use Rattle.repeat_rules.proofs.Runs as run
-use Rattle.repeat_rules.proofs.Runs.{Last, it_is, in_run, last_of, none_before, IsWithin}
+use Rattle.repeat_rules.proofs.Runs.{straight_front, Last, it_is, in_run, last_of, none_before, IsWithin}
 
 -- ---- operators
 
@@ -77,9 +76,7 @@ restricted j r s ys zs e =
       others = s.others;
       run = ys;
       within = refl;
-      straight = λ k d lt.
-          All-contains (λ (i : Instr). is_straight i.op ≡ true) s.run (slice_index_or ys k d) s.straight
-          (to_run (slice_index_or ys k d) (Contains-get_or ys k d lt));
+      straight = straight_front s.run ys zs e s.straight;
       operates = s.operates;
       result = s.result;
       operands = λ i c w k. s.operands i (to_all i c) w k;
@@ -148,18 +145,16 @@ module _ (m : Mach) (plan : ℕ → Option Reg) where
   pub earlier_of : {i : Instr} {next : List Instr} → Ending (i ∷ next) m.code → (j : Instr) (r : Reg) → Standing next j r →
       Earlier i next j r
   earlier_of {i} {next} ending j r w =
-      of_since (since b.made x j r (subst (λ made. StillStands made j r) same w.stands))
+      of_since (since b.made x j r (subst (λ made. StillStands made j r) past.1 w.stands))
     where
       x : Instr
       x = again plan (length next) i
 
-      b : Made (again plan) (i ∷ next) m.code
-      b = made_to (again plan) ending
+      past : (b : Made (again plan) (i ∷ next) m.code) × (w.made ≡ b.made ++ x ∷ [])
+      past = made_past (again plan) w.made ending w.whole
 
-      same : w.made ≡ b.made ++ x ∷ []
-      same =
-          append_cancel_right w.made (b.made ++ x ∷ []) (expand f next)
-          (sym w.whole ∙ b.whole ∙ sym (append_assoc b.made (x ∷ []) (expand f next)))
+      b : Made (again plan) (i ∷ next) m.code
+      b = past.0
 
       of_since : Since b.made x j r → Earlier i next j r
       of_since (just_there e) = by (fate plan (length next) i)

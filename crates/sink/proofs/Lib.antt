@@ -3,6 +3,7 @@ mod Living
 mod Nodes
 mod Popping
 mod Graph
+mod Reaching
 mod StaleFlow
 mod FreshFlow
 mod Running

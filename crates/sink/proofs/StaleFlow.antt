@@ -1,5 +1,5 @@
 -- What reaches a place in the graph of what is stale is what is stale there.
-use Rattle.std.proofs.Common.{◌≡◌, ℕ, zero, suc, ◌<◌, ◌≤◌, Bool, true, ◌⊎◌, inl, inr, ⊎_elim, List, [], ◌∷◌, map, length, drop, refl, sym, ap, ◌∙◌, subst, arith}
+use Rattle.std.proofs.Common.{◌≡◌, ℕ, suc, ◌<◌, ◌≤◌, Bool, ◌⊎◌, inl, ⊎_elim, List, [], ◌∷◌, map, length, drop, refl, sym, ap, ◌∙◌, subst, arith}
 use Rattle.std.specs.List.{All, Contains}
 use Rattle.std.specs.Prelude.{slice_index_or}
 use Rattle.bs_words.specs.Contents.{contents}
@@ -10,24 +10,26 @@ use Rattle.dataflow.specs.Reach.{ComesIn, ComesTo, IsReaching}
 use Rattle.dataflow.specs.declared.flow.Flow as flow
 use Rattle.dataflow.specs.declared.flow.Place as place
 use Rattle.mach_ir.specs.Graph.{IsLiveMap}
-use Rattle.mach_ir.specs.Meaning.{Everything, destroyed_by, code_at, written}
-use Rattle.mach_ir.specs.Walks.{Among, goes, Leads, Live, Writes}
+use Rattle.mach_ir.specs.Meaning.{written}
+use Rattle.mach_ir.specs.Walks.{Among, Live, Writes}
 use Rattle.mach_ir.specs.Walks as walks
 use Rattle.mach_ir.specs.declared.graph.LiveMap.{LiveMap}
 use Rattle.mach_ir.specs.declared.mach.Instr.{Instr}
 use Rattle.mach_ir.specs.declared.mach.Mach.{Mach}
 use Rattle.mach_laws.specs.Expand.{Ending, all}
-use Rattle.mach_laws.specs.Graph.{place_of, numbers, next_places, raise_places, numbers_written, IsFlowOf}
+use Rattle.mach_laws.specs.Graph.{place_of, numbers, next_places, raise_places, IsFlowOf}
 use Rattle.mach_laws.proofs.Places.{ending_next, stands_of, ending_of}
-use Rattle.mach_laws.proofs.Walking.{place_is, ending_drop, among_numbers, in_numbers, place_back, ending_place}
+use Rattle.mach_laws.proofs.Walking.{place_is, among_numbers, in_numbers, place_back, ending_place}
 use Rattle.liveness.proofs.Bounds.{no_items, one_more}
 use Rattle.sink_rules.specs.Walks.{Stale, at_entry, over, on, aside}
-use Rattle.sink.specs.Graphs.{held, LivesAt, IsOver, IsEntry, IsStaleNode, AreStaleNodes}
+use Rattle.sink.specs.Graphs.{LivesAt, IsOver, IsEntry, IsStaleNode, AreStaleNodes}
 use Rattle.sink.specs.Tables.{AreStale}
-use Rattle.sink.proofs.Held.{held_destroys, held_of}
-use Rattle.sink.proofs.Graph.{Where, inner, final, beyond, where_is, at, none_past, lead, rise, of, goes_to, rises_to}
-use Rattle.sink.proofs.Nodes.{At, AtEnd, at_last, count}
-use Rattle.liveness.proofs.Steps.{each, destroys_on, leads_ending, raise_ending, IsWithin, next_within, aside_within, writes_small, live_small}
+use Rattle.sink.proofs.Held.{held_destroys}
+use Rattle.sink.proofs.Graph.{Where, inner, final, beyond, at, none_past, lead, of}
+use Rattle.sink.proofs.Nodes.{At, AtEnd, count}
+use Rattle.liveness.proofs.Steps.{each, leads_ending, raise_ending}
+use Rattle.sink.proofs.Reaching as reaching
+use Rattle.sink.proofs.Reaching.{next_live, is_held}
 
 module _ (m : Mach) (live : LiveMap) (exact : IsLiveMap m live) where
   abbrev rows : List (List Bool)
@@ -52,17 +54,18 @@ module _ (m : Mach) (live : LiveMap) (exact : IsLiveMap m live) where
     abbrev The : ℕ → Type 0
     The o = At E N m.code (contents f.places) o
 
-    last : AtEnd E N m.code (contents f.places)
-    last = at_last E N nodes
+    abbrev last : AtEnd E N m.code (contents f.places)
+    last = reaching.last m E N next_of aside_of f nodes
+
+    within : (o : ℕ) → o < length m.code → o ≤ length m.code
+    within = reaching.within m E N next_of aside_of f nodes
+
+    abbrev Known : ℕ → ℕ → Type 0
+    Known n k = reaching.Known m E N next_of aside_of f nodes n (Stale m n) k
 
     -- ---- from the graph
 
-    within : (o : ℕ) → o < length m.code → o ≤ length m.code
-    within o lt = omega (arith, lt)
-
-    at_instr : (k n o p : ℕ)
-        (known : (q : ℕ) → q ≤ length m.code → Live m n (drop q m.code) → ComesIn g n k q → Stale m n (drop q m.code)) →
-        Live m n (drop p m.code) → o < length m.code → The o → Contains (g.next o) p →
+    at_instr : (k n o p : ℕ) → Known n k → Live m n (drop p m.code) → o < length m.code → The o → Contains (g.next o) p →
         Contains (g.reads o) n ⊎ ((Contains (g.writes o) n → ⊥) × ComesIn g n k o) → Stale m n (drop p m.code)
     at_instr k n o p known v lt a c h =
         let i = a.instr in
@@ -98,33 +101,17 @@ module _ (m : Mach) (live : LiveMap) (exact : IsLiveMap m live) where
         (subst (λ xs. Contains xs n) (sym (same (λ x. contents x.writes)))
         (((last.is_end).writes n).1 (record { live = (exact.exact 0 n).1 v0; other = λ z. none_in n z }))))) h))
 
-    module _ (k n p : ℕ)
-        (known : (q : ℕ) → q ≤ length m.code → Live m n (drop q m.code) → ComesIn g n k q → Stale m n (drop q m.code))
-        (v : Live m n (drop p m.code)) where
+    module _ (k n p : ℕ) (known : Known n k) (v : Live m n (drop p m.code)) where
       by_next : (o : ℕ) → Contains (g.next o) p → Contains (g.reads o) n ⊎ ((Contains (g.writes o) n → ⊥) × ComesIn g n k o) →
           Where (length m.code) o → Stale m n (drop p m.code)
       by_next o c h (inner lt) = at_instr k n o p known v lt (at m E N next_of aside_of f nodes o lt) c h
       by_next o c h (final e) = at_the_end k n o p v e c h
       by_next o c h (beyond lt) = absurd (none_past m E N next_of aside_of f nodes (λ x. contents x.next) o p lt c)
 
-      by_aside : (o : ℕ) → Contains (g.aside o) p → ComesIn g n k o → Where (length m.code) o → Stale m n (drop p m.code)
-      by_aside o c h (inner lt) =
-          let a = at m E N next_of aside_of f nodes o lt in
-          let r = rise m E N next_of aside_of f nodes o p a c in
-          aside (subst (Stale m n) a.is (known o (within o lt) (subst (Live m n) (sym a.is) (walks.aside r v)) h)) r
-      by_aside o c h (final e) =
-          absurd
-          (none_in p
-          (subst (λ xs. Contains xs p)
-          (ap (λ o. slice_index_or (map (λ x. contents x.aside) (contents f.places)) o []) e ∙ last.part (λ x. contents x.aside)
-          ∙ (last.is_end).aside) c))
-      by_aside o c h (beyond lt) = absurd (none_past m E N next_of aside_of f nodes (λ x. contents x.aside) o p lt c)
-
-    to_stale : (k n p : ℕ) → p ≤ length m.code → Live m n (drop p m.code) → ComesIn g n k p → Stale m n (drop p m.code)
-    to_stale zero n p le v h = absurd h
-    to_stale (suc k) n p le v h =
-        ⊎_elim (λ s. by_next k n p (to_stale k n) v s.0 s.1 s.2 (where_is (length m.code) s.0))
-        (λ s. by_aside k n p (to_stale k n) v s.0 s.1 s.2 (where_is (length m.code) s.0)) h
+    to_stale : (n k : ℕ) → Known n k
+    to_stale n =
+        reaching.comes_from m E N next_of aside_of f nodes n (Stale m n) (last.is_end).aside (λ i next to h r. aside h r)
+        (λ k o p known v c h w. by_next k n p known v o c h w)
 
     -- ---- and back
 
@@ -133,12 +120,6 @@ module _ (m : Mach) (live : LiveMap) (exact : IsLiveMap m live) where
     stale_ends (over s d w l) = leads_ending m (ending_of s) l
     stale_ends (on h w l) = leads_ending m (stale_ends h) l
     stale_ends (aside h r) = raise_ending m r
-
-    next_live : {i : Instr} {next to : List Instr} {n : ℕ} → destroyed_by i.op ≡ Everything → Leads m i next to → Live m n to → Live m n next
-    next_live {i} {next} {n = n} d (goes t o) v = subst (λ t. Live m n (code_at m.code next t)) (destroys_on i.op t d o) v
-
-    is_held : {i : Instr} {next to : List Instr} → destroyed_by i.op ≡ Everything → Leads m i next to → held i.op ≡ true
-    is_held {i} d (goes t o) = held_of i.op t d o
 
     begins : (n p : ℕ) → p ≤ length m.code → drop p m.code ≡ m.code → (Among n m.params → ⊥) → Live m n m.code → ComesTo g p n
     begins n p le e a v =
@@ -166,49 +147,31 @@ module _ (m : Mach) (live : LiveMap) (exact : IsLiveMap m live) where
     comes_to {n} (over {i = i} {next = next} s d w l) v p le e =
         let ending = ending_of s in
         let x = of m E N next_of aside_of f nodes ending in
-        let after = next_live d l v in
-        let o = x.number in
+        let after = next_live m d l v in
         let made : IsOver rows (place_of m next) i.op (numbers (written m i)) n = (
-          is_held d l,
+          is_held m d l,
           record {
             live = (exact.exact (place_of m next) n).1 (subst (Live m n) (sym (place_is m (ending_next ending))) after);
             other = λ c. w (among_numbers n (written m i) c);
           },
-        ) in (
-          1,
-          inl (
-            o,
-            goes_to m E N next_of aside_of f nodes p x l le e,
-            inl (subst (λ xs. Contains xs n) (sym (x.part (λ x. contents x.reads))) (((x.is_node).reads n).1 made)),
-          ),
-        )
+        ) in
+        reaching.made_there m E N next_of aside_of f nodes p x l le e
+        (subst (λ xs. Contains xs n) (sym (x.part (λ x. contents x.reads))) (((x.is_node).reads n).1 made))
     comes_to {n} (on {i = i} {next = next} h w l) v p le e =
         let x = of m E N next_of aside_of f nodes (stale_ends h) in
-        let o = x.number in
-        let b = comes_to h (walks.on w l v) o (within o x.small) x.is in (
-          suc b.0,
-          inl (
-            o,
-            goes_to m E N next_of aside_of f nodes p x l le e,
-            inr (
-              λ c. w (among_numbers n (written m i) (subst (λ xs. Contains xs n) (x.part (λ x. contents x.writes) ∙ (x.is_node).writes) c)),
-              b.1,
-            ),
-          ),
-        )
+        reaching.goes_over m E N next_of aside_of f nodes p x l le e
+        (λ c. w (among_numbers n (written m i) (subst (λ xs. Contains xs n) (x.part (λ x. contents x.writes) ∙ (x.is_node).writes) c)))
+        (comes_to h (walks.on w l v) x.number (within x.number x.small) x.is)
     comes_to {n} (aside {i = i} {next = next} h r) v p le e =
         let x = of m E N next_of aside_of f nodes (stale_ends h) in
-        let o = x.number in
-        let b = comes_to h (walks.aside r v) o (within o x.small) x.is in (
-          suc b.0,
-          inr (o, rises_to m E N next_of aside_of f nodes p x r le e, b.1),
-        )
+        reaching.goes_aside m E N next_of aside_of f nodes p x r le e
+        (comes_to h (walks.aside r v) x.number (within x.number x.small) x.is)
 
     pub are_stale : (found : List (List Bool)) → IsReaching f found → AreStale m found
     are_stale found h =
         record {
           exact = λ p n le v. (
-            λ e. let x = (h.exact p n).0 e in to_stale x.0 n p le v x.1,
+            λ e. let x = (h.exact p n).0 e in to_stale n x.0 p le v x.1,
             λ s. (h.exact p n).1 (comes_to s v p le refl),
           );
         }
@@ -216,12 +179,8 @@ module _ (m : Mach) (live : LiveMap) (exact : IsLiveMap m live) where
     -- ---- the graph is one
 
     module _ (old : flow.Flow) (is : IsFlowOf m old) (formed : flows.WellFormed old) (bound : f.bound ≡ old.bound) where
-      same_count : length (contents old.places) ≡ length (contents f.places)
-      same_count = is.places ∙ sym (count E N nodes)
-
       small : (p : ℕ) (except : List ℕ) (n : ℕ) → LivesAt rows p except n → n < f.bound
-      small p except n h =
-          subst (λ b. n < b) (sym bound) (live_small m old is formed ((exact.exact p n).0 h.live) (ending_drop p m.code))
+      small = reaching.small m E N next_of aside_of f nodes old is formed bound live exact
 
       abbrev Fits : place.Place → Type 0
       Fits = IsPlace (length (contents f.places)) f.bound
@@ -230,14 +189,11 @@ module _ (m : Mach) (live : LiveMap) (exact : IsLiveMap m live) where
       fits_instr k a =
           let n = a.is_node in
           record {
-            next = subst (λ c. All (λ q. q < c) (contents (a.node).next)) same_count
-                (subst (IsWithin m old is formed) (ap (next_places m) a.is ∙ sym n.next_is) (next_within m old is formed k));
-            aside = subst (λ c. All (λ q. q < c) (contents (a.node).aside)) same_count
-                (subst (IsWithin m old is formed) (ap (raise_places m) a.is ∙ sym n.aside) (aside_within m old is formed k));
+            next = reaching.next_fits m E N next_of aside_of f nodes old is formed bound k a;
+            aside = reaching.aside_fits m E N next_of aside_of f nodes old is formed bound k a;
             reads = each (λ r. r < f.bound) (contents (a.node).reads)
                 (λ r c. small (place_of m a.next) (numbers (written m a.instr)) r ((n.reads r).0 c).1);
-            writes = subst (λ b. All (λ r. r < b) (contents (a.node).writes)) (sym bound)
-                (subst (All (λ r. r < old.bound)) (ap (numbers_written m) a.is ∙ sym n.writes) (writes_small m old is formed k));
+            writes = reaching.written_fit m E N next_of aside_of f nodes old is formed bound k a (contents (a.node).writes) n.writes;
           }
 
       fits_end : Fits last.node
@@ -253,10 +209,4 @@ module _ (m : Mach) (live : LiveMap) (exact : IsLiveMap m live) where
           }
 
       pub stale_formed : flows.WellFormed f
-      stale_formed = λ k d lt. by k d lt (where_is (length m.code) k)
-        where
-          by : (k : ℕ) (d : place.Place) → k < length (contents f.places) → Where (length m.code) k → Fits (slice_index_or (contents f.places) k d)
-          by k d lt (inner small) = let a = at m E N next_of aside_of f nodes k small in subst Fits (sym (a.item d)) (fits_instr k a)
-          by k d lt (final e) =
-              subst (λ k. Fits (slice_index_or (contents f.places) k d)) (sym e) (subst Fits (sym (last.item d)) fits_end)
-          by k d lt (beyond far) = let c = count E N nodes in absurd (omega (arith, lt, far, c))
+      stale_formed = reaching.flow_formed m E N next_of aside_of f nodes old is formed bound fits_instr fits_end
