@@ -6,14 +6,10 @@ ghost use Rattle.lin_ir.specs.declared.lin.Line.{Line};
 
 use bs_words::Loc;
 use lin_ir::{Lin, Line, Spot};
-
-/// The colours: a0 to a7, s2 to s9, t3 to t6 and s0.
-const COLOURS: [u8; 21] = [
-    10, 11, 12, 13, 14, 15, 16, 17, 18, 19, 20, 21, 22, 23, 24, 25, 28, 29, 30, 31, 8,
-];
+use rv_isa::{COLOURS, Register};
 
 /// T0, the one scratch register that code may name.
-const SPARE: u8 = 5;
+const SPARE: u8 = Register::T0 as u8;
 
 fn is_colour(register: u8) -> bool
     ensures { IsTrue result ↔ Contains colours register }

@@ -6,13 +6,14 @@ ghost use Rattle.mach_laws.specs.Graph.{numbers};
 
 use bs_words::{List, Loc};
 use mach_ir::{Instr, Mach, MachOp, Reg};
+use rv_isa::Register;
 use std::alloc::{AllocError, Global};
 
 /// Whether a machine register is a0 to a7 or t3 to t6.
 fn is_temporary(register: u8) -> bool
     ensures { result ≡ is_temporary register }
 {
-    (10 <= register && register <= 17) || 28 <= register
+    (Register::A0 as u8 <= register && register <= Register::A7 as u8) || Register::T3 as u8 <= register
 }
 
 fn register_is_destroyed(op: &MachOp, register: u8) -> bool

@@ -1,5 +1,5 @@
 -- The words in which functions of both languages are printed.
-use Rattle.std.specs.Prelude.{ℕ, ◌-◌, Bool, true, false, cond, ◌&&◌, nat_le, List, [], ◌++◌, codes}
+use Rattle.std.specs.Prelude.{ℕ, ◌+◌, ◌-◌, Bool, true, false, cond, ◌&&◌, nat_le, List, [], ◌++◌, codes}
 use Rattle.std.specs.Fmt.{decimal, signed_decimal}
 use Rattle.bs_words.specs.Word.{signed_of}
 use Rattle.bs_words.specs.declared.operators.CmpOp.{CmpOp}
@@ -52,8 +52,8 @@ register_name n =
     cond (is_from_to (number T0) (number T2) n) (codes "t" ++ decimal (n - number T0))
     (cond (is_from_to (number S0) (number S1) n) (codes "s" ++ decimal (n - number S0))
     (cond (is_from_to (number A0) (number A7) n) (codes "a" ++ decimal (n - number A0))
-    (cond (is_from_to (number S2) (number S11) n) (codes "s" ++ decimal (n - 16))
-    (cond (is_from_to (number T3) (number T6) n) (codes "t" ++ decimal (n - 25))
+    (cond (is_from_to (number S2) (number S11) n) (codes "s" ++ decimal (2 + (n - number S2)))
+    (cond (is_from_to (number T3) (number T6) n) (codes "t" ++ decimal (3 + (n - number T3)))
     (codes "x" ++ decimal n)))))
 
 -- a place; what has none yet prints as given

@@ -12,6 +12,7 @@ use crate::mach::Test;
 use crate::op::{Access, Callee, Calling, CopyKind, Leaving, Op, Pure, Right};
 use bs_words::{Chunk, CmpOp, Comp, IntOp, signed};
 use itoa::Buffer;
+use rv_isa::Register;
 use std::alloc::{AllocError, Global};
 
 /// Text that grows at its end.
@@ -80,16 +81,16 @@ impl Page {
     pub fn put_register(&mut self, number: u8) -> Result<(), AllocError>
         ensures { IfOk result (λ _. Adds self.old self.new (register_name number)) }
     {
-        if 5 <= number && number <= 7 {
-            self.put_named(b"t", number - 5)
-        } else if 8 <= number && number <= 9 {
-            self.put_named(b"s", number - 8)
-        } else if 10 <= number && number <= 17 {
-            self.put_named(b"a", number - 10)
-        } else if 18 <= number && number <= 27 {
-            self.put_named(b"s", number - 16)
-        } else if 28 <= number && number <= 31 {
-            self.put_named(b"t", number - 25)
+        if Register::T0 as u8 <= number && number <= Register::T2 as u8 {
+            self.put_named(b"t", number - Register::T0 as u8)
+        } else if Register::S0 as u8 <= number && number <= Register::S1 as u8 {
+            self.put_named(b"s", number - Register::S0 as u8)
+        } else if Register::A0 as u8 <= number && number <= Register::A7 as u8 {
+            self.put_named(b"a", number - Register::A0 as u8)
+        } else if Register::S2 as u8 <= number && number <= Register::S11 as u8 {
+            self.put_named(b"s", 2 + (number - Register::S2 as u8))
+        } else if Register::T3 as u8 <= number && number <= Register::T6 as u8 {
+            self.put_named(b"t", 3 + (number - Register::T3 as u8))
         } else {
             self.put_named(b"x", number)
         }

@@ -60,7 +60,7 @@ impl Output {
     pub fn enter_part(&mut self, traps: u32, results: &[Spot]) -> Result<(), AllocError>
         ensures { IfOk result (λ _. Adds self.old self.new (enter_part traps results.now)) }
     {
-        self.moved(traps, Loc::Machine(10), first(results))
+        self.moved(traps, Loc::Machine(Register::A0 as u8), first(results))
     }
 
     fn raise_bound_error(&mut self) -> Result<(), AllocError>

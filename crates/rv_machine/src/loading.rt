@@ -19,6 +19,7 @@ use crate::start::{
 };
 use bs_words::{Comp, DATA_START, List, Name};
 use image_form::{FuncRow, Image};
+use rv_isa::Register;
 use std::alloc::{AllocError, Global};
 
 // The function of that name.
@@ -141,7 +142,7 @@ fn start_registers(words: &[u64; 16]) -> [u64; 32]
         0,
         0,
     ];
-    registers[10..26].copy_from_slice(words);
+    registers[Register::A0 as usize..Register::S10 as usize].copy_from_slice(words);
     registers
 }
 
