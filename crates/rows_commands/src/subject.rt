@@ -1,13 +1,14 @@
 //! What the tables are about.
-use crate::evaluated;
 use anyhow::{Result, bail};
 use rows_answers::{devices, faults, limits, listings};
 use rows_compiled::{compiled, generated, jobs, plans};
 use rows_lines::{Table, Top};
+use rows_top::evaluated;
 use std::thread::Threads;
 
 /// What a table is about, which says how its rows are read and what is shown of the answers. Where no module of
-/// `rows_answers` or `rows_compiled` is named, a row has the form of `rows_lines`, and all that `cmmc` says to it is shown.
+/// `rows_answers`, `rows_compiled` or `rows_top` is named, a row has the form of `rows_lines`, and all that `cmmc`
+/// says to it is shown.
 #[derive(Clone, Copy)]
 pub(crate) enum Subject {
     /// Words that are no command, values in and out of their grammars and limits, the commands' answers, and reads and
@@ -46,7 +47,7 @@ pub(crate) enum Subject {
     Held,
     /// That an image does not show by how many jobs it was made, and that all functions are heard of (`jobs`).
     Shared,
-    /// Runs of texts of the whole language, under frames and addresses that a hand made (`evaluated`, here).
+    /// Runs of texts of the whole language, under frames and addresses that a hand made (`evaluated`).
     Evaluated,
 }
 

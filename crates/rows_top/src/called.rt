@@ -7,7 +7,7 @@ use std::thread::Threads;
 
 /// The top call.
 #[derive(Clone, Copy)]
-pub(crate) struct Called {
+pub struct Called {
     pub alloc: Global,
 }
 
