@@ -1,8 +1,8 @@
 use Rattle.std.proofs.Common.{◌≡◌, ◌++◌, drop, map}
 use Rattle.cmm_eval.specs.Views.{call_view}
 use Rattle.rv_machine.specs.Text.{calls_text}
-use Rattle.text_commands.proofs.lines.Page.put_calls.Given as goal
+use Rattle.text_commands.proofs.lines.put_calls.Given as goal
 
 abbrev pub invariant-loop-call : goal.invariant-loop-call
 invariant-loop-call l =
-    l.initial.self.bytes.items ++ calls_text (map call_view l.calls) ≡ l.self.bytes.items ++ calls_text (map call_view (drop l.call-index l.calls))
+    l.initial.page.bytes.items ++ calls_text (map call_view l.calls) ≡ l.page.bytes.items ++ calls_text (map call_view (drop l.call-index l.calls))
