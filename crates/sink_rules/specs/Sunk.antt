@@ -53,8 +53,8 @@ pub record IsPlan (m : Mach) (plan : Plan) : Type 0 where
   pub open_places : (r : Reg) → Contains plan.registers r → r.loc ≡ loc.Unset
   pub distinct : AreDistinct plan.registers
   -- A register is live where it is moved, and is not stale there. So each walk to there writes it that
-  -- leads from the entry, where it may be a parameter instead, or over a call that is not external or
-  -- over the entry of a handler, reached or not. What that call itself writes counts.
+  -- begins at the entry, where it may be a parameter instead, or at a call that is not external or the
+  -- entry of a handler, reached or not. What that call itself writes counts.
   pub live : (i : Instr) (next : List Instr) (r : Reg) → Stands i next m.code →
       Contains plan.registers r → plan.moves (length next) r.number ≡ true →
       Live m r.number (i ∷ next)
