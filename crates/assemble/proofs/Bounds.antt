@@ -14,7 +14,7 @@ use Rattle.cmm_data.specs.Placement.{DataSymbolTree, Definition, symbols_among, 
 use Rattle.bs_words.specs.Fits.{data_start}
 use Rattle.cmm_data.proofs.Table.{value_among-all}
 use Rattle.cmm_tree.specs.Tree.{FileTree, ItemTree, AFunction, AData, data_among}
-use Rattle.image_form.specs.Image.{stub, code_limit}
+use Rattle.image_form.specs.Image.{stub, stub_words, code_limit}
 use Rattle.image_rules.proofs.Limits.{are_short}
 use Rattle.image_rules.proofs.Placed.{Lie, items_lie, end_of_lists-above}
 use Rattle.image_rules.proofs.Whole.{all_length, length_of_data}
@@ -23,7 +23,7 @@ use Rattle.layout_rules.specs.declared.form.Form.TheVariants.{Near, Middle, Far}
 use Rattle.layout_rules.specs.Conditions.{weight, weight_of}
 use Rattle.layout_rules.specs.Externals.{number_of}
 use Rattle.layout_rules.specs.Forms.{words_of, total_words, is_label, label_from, place_or_entry, place_of}
-use Rattle.layout_rules.specs.Laid.{stub_words, entries_from, code_from, address_of_value, AreAllForms}
+use Rattle.layout_rules.specs.Laid.{entries_from, code_from, address_of_value, AreAllForms}
 use Rattle.layout_rules.specs.TooLarge.{first_too_large}
 use Rattle.layout_rules.proofs.Functions.{forms_length}
 use Rattle.layout_rules.proofs.Rules.{all_words}

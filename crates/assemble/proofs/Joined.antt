@@ -9,10 +9,11 @@ use Rattle.assemble.specs.declared.code.Code.{Code}
 use Rattle.assemble.specs.declared.source.Source.{Source}
 use Rattle.assemble.proofs.Bounds.{zip_length}
 use Rattle.fork_join.specs.Calls.{AreGiven, AreGivenFrom}
+use Rattle.image_form.specs.Image.{stub_words}
 use Rattle.image_form.specs.Tables.{Desc, desc}
 use Rattle.layout_rules.specs.declared.form.Form.{Form}
 use Rattle.layout_rules.specs.Forms.{total_words}
-use Rattle.layout_rules.specs.Laid.{stub_words, entries_from, code_from, descs_from}
+use Rattle.layout_rules.specs.Laid.{entries_from, code_from, descs_from}
 use Rattle.rv_pieces.specs.declared.piece.Pieces.{Pieces}
 
 -- the parts are the code of these functions, the first of which begins here

@@ -17,7 +17,7 @@ use Rattle.cmm_data.specs.Contents.{root_cells}
 use Rattle.cmm_data.specs.Map.{symbol_view}
 use Rattle.cmm_data.specs.Placement.{DataSymbolTree, symbols_of, data_end}
 use Rattle.cmm_tree.specs.Tree.{functions}
-use Rattle.image_form.specs.Image.{le32, func_bytes, sym_bytes, ext_bytes, desc_bytes, table_bytes, stub}
+use Rattle.image_form.specs.Image.{le32, func_bytes, sym_bytes, ext_bytes, desc_bytes, table_bytes, stub, stub_words}
 use Rattle.image_form.specs.Tables.{ext}
 use Rattle.image_form.specs.declared.image.ExtRow.{ExtRow}
 use Rattle.image_form.proofs.Lengths.{length-le32, length-words}
@@ -25,7 +25,7 @@ use Rattle.image_rules.proofs.Externals.{each_ext}
 use Rattle.image_rules.proofs.Placed.{roots_in_data, cells_few}
 use Rattle.image_rules.proofs.Whole.{all_length, length_of_data}
 use Rattle.layout_rules.specs.Externals.{ext_of, externals}
-use Rattle.layout_rules.specs.Laid.{stub_words, code_from, rows_from, descs_from, sym_of}
+use Rattle.layout_rules.specs.Laid.{code_from, rows_from, descs_from, sym_of}
 use Rattle.layout_rules.specs.TooLarge.{section_bytes_of}
 
 -- The bytes of each section, and that they are few enough to be counted.

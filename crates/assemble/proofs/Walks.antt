@@ -14,12 +14,12 @@ use Rattle.cmm_tree.specs.declared.file.Function.{Function}
 use Rattle.cmm_tree.specs.declared.file.Item.{Item}
 use Rattle.cmm_tree.specs.declared.file.Item.TheVariants as item
 use Rattle.cmm_types.specs.Typing.{AreItemsAnnotated}
-use Rattle.image_form.specs.Image.{code_limit}
+use Rattle.image_form.specs.Image.{code_limit, stub_words}
 use Rattle.image_form.specs.Tables.{Func}
 use Rattle.layout_rules.specs.declared.form.Form.{Form}
 use Rattle.layout_rules.specs.Conditions.{IsFunctionLaid, LeadsTo, AllLead}
 use Rattle.layout_rules.specs.Forms.{total_words, place_or_entry}
-use Rattle.layout_rules.specs.Laid.{stub_words, entries_from, address_of_place, function_words, row_at, rows_from, names_at}
+use Rattle.layout_rules.specs.Laid.{entries_from, address_of_place, function_words, row_at, rows_from, names_at}
 use Rattle.layout_rules.specs.TooLarge.{first_too_large}
 use Rattle.layout_rules.specs.Words.{Named, target_of, words_to}
 use Rattle.layout_rules.proofs.Rules.{all_words}

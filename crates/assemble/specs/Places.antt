@@ -4,10 +4,11 @@ use Rattle.std.specs.List.{AllZip}
 use Rattle.assemble.specs.Sizes.{pieces_size}
 use Rattle.assemble.specs.declared.places.Laid.{Laid}
 use Rattle.assemble.specs.declared.places.Places.{Places}
+use Rattle.image_form.specs.Image.{stub_words}
 use Rattle.layout_rules.specs.declared.form.Form.{Form}
 use Rattle.layout_rules.specs.Conditions.{weight_of}
 use Rattle.layout_rules.specs.Forms.{total_words, AreForms}
-use Rattle.layout_rules.specs.Laid.{stub_words, entries_from, AreAllForms}
+use Rattle.layout_rules.specs.Laid.{entries_from, AreAllForms}
 use Rattle.layout_rules.proofs.Rules.{all_words}
 use Rattle.rv_pieces.specs.declared.piece.Pieces.{Pieces}
 

@@ -8,10 +8,11 @@ use Rattle.cmm_data.specs.Symbols.{IsTableOf}
 use Rattle.cmm_tree.specs.Tree.{FileTree}
 use Rattle.cmm_tree.specs.View.{file_view}
 use Rattle.cmm_types.specs.Typing.{AreItemsAnnotated}
+use Rattle.image_form.specs.Image.{stub_words}
 use Rattle.image_form.specs.Tables.{Tables}
 use Rattle.layout_rules.specs.Conditions.{CanBeLaid}
 use Rattle.layout_rules.specs.Externals.{externals, number_of}
-use Rattle.layout_rules.specs.Laid.{stub_words, address_of_place, address_of_value, entries_from, laid_out}
+use Rattle.layout_rules.specs.Laid.{address_of_place, address_of_value, entries_from, laid_out}
 use Rattle.layout_rules.specs.Words.{Named}
 use Rattle.cmm_data.specs.Placement.{value_of_symbol}
 

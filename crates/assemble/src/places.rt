@@ -6,14 +6,12 @@ ghost use Rattle.layout_rules.specs.Forms.{total_words};
 
 use crate::sizes::code_size;
 use fork_join::map_in_halves;
+use image_form::limits::STUB_WORDS;
 use layout_rules::Form;
 use rv_layout::{forms_of, words_of};
 use rv_pieces::{Piece, Pieces};
 use std::alloc::{AllocError, Global};
 use std::thread::Threads;
-
-/// The words of the stub.
-pub const STUB_WORDS: u64 = 4;
 
 /// What is known of a function alone before any word is made.
 #[derive(Drop)]

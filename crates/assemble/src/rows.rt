@@ -12,11 +12,12 @@ ghost use Rattle.layout_rules.specs.Forms.{total_words as words_in};
 ghost use Rattle.layout_rules.specs.Laid.{row_at};
 ghost use Rattle.layout_rules.specs.TooLarge.{first_too_large};
 
-use crate::places::{Laid, STUB_WORDS};
+use crate::places::Laid;
 use crate::source::Source;
 use bs_words::{Comp, List, Name, Ret, Ty};
 use cmm_tree::{Function, Item, Param};
 use image_form::FuncRow;
+use image_form::limits::STUB_WORDS;
 use rv_pieces::Pieces;
 use std::alloc::{AllocError, Global};
 

@@ -7,7 +7,7 @@ use Rattle.cmm_tree.specs.Measures.{total, row_total, bindings_total, cases_tota
 use Rattle.cmm_tree.specs.Tree.{Expression, Integer, Pointer, Symbol, Name, Nothing, Float, Let, Assign, Operator, Load, Store, Alloc, App, Extcall, Checkbound, Raise, Seq, If, Switch, Catch, Exit, Try, Expressions, NoMore, More, Bindings, NoBinding, Bind, Cases, NoCase, Choose, Handlers, NoHandler, Handle, ItemTree, AFunction, AData, FileTree, functions_among}
 use Rattle.cmm_types.specs.Faults.{row_length}
 use Rattle.cmm_types.specs.Types.{Scoped, with_parameters, with_bindings}
-use Rattle.image_form.specs.Image.{ext_bytes, table_bytes}
+use Rattle.image_form.specs.Image.{ext_bytes, table_bytes, table_limit}
 use Rattle.layout_rules.specs.Externals.{calls_in, calls_in_row, calls_in_bindings, calls_in_cases, calls_in_handlers, calls_in_function, all_calls, ext_of, is_among, firsts_behind, externals}
 use Rattle.text_sizes.specs.Measures.{call_bytes, items_bytes}
 use Rattle.code_bounds.proofs.Bodies.{ext_length, table_length}
@@ -133,7 +133,7 @@ table_few (e ∷ es) =
     let others = table_few es in
     omega (arith, here, others, length-append (ext_bytes (ext_of e)) (flat_map ext_bytes (map ext_of es)))
 
-pub extcs_short : (file : FileTree) → items_bytes file.items ≤ 16777216 → length (table_bytes ext_bytes (map ext_of (externals file))) ≤ 67108864
+pub extcs_short : (file : FileTree) → items_bytes file.items ≤ 16777216 → length (table_bytes ext_bytes (map ext_of (externals file))) ≤ table_limit
 extcs_short file short =
     let table = table_length ext_bytes (map ext_of (externals file)) in
     let rows = table_few (externals file) in

@@ -12,7 +12,7 @@ use Rattle.cmm_data.specs.Contents.{root_cells}
 use Rattle.cmm_data.specs.Faults.{passes_limit, keeps_rule, fault_on, or_later, first_fault, data_fault_of}
 use Rattle.cmm_data.specs.Placement.{DataSymbolTree, PlacedItem, size_at, items_from, end_of_items, start_behind, end_behind, end_of_lists, lists_behind, lists_of, built_in, items_of_lists, symbol_at, symbols_among, symbols_of, data_end, data_bytes}
 use Rattle.cmm_tree.specs.Tree.{DatumTree, Define, Byte, Half, Int, Val, Address, Skip, Align, Text, Global, AFloat, DataItemTree, DataListTree, FileTree, ItemTree, AFunction, AData, data_among}
-use Rattle.image_form.specs.Image.{le32, sym_bytes, table_bytes}
+use Rattle.image_form.specs.Image.{le32, sym_bytes, table_bytes, table_limit}
 use Rattle.image_form.proofs.Lengths.{length-words}
 use Rattle.image_rules.proofs.Placed.{roots_in_data, cells_few}
 use Rattle.layout_rules.specs.Laid.{sym_of}
@@ -147,7 +147,7 @@ syms_few (s ∷ ss) named =
     omega (arith, some, others, own, length-append (sym_bytes (sym_of s)) (flat_map sym_bytes (map sym_of ss)))
 
 pub syms_short : (file : FileTree) → AllByRecursion (λ (s : DataSymbolTree). IsSymbol s.name) (symbols_of file) → items_bytes file.items ≤ 16777216 →
-    length (table_bytes sym_bytes (map sym_of (symbols_of file))) ≤ 67108864
+    length (table_bytes sym_bytes (map sym_of (symbols_of file))) ≤ table_limit
 syms_short file named short =
     let table = table_length sym_bytes (map sym_of (symbols_of file)) in
     let rows = syms_few (symbols_of file) named in
@@ -158,7 +158,7 @@ syms_short file named short =
 
 -- ---- root cells
 
-pub roots_short : (file : FileTree) → data_bytes file ≤ 16777216 → length (table_bytes le32 (map (λ address. address - data_start) (root_cells file))) ≤ 67108864
+pub roots_short : (file : FileTree) → data_bytes file ≤ 16777216 → length (table_bytes le32 (map (λ address. address - data_start) (root_cells file))) ≤ table_limit
 roots_short file short =
     let table = table_length le32 (map (λ address. address - data_start) (root_cells file)) in
     let words = length-words (map (λ address. address - data_start) (root_cells file)) in

@@ -8,13 +8,13 @@ use Rattle.cmm_tree.specs.Tree.{FunctionTree, FileTree, functions}
 use Rattle.correctness.specs.Bounds.{is_called_in, IsWithinText, IsBounded}
 use Rattle.emit_rules.specs.Sizes.{words_at_most}
 use Rattle.emit_rules.specs.Sizes as sizes
-use Rattle.image_form.specs.Image.{end_of}
+use Rattle.image_form.specs.Image.{end_of, stub_words}
 use Rattle.image_form.specs.Tables.{Tables, Func, Desc}
 use Rattle.layout_rules.specs.declared.form.Form.{Form}
 use Rattle.layout_rules.specs.declared.form.Form.TheVariants.{Near, Middle, Far}
 use Rattle.layout_rules.specs.Conditions.{AreDescriptors, IsFunctionLaid, CanBeLaid}
 use Rattle.layout_rules.specs.Forms.{branch_words, jump_words, words_of, total_words}
-use Rattle.layout_rules.specs.Laid.{stub_words, row_at, rows_from, descs_in, descs_from, laid_out, AreAllForms, IsLaidOut}
+use Rattle.layout_rules.specs.Laid.{row_at, rows_from, descs_in, descs_from, laid_out, AreAllForms, IsLaidOut}
 use Rattle.layout_rules.proofs.Functions.{filled}
 use Rattle.layout_rules.proofs.Rules.{all_append}
 use Rattle.chained_functions.specs.Made.{IsBoundedBy}

@@ -12,14 +12,14 @@ use Rattle.cmm_front.specs.FileOf.{IsFileOf}
 use Rattle.cmm_tree.specs.Tree.{Parameter, FunctionTree, FileTree, functions}
 use Rattle.correctness.specs.Bounds.{most_words, most_desc_bytes, IsRoomy}
 use Rattle.correctness.specs.Measures.{frame_points}
-use Rattle.image_form.specs.Image.{func_bytes, desc_bytes, table_limit, code_limit, stub}
+use Rattle.image_form.specs.Image.{func_bytes, desc_bytes, table_limit, code_limit, stub, stub_words}
 use Rattle.image_form.specs.Tables.{Tables}
 use Rattle.image_rules.proofs.Limits.{AreShort}
 use Rattle.image_rules.proofs.Whole.{all_length, length_of_data}
 use Rattle.layout_rules.specs.declared.form.Form.{Form}
 use Rattle.layout_rules.specs.Conditions.{IsRowLaid, CanBeLaid}
 use Rattle.layout_rules.specs.Forms.{words_of, total_words}
-use Rattle.layout_rules.specs.Laid.{stub_words, entries_from, code_from, row_at, rows_from, desc_at, descs_in, descs_from, laid_out, IsLaidOut}
+use Rattle.layout_rules.specs.Laid.{entries_from, code_from, row_at, rows_from, desc_at, descs_in, descs_from, laid_out, IsLaidOut}
 use Rattle.layout_rules.specs.TooLarge.{section_bytes_of, first_too_large}
 use Rattle.layout_rules.proofs.Rules.{all_words}
 use Rattle.lin_ir.specs.declared.descr.Descr.{Descr}

@@ -6,8 +6,9 @@ use Rattle.bs_words.specs.Memory.{StaticList}
 use Rattle.cmm_data.specs.Contents.{statics}
 use Rattle.cmm_data.specs.Placement.{data_bytes}
 use Rattle.cmm_tree.specs.Tree.{FileTree}
+use Rattle.image_form.specs.Image.{stub_words}
 use Rattle.image_form.specs.Tables.{Tables}
-use Rattle.layout_rules.specs.Laid.{IsLaidOut, address_of_value, cell_bytes, data_of, entries_from, stub_words}
+use Rattle.layout_rules.specs.Laid.{IsLaidOut, address_of_value, cell_bytes, data_of, entries_from}
 use Rattle.rv_pieces.specs.declared.piece.Pieces.{Pieces}
 
 abbrev pub AreSmall : List ℕ → Type 0

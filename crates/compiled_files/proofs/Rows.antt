@@ -5,12 +5,12 @@ use Rattle.std.specs.List.{AllByRecursion}
 use Rattle.std.proofs.lemmas.List.{length-map}
 use Rattle.cmm_tree.specs.Tree.{FunctionTree, FileTree, Parameter, comps_of, functions}
 use Rattle.correctness.specs.Setting.{AreRowsOf, layout_of}
-use Rattle.image_form.specs.Image.{stub}
+use Rattle.image_form.specs.Image.{stub, stub_words}
 use Rattle.image_form.specs.Tables.{Func, Tables}
 use Rattle.layout_rules.specs.declared.form.Form.{Form}
 use Rattle.layout_rules.specs.Conditions.{CanBeLaid, IsRowLaid}
 use Rattle.layout_rules.specs.Forms.{total_words}
-use Rattle.layout_rules.specs.Laid.{AreAllForms, IsLaidOut, code_from, entries_from, rows_from, stub_words}
+use Rattle.layout_rules.specs.Laid.{AreAllForms, IsLaidOut, code_from, entries_from, rows_from}
 use Rattle.rv_pieces.specs.declared.piece.Pieces.{Pieces}
 use Rattle.compiled_files.specs.Image.{function_words}
 

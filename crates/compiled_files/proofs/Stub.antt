@@ -18,10 +18,10 @@ use Rattle.cmm_meaning.specs.Layout.{observed}
 use Rattle.cmm_meaning.specs.State.{Doing, Gave, Threw}
 use Rattle.cmm_tree.specs.Tree.{FileTree}
 use Rattle.correctness.specs.Setting.{layout_of}
-use Rattle.image_form.specs.Image.{IsFunc, IsResult, stub}
+use Rattle.image_form.specs.Image.{IsFunc, IsResult, stub, stub_words}
 use Rattle.guarded_machine.specs.Guarded.{guarded_after, guarded_of}
 use Rattle.image_form.specs.Tables.{Tables}
-use Rattle.layout_rules.specs.Laid.{IsLaidOut, code_from, entries_from, stub_words}
+use Rattle.layout_rules.specs.Laid.{IsLaidOut, code_from, entries_from}
 use Rattle.lin_ir.specs.declared.lin.Line.{Line}
 use Rattle.mach_ir.specs.Runs.{entered}
 use Rattle.machine_laws.specs.Steps.{moments}

@@ -1,7 +1,7 @@
 -- The size of the code of an image.
 use Rattle.std.specs.Prelude.{ℕ, ◌-◌, length}
+use Rattle.image_form.specs.Image.{stub_words}
 use Rattle.image_form.specs.Tables.{Tables}
-use Rattle.layout_rules.specs.Laid.{stub_words}
 
 -- the words of all functions
 abbrev pub function_words : Tables → ℕ

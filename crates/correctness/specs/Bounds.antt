@@ -3,7 +3,7 @@ use Rattle.std.specs.Prelude.{◌≡◌, ℕ, ◌+◌, ◌*◌, ◌≤◌, Bool,
 use Rattle.std.specs.List.{AllZip}
 use Rattle.cmm_tree.specs.Tree.{FunctionTree, FileTree, functions}
 use Rattle.correctness.specs.Measures.{frame_points, switch_indexes, tries}
-use Rattle.image_form.specs.Image.{end_of, stub}
+use Rattle.image_form.specs.Image.{end_of, stub, stub_words, table_limit, code_limit}
 use Rattle.image_form.specs.Tables.{Tables, Func, Desc}
 
 -- the most words of a function's code
@@ -36,12 +36,12 @@ FillCode from to (row ∷ rows) = (row.offset ≡ from) × FillCode (end_of row)
 -- is the stub and the functions' words, with no other words.
 pub record IsBounded (file : FileTree) (image : Tables) : Type 0 where
   pub each : AllZip (IsWithinText image.descs) (functions file) image.funcs
-  pub stub_first : take 4 image.code ≡ stub
-  pub filled : FillCode 16 (4 * length image.code) image.funcs
+  pub stub_first : take stub_words image.code ≡ stub
+  pub filled : FillCode (4 * stub_words) (4 * length image.code) image.funcs
 
 -- A file whose image fits, whatever its code is within the bounds above.
 pub record IsRoomy (file : FileTree) : Type 0 where
-  -- words of code, with those of the stub
-  pub code : 4 + sum_by most_words (functions file) ≤ 67092480
+  -- bytes of code, with those of the stub
+  pub code : 4 * (stub_words + sum_by most_words (functions file)) ≤ code_limit
   -- bytes of descriptors, with those of their number
-  pub descs : 4 + sum_by most_desc_bytes (functions file) ≤ 67108864
+  pub descs : 4 + sum_by most_desc_bytes (functions file) ≤ table_limit

@@ -1,6 +1,6 @@
 -- Calls, and the return from a function. Arguments and results are at the places of the
 -- convention.
-use Rattle.std.specs.Prelude.{ℕ, Bool, true, false, List, [], ◌∷◌, ◌++◌, Option, Some, None}
+use Rattle.std.specs.Prelude.{ℕ, Bool, cond, List, [], ◌∷◌, ◌++◌, Option, Some, None}
 use Rattle.mach_ir.specs.declared.op.Callee.{Callee}
 use Rattle.mach_ir.specs.declared.op.Callee.TheVariants as callee
 use Rattle.mach_ir.specs.declared.op.External.{External}
@@ -40,8 +40,7 @@ tail_call_part traps f whom args =
 
 -- the number of the service: of a frame call, and of an external call that is no frame point
 abbrev pub external_service : Bool → ℕ
-external_service true = 4
-external_service false = 2
+external_service frame = cond frame 4 2
 
 abbrev pub external_words : External → Bool → List Piece
 external_words row frame =

@@ -1,14 +1,14 @@
 //! Rows of external calls, by what each call is known by.
 ghost use Rattle.std.specs.Prelude.{◌≡◌, ◌+◌, ◌++◌, [], map, IfOk, OnOk};
 ghost use Rattle.bs_words.specs.Contents.{contents};
-ghost use Rattle.image_form.specs.Image.{comp_byte, ret_byte};
+ghost use Rattle.image_form.specs.Image.{comp_byte};
 ghost use Rattle.image_form.specs.Tables.{ext};
 ghost use Rattle.external_rows.specs.Entries.{key_of, noted};
 ghost use Rattle.layout_rules.specs.Externals.{ext_of, number_of};
 ghost use Rattle.mach_ir.specs.Acts.{row_of};
 
 use bs_words::{Comp, List, Name, Ret};
-use image_form::ExtRow;
+use image_form::{ExtRow, comp_byte, ret_byte};
 use indexmap::IndexMap;
 use mach_ir::External;
 use std::alloc::{AllocError, Global};
@@ -42,26 +42,6 @@ impl Drop for ExternalRows {
 
 /// What no type is written as.
 const BEHIND_TYPES: u8 = 255;
-
-fn comp_byte(comp: Comp) -> u8
-    ensures { result ≡ comp_byte comp }
-{
-    match comp {
-        Comp::Int => 0,
-        Comp::Val => 1,
-        Comp::Addr => 2,
-        Comp::Float => 4,
-    }
-}
-
-fn ret_byte(ret: Ret) -> u8
-    ensures { result ≡ ret_byte ret }
-{
-    match ret {
-        Ret::Unit => 3,
-        Ret::Comp(comp) => comp_byte(comp),
-    }
-}
 
 fn put_comps(key: &mut Vec<u8>, comps: &[Comp]) -> Result<(), AllocError>
     ensures { OnOk result (key.new.items ≡ key.old.items ++ map comp_byte comps.now) }

@@ -11,13 +11,13 @@ use Rattle.cmm_data.specs.Contents.{bytes_of_items, static_list, statics, root_c
 use Rattle.cmm_data.specs.Placement.{items_from, start_behind, end_behind, end_of_lists, lists_behind, lists_of, value_of_symbol, data_end, data_bytes}
 use Rattle.cmm_data.proofs.Laws.{end_of_items-above, end_of_data-first_memory}
 use Rattle.cmm_tree.specs.Tree.{FunctionTree, DataListTree, FileTree, functions}
-use Rattle.image_form.specs.Image.{stub}
+use Rattle.image_form.specs.Image.{stub, stub_words, code_limit}
 use Rattle.image_form.specs.Tables.{Tables}
 use Rattle.image_rules.proofs.Placed.{end_of_lists-above, data_length, items_length, cells_enough}
 use Rattle.layout_rules.specs.declared.form.Form.{Form}
 use Rattle.layout_rules.specs.Conditions.{IsFileLaid}
 use Rattle.layout_rules.specs.Forms.{total_words}
-use Rattle.layout_rules.specs.Laid.{stub_words, address_of_place, entries_from, function_words, code_from, rows_from, cell_bytes, data_of, AreAllForms, IsLaidOut}
+use Rattle.layout_rules.specs.Laid.{address_of_place, entries_from, function_words, code_from, rows_from, cell_bytes, data_of, AreAllForms, IsLaidOut}
 use Rattle.layout_rules.proofs.Functions.{function_length}
 use Rattle.linear_machine.specs.Contents.{static_in, statics_of}
 use Rattle.linear_machine.specs.Statics.{AreBehind, StaticsLie}
@@ -144,7 +144,7 @@ module _ (file : FileTree) (ps : List Pieces) (image : Tables) (laid : IsLaidOut
     roots = λ x among. root_among (root_cells file) x (subst (Among x) roots_are among);
   }
 
-  module _ (short : 4 * length image.code ≤ 268369920) (each_one : length ps ≡ length (functions file)) where
+  module _ (short : 4 * length image.code ≤ code_limit) (each_one : length ps ≡ length (functions file)) where
     low : (f : ℕ) → address_of_place (slice_index entries f) < 2 ^ 64
     low f =
         let code = code_from file entries stub_words ps forms in

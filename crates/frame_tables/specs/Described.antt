@@ -1,5 +1,5 @@
 -- Descriptors that say what is in a set.
-use Rattle.std.specs.Prelude.{◌≡◌, ℕ, ◌+◌, ◌*◌, Bool, true, false, List, [], ◌∷◌, Some, length, slice_get}
+use Rattle.std.specs.Prelude.{◌≡◌, ℕ, ◌+◌, ◌*◌, Bool, cond, List, [], ◌∷◌, Some, length, slice_get}
 use Rattle.dataflow.specs.Rows.{row}
 use Rattle.lin_ir.specs.declared.descr.Descr.{Descr}
 use Rattle.lin_laws.specs.Numbers.{entries_from}
@@ -7,8 +7,7 @@ use Rattle.frame_tables.specs.declared.after.Point.{Point}
 
 -- the entry of a member
 abbrev pub entry_if : Bool → ℕ → List ℕ
-entry_if true entry = entry ∷ []
-entry_if false entry = []
+entry_if member entry = cond member (entry ∷ []) []
 
 abbrev pub described : ℕ → Point → List Bool → Descr
 described frame point set =

@@ -1,5 +1,5 @@
 -- Frame points, and the places of the flow graph before which is live what is live after them.
-use Rattle.std.specs.Prelude.{◌≡◌, ◌⊎◌, ℕ, ◌+◌, ◌<◌, Bool, true, false, List, [], ◌∷◌, Some, length, drop, slice_get, All, AllPairs, Contains}
+use Rattle.std.specs.Prelude.{◌≡◌, ◌⊎◌, ℕ, ◌+◌, ◌<◌, Bool, true, false, cond, List, [], ◌∷◌, Some, length, drop, slice_get, All, AllPairs, Contains}
 use Rattle.bs_words.specs.Contents.{contents}
 use Rattle.dataflow.specs.declared.flow.Place as place
 use Rattle.lin_ir.specs.Descriptors.{frame_points}
@@ -47,8 +47,7 @@ pub record HasTraps (s : Search) (c : Choice) (traps : ℕ) : Type 0 where
 -- ---- where control goes from them
 
 abbrev pub edges_of : Bool → place.Place → List ℕ
-edges_of false node = contents node.next
-edges_of true node = contents node.aside
+edges_of aside node = cond aside (contents node.aside) (contents node.next)
 
 -- control goes there from the position with number n, which is chosen
 pub record ComesFrom (s : Search) (nodes : List place.Place) (c : Choice) (aside : Bool) (n q : ℕ) :

@@ -13,12 +13,13 @@ use Rattle.emit_rules.specs.Emitted.{emitted, part_of, parts}
 use Rattle.emit_rules.specs.Entry.{Frame, entry, frame_of}
 use Rattle.emit_rules.specs.Named.{IsExternalOf}
 use Rattle.emit_rules.specs.Units.{is_free, tests_first}
+use Rattle.image_form.specs.Image.{stub_words, code_limit}
 use Rattle.image_form.specs.Tables.{Desc, Tables}
 use Rattle.layout_rules.specs.declared.form.Form.{Form}
 use Rattle.layout_rules.specs.Conditions.{IsFunctionLaid, IsNamed}
 use Rattle.layout_rules.specs.Externals.{externals}
 use Rattle.layout_rules.specs.Forms.{ReachFrom, label_from, place_of, place_or_entry, total_words}
-use Rattle.layout_rules.specs.Laid.{address_of_place, address_of_value, descs_in, entries_from, names_at, stub_words}
+use Rattle.layout_rules.specs.Laid.{address_of_place, address_of_value, descs_in, entries_from, names_at}
 use Rattle.layout_rules.specs.Stands as layout
 use Rattle.layout_rules.specs.Stands.{HasPieces}
 use Rattle.layout_rules.specs.Words.{Named}
@@ -97,7 +98,7 @@ module _ (image : Tables) (file : FileTree) (ps : List Pieces) (c : Setting) (k 
   placed : layout.Stands file entries image k pieces
   placed =
       let is = of.laid.is in
-      let short = subst (λ (t : Tables). 4 * length t.code ≤ 268369920) is of.short in
+      let short = subst (λ (t : Tables). 4 * length t.code ≤ code_limit) is of.short in
       subst (λ (t : Tables). layout.Stands file entries t k pieces) (sym is) (stands file ps forms k pieces of.can of.laid.are short there)
 
   abbrev place : ℕ
@@ -383,7 +384,7 @@ module _ (image : Tables) (file : FileTree) (ps : List Pieces) (c : Setting) (k 
   first_part : part_place (length m.code) ≡ start
   first_part = place_first traps f ds m.code left start
 
-  ends_within : part_place 0 + 4 ≤ entry_place image k + length image.code
+  ends_within : part_place 0 + stub_words ≤ entry_place image k + length image.code
   ends_within =
       let within = part_within 0 in
       let behind = placed.stands.behind in

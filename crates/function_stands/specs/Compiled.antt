@@ -4,6 +4,7 @@ use Rattle.bs_words.specs.Fits.{data_start}
 use Rattle.cmm_data.specs.Placement.{value_of_symbol}
 use Rattle.cmm_meaning.specs.Setting.{Setting}
 use Rattle.cmm_tree.specs.Tree.{FileTree}
+use Rattle.image_form.specs.Image.{code_limit}
 use Rattle.image_form.specs.Tables.{Tables}
 use Rattle.layout_rules.specs.Conditions.{CanBeLaid}
 use Rattle.layout_rules.specs.Laid.{IsLaidOut}
@@ -16,6 +17,6 @@ pub record IsImageOf (image : Tables) (file : FileTree) (ps : List Pieces) (c : 
     pub can : CanBeLaid file ps
     pub laid : IsLaidOut file ps image
     -- its code keeps the limit of images
-    pub short : 4 * length image.code ≤ 268369920
+    pub short : 4 * length image.code ≤ code_limit
     pub symbols : (name : List ℕ) → c.symbol name ≡ value_of_symbol file name
     pub end : c.end ≡ data_start + length image.bytes

@@ -4,6 +4,7 @@ use Rattle.cmm_meaning.specs.Setting.{Setting}
 use Rattle.correctness.specs.Setting.{layout_of}
 use Rattle.emit_rules.specs.Entry.{entry, frame_of}
 use Rattle.emit_rules.specs.Units.{is_free}
+use Rattle.image_form.specs.Image.{stub_words}
 use Rattle.image_form.specs.Tables.{Tables}
 use Rattle.layout_rules.specs.Words.{Named}
 use Rattle.lin_ir.specs.Meaning.{NamedAt}
@@ -40,10 +41,10 @@ pub record FunctionStands (image : Tables) (m : Lin) (c : Setting) (named : Name
   pub frame : laid.frame ≡ slice_index (layout_of image).frames k
   pub small : laid.frame ≤ 1048576
   -- the parts of the lines lie one after the other after the entry, inside the function's words;
-  -- these and the 4 words of the stub are at most all of the code
+  -- these and the words of the stub are at most all of the code
   pub rises : (fewer more : ℕ) → fewer ≤ more → laid.part more ≤ laid.part fewer
   pub begins : entry_place image k ≤ laid.part (length m.code)
-  pub ends : laid.part 0 + 4 ≤ entry_place image k + length image.code
+  pub ends : laid.part 0 + stub_words ≤ entry_place image k + length image.code
   -- the entry's pieces are at the entry, up to the first line's part
   pub entered : (s : Fixed) → s.image ≡ image →
       PartStands s names (entry_place image k) (laid.part (length m.code))

@@ -12,7 +12,7 @@ use Rattle.image_form.specs.declared.image.Image as declared
 use Rattle.image_form.specs.declared.fault.ImageError.{ImageError}
 use Rattle.image_form.specs.declared.fault.ImageError.TheVariants as errors
 use Rattle.image_form.specs.Tables.{Tables, tables, func_names, sym_names}
-use Rattle.image_form.specs.Image.{le32, func_bytes, sym_bytes, ext_bytes, desc_bytes, table_bytes, section_bytes, tables_bytes, magic, IsVersion, AreTables, IsImage, image_bytes}
+use Rattle.image_form.specs.Image.{le32, func_bytes, sym_bytes, ext_bytes, desc_bytes, table_bytes, section_bytes, tables_bytes, magic, IsVersion, AreTables, IsImage, image_bytes, table_limit}
 use Rattle.image_form.specs.Fields.{◌>>=◌, func_at, sym_at, root_at, ext_at, desc_at, table_at, words_at}
 use Rattle.image_form.specs.Reading.{Reads, IsRefusalOf, refused, mark_at, version_at, part_at, table_limits, data_limits, code_limits, code_least, reading}
 use Rattle.image_form.proofs.Lengths.{length-words, few, func_nonempty, sym_nonempty, ext_nonempty, desc_nonempty, le32_nonempty}
@@ -62,7 +62,7 @@ tables_from t r =
       descs = record { each = descs.each; rising = descs.rising; short = r.descs_within.most };
     }
 
-table_within : (n : ℕ) → n ≤ 67108864 → IsWithin table_limits n
+table_within : (n : ℕ) → n ≤ table_limit → IsWithin table_limits n
 table_within n le = record { step = omega arith; least = omega arith; most = le }
 
 tables_to : (t : Tables) → AreTables t → AreRead t

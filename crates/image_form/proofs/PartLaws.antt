@@ -1,5 +1,5 @@
 -- Each body and each section reads what is spelled so, and nothing else.
-use Rattle.std.proofs.Common.{◌≡◌, ℕ, ◌/◌, ◌%◌, ◌^◌, ◌<◌, ◌≤◌, true, false, ltb, eqb, List, [], ◌∷◌, ◌++◌, length, take, drop, max, fold, Result, Ok, Err, refl, sym, ap, subst, ◌∙◌, append_assoc, arith, inl, inr}
+use Rattle.std.proofs.Common.{◌≡◌, ℕ, ◌*◌, ◌/◌, ◌%◌, ◌^◌, ◌<◌, ◌≤◌, true, false, ltb, eqb, List, [], ◌∷◌, ◌++◌, length, take, drop, max, fold, Result, Ok, Err, refl, sym, ap, subst, ◌∙◌, append_assoc, arith, inl, inr}
 use Rattle.std.specs.Bool.{Decides}
 use Rattle.std.specs.List.{flat_map, AllByRecursion}
 use Rattle.std.specs.Int.{w32, from_le_bytes}
@@ -14,7 +14,7 @@ use Rattle.bs_fault.specs.declared.image.ImageFault.TheVariants as faults
 use Rattle.bs_fault.specs.declared.image.ImageRefusal.{ImageRefusal}
 use Rattle.image_form.specs.declared.reading.Limits.{Limits}
 use Rattle.image_form.specs.Tables.{Func}
-use Rattle.image_form.specs.Image.{le32, table_bytes, section_bytes, end_of, IsVersion}
+use Rattle.image_form.specs.Image.{le32, table_bytes, section_bytes, end_of, stub_words, IsVersion}
 use Rattle.image_form.specs.Fields.{number_at, rows_at, table_at, words_at}
 use Rattle.image_form.specs.Reading.{refused, whole_at, mark_at, is_version, version_at, is_within, length_at, section_at, placed, part_at, code_least, code_limits}
 use Rattle.image_form.proofs.Lengths.{length-le32, length-words}
@@ -243,10 +243,10 @@ least_to : (a n : ℕ) (funcs : List Func) → a ≤ n → AllByRecursion (λ f.
 least_to a n [] le all = le
 least_to a n (f ∷ funcs) le all = least_to (max a (end_of f)) n funcs (omega (arith, all.0)) all.1
 
-pub code_least_from : (n : ℕ) (funcs : List Func) → code_least funcs ≤ n → (16 ≤ n) × AllByRecursion (λ f. end_of f ≤ n) funcs
+pub code_least_from : (n : ℕ) (funcs : List Func) → code_least funcs ≤ n → (4 * stub_words ≤ n) × AllByRecursion (λ f. end_of f ≤ n) funcs
 unfolding code_least
-code_least_from n funcs le = least_from 16 n funcs le
+code_least_from n funcs le = least_from (4 * stub_words) n funcs le
 
-pub code_least_to : (n : ℕ) (funcs : List Func) → 16 ≤ n → AllByRecursion (λ f. end_of f ≤ n) funcs → code_least funcs ≤ n
+pub code_least_to : (n : ℕ) (funcs : List Func) → 4 * stub_words ≤ n → AllByRecursion (λ f. end_of f ≤ n) funcs → code_least funcs ≤ n
 unfolding code_least
-code_least_to n funcs le all = least_to 16 n funcs le all
+code_least_to n funcs le all = least_to (4 * stub_words) n funcs le all

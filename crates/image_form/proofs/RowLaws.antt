@@ -8,7 +8,7 @@ use Rattle.std.proofs.lemmas.Bool.Decides.{Decides-and, Decides-or, Decides-eqb,
 use Rattle.bs_words.specs.declared.types.Comp.{Comp}
 use Rattle.bs_words.specs.declared.types.Ret.{Ret}
 use Rattle.image_form.specs.Tables.{Func, Sym, Ext, Desc, func_names, sym_names}
-use Rattle.image_form.specs.Image.{le32, le_entry, entry_limit, ret_byte, name_bytes, params_bytes, func_bytes, sym_bytes, ext_bytes, desc_bytes, IsName, IsParam, IsResult, IsArgument, IsExtResult, IsRoot, IsEntry, IsNextEntry, end_of}
+use Rattle.image_form.specs.Image.{le32, le_entry, entry_limit, ret_byte, name_bytes, params_bytes, func_bytes, sym_bytes, ext_bytes, desc_bytes, IsName, IsParam, IsResult, IsArgument, IsExtResult, IsRoot, IsEntry, IsNextEntry, end_of, first_return}
 use Rattle.image_form.specs.Seen.{has}
 use Rattle.image_form.specs.Fields.{◌>>=◌, number_at, wide_at, kept, name_at, new_name_at, result_of, ext_result_of, type_at, rows_at, params_at, at_some, at_last, func_offset_at, frame_at, func_at, sym_offset_at, sym_at, root_at, ext_at, is_entry, is_next_entry, entry_at, after_at, size_at, desc_at}
 use Rattle.image_form.proofs.Takes.{IsBytes, bind_ok, ok_is, Takes, Takes-then, IsField, alike, kept_field, rows_take, rows_again, AllAfter}
@@ -230,15 +230,15 @@ entry_field version size before =
 pub record AfterRule (code_len : ℕ) (before : List Desc) (n : ℕ) : Type 0 where
   pub fits : n < 2 ^ 32
   pub aligned : n % 4 ≡ 0
-  pub behind_stub : 20 ≤ n
+  pub behind_stub : first_return ≤ n
   pub in_code : n ≤ code_len
   pub rises : Last (λ (d : Desc). d.after < n) before
 
 after_field : (code_len : ℕ) (before : List Desc) → IsField (after_at code_len before) le32 (AfterRule code_len before)
 unfolding after_at
 after_field code_len before =
-    alike (after_at code_len before) le32 _ (kept_field (number_at w32) le32 _ u32_field _ (λ n. ((n % 4 ≡ 0) × ((20 ≤ n) × (n ≤ code_len))) × Last (λ (d : Desc). d.after < n) before)
-    (λ n. Decides-and _ _ (Decides-and _ _ (Decides-eqb (n % 4) 0) (Decides-and _ _ (leb_decides 20 n) (leb_decides n code_len))) (last_decides (λ (d : Desc). ltb d.after n) (λ (d : Desc). d.after < n) (λ d. Decides-ltb d.after n) before)))
+    alike (after_at code_len before) le32 _ (kept_field (number_at w32) le32 _ u32_field _ (λ n. ((n % 4 ≡ 0) × ((first_return ≤ n) × (n ≤ code_len))) × Last (λ (d : Desc). d.after < n) before)
+    (λ n. Decides-and _ _ (Decides-and _ _ (Decides-eqb (n % 4) 0) (Decides-and _ _ (leb_decides first_return n) (leb_decides n code_len))) (last_decides (λ (d : Desc). ltb d.after n) (λ (d : Desc). d.after < n) (λ d. Decides-ltb d.after n) before)))
     (AfterRule code_len before) (λ x h. record { fits = h.0; aligned = h.1.0.0; behind_stub = h.1.0.1.0; in_code = h.1.0.1.1; rises = h.1.1 }) (λ x h. (h.fits, ((h.aligned, (h.behind_stub, h.in_code)), h.rises)))
 
 pub record SizeRule (version n : ℕ) : Type 0 where

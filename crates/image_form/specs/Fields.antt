@@ -12,7 +12,7 @@ use Rattle.bs_words.specs.declared.types.Ret.TheVariants as returns
 use Rattle.image_form.specs.declared.fault.Stop.{Stop}
 use Rattle.image_form.specs.declared.fault.Stop.TheVariants as stops
 use Rattle.image_form.specs.Tables.{Func, Sym, Ext, Desc, func_names, sym_names}
-use Rattle.image_form.specs.Image.{end_of, ext_bytes, entry_width}
+use Rattle.image_form.specs.Image.{end_of, ext_bytes, entry_width, first_return}
 use Rattle.image_form.specs.Seen.{has}
 
 infixl 10 ◌>>=◌
@@ -167,7 +167,7 @@ entry_at version size before =
 
 -- where a call in the code can return to: after the stub and a word
 abbrev pub is_return : ℕ → ℕ → Bool
-is_return code_len n = (n % 4 == 0) && (nat_le 20 n && nat_le n code_len)
+is_return code_len n = (n % 4 == 0) && (nat_le first_return n && nat_le n code_len)
 
 unfoldable pub after_at : ℕ → List Desc → List ℕ → Result (ℕ × List ℕ) ℕ
 after_at code_len before =

@@ -34,6 +34,13 @@ AllDiffer (x ∷ xs) = AllByRecursion (λ y. x ≢ y) xs × AllDiffer xs
 abbrev pub stub : List ℕ
 stub = 0x00000393 ∷ 0x00000073 ∷ 0x00100393 ∷ 0x00000073 ∷ []
 
+abbrev pub stub_words : ℕ
+stub_words = length stub
+
+-- the bytes of code before the first place that a call can return to: those of the stub, and a word
+abbrev pub first_return : ℕ
+first_return = 4 * stub_words + 4
+
 -- the most bytes of a section's body
 abbrev pub table_limit : ℕ
 table_limit = 67108864
@@ -173,7 +180,7 @@ pub record AreFuncs (code_len : ℕ) (funcs : List Func) : Type 0 where
 
 pub record IsCode (code : List ℕ) : Type 0 where
   pub words : AllByRecursion (λ w. w < 2 ^ 32) code
-  pub stub : 16 ≤ 4 * length code
+  pub stub : 4 * stub_words ≤ 4 * length code
   pub short : 4 * length code ≤ code_limit
 
 pub record IsData (bytes : List ℕ) : Type 0 where
@@ -230,7 +237,7 @@ IsNextEntry a b = ((a % 2 ≡ b % 2) × (a < b)) ⊎ ((a % 2 ≡ 1) × (b % 2 �
 
 pub record IsDesc (version code_len : ℕ) (d : Desc) : Type 0 where
   pub aligned : d.after % 4 ≡ 0
-  pub behind_stub : 20 ≤ d.after
+  pub behind_stub : first_return ≤ d.after
   pub in_code : d.after ≤ code_len
   pub size_aligned : d.size % 16 ≡ 0
   pub nonempty : 16 ≤ d.size

@@ -15,7 +15,7 @@ use Rattle.image_form.specs.declared.fault.ImageError.TheVariants as errors
 use Rattle.image_form.specs.declared.reading.Limits.{Limits}
 use Rattle.image_form.specs.Tables.{Func, Tables, func_names}
 use Rattle.image_form.specs.declared.image.Image as declared
-use Rattle.image_form.specs.Image.{IsImage, image_bytes, end_of, magic, table_limit, code_limit}
+use Rattle.image_form.specs.Image.{IsImage, image_bytes, end_of, magic, stub_words, table_limit, code_limit}
 use Rattle.image_form.specs.Fields.{◌>>=◌, func_at, sym_at, root_at, ext_at, desc_at, table_at, words_at}
 
 -- What a function of the code returned, seen by view, is what reading gives, unless memory ran out.
@@ -99,7 +99,7 @@ data_limits = record { least = 8; most = data_limit; step = 1 }
 
 -- the code holds the stub, and each function
 unfoldable pub code_least : List Func → ℕ
-code_least funcs = fold (λ n f. max n (end_of f)) 16 funcs
+code_least funcs = fold (λ n f. max n (end_of f)) (4 * stub_words) funcs
 
 abbrev pub code_limits : List Func → Limits
 code_limits funcs = record { least = code_least funcs; most = code_limit; step = 4 }

@@ -17,4 +17,4 @@ mod writing;
 pub use fault::ImageError;
 pub use image::{DescRow, ExtRow, FuncRow, Image, SymRow};
 pub use reading::read_image;
-pub use writing::write_image;
+pub use writing::{comp_byte, ret_byte, write_image};

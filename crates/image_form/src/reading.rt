@@ -26,7 +26,7 @@ ghost use Rattle.image_form.specs.declared.fault.ImageError.TheVariants.{Refused
 
 use crate::fault::{ImageError, Stop};
 use crate::image::{DescRow, ExtRow, FuncRow, Image, SymRow};
-use crate::limits::{CODE_LIMIT, TABLE_LIMIT};
+use crate::limits::{CODE_LIMIT, STUB_WORDS, TABLE_LIMIT};
 use crate::rows::{desc_table, end_of, ext_table, func_table, root_table, sym_table, words};
 use crate::seen::Seen;
 use bs_fault::{ImageFault, ImageRefusal};
@@ -187,7 +187,7 @@ fn func_part<'a>(
 fn code_least(funcs: &[FuncRow]) -> u64
     ensures { result ≡ code_least (map func funcs.now) }
 {
-    let mut least = 16;
+    let mut least = 4 * STUB_WORDS;
     for row in funcs {
         least = least.max(end_of(row));
     }

@@ -32,6 +32,7 @@ use crate::fields::{
     ext_result_from, name_from, new_name_from, params_from, result_from, u32_from, wide_from,
 };
 use crate::image::{DescRow, ExtRow, FuncRow, SymRow};
+use crate::limits::FIRST_RETURN;
 use crate::seen::Seen;
 use crate::writing::ext_text;
 use bs_words::Name;
@@ -451,7 +452,7 @@ fn entries_from(
 fn is_return(code_len: usize, offset: u32) -> bool
     ensures { result ≡ is_return code_len offset }
 {
-    offset % 4 == 0 && offset >= 20 && offset as usize <= code_len
+    offset % 4 == 0 && offset as u64 >= FIRST_RETURN && offset as usize <= code_len
 }
 
 /// Whether a descriptor of the offset may be after the last of those before it.

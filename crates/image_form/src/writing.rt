@@ -68,7 +68,7 @@ fn put_name(out: &mut Vec<u8>, name: &Name) -> Result<(), AllocError>
 }
 
 /// The byte of a type. No image has the last.
-fn comp_byte(comp: Comp) -> u8
+pub fn comp_byte(comp: Comp) -> u8
     ensures { result ≡ comp_byte comp }
 {
     match comp {
@@ -79,7 +79,8 @@ fn comp_byte(comp: Comp) -> u8
     }
 }
 
-fn ret_byte(ret: Ret) -> u8
+/// The byte of a result.
+pub fn ret_byte(ret: Ret) -> u8
     ensures { result ≡ ret_byte ret }
 {
     match ret {

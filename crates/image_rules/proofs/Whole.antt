@@ -11,7 +11,7 @@ use Rattle.bs_words.specs.declared.values.Value.{Value}
 use Rattle.cmm_data.specs.Contents.{statics, root_cells}
 use Rattle.cmm_data.specs.Placement.{DataSymbolTree, symbols_of, data_end, data_bytes}
 use Rattle.cmm_tree.specs.Tree.{FunctionTree, FileTree, functions}
-use Rattle.image_form.specs.Image.{First, EachNext, AllDiffer, IsBehind, IsSym, IsRoot, AreTables, end_of, stub}
+use Rattle.image_form.specs.Image.{First, EachNext, AllDiffer, IsBehind, IsSym, IsRoot, AreTables, end_of, stub, stub_words}
 use Rattle.image_form.specs.Tables.{Sym, func_names, sym_names}
 use Rattle.image_rules.proofs.Externals.{rows_differ, each_ext}
 use Rattle.image_rules.proofs.Limits.{are_short}
@@ -21,7 +21,7 @@ use Rattle.layout_rules.specs.declared.form.Form.TheVariants.{Near, Middle, Far}
 use Rattle.layout_rules.specs.Conditions.{LeadsTo, IsFunctionLaid, CanBeLaid}
 use Rattle.layout_rules.specs.Externals.{externals}
 use Rattle.layout_rules.specs.Forms.{words_of, total_words, place_of}
-use Rattle.layout_rules.specs.Laid.{stub_words, address_of_place, entries_from, names_at, function_words, code_from, row_at, rows_from, cell_bytes, data_of, sym_of, laid_out, AreAllForms}
+use Rattle.layout_rules.specs.Laid.{address_of_place, entries_from, names_at, function_words, code_from, row_at, rows_from, cell_bytes, data_of, sym_of, laid_out, AreAllForms}
 use Rattle.rv_pieces.specs.Named.{PieceFits, has_words}
 use Rattle.layout_rules.specs.TooLarge.{first_too_large}
 use Rattle.layout_rules.specs.Words.{Named, target_of, words_from, code_of}

@@ -2,13 +2,13 @@
 use Rattle.std.proofs.Common.{◌≡◌, ℕ, zero, suc, ◌+◌, ◌*◌, ◌<◌, List, [], ◌∷◌, ◌++◌, length, subst, sym, ap, length-append, arith}
 use Rattle.std.specs.List.{AllByRecursion}
 use Rattle.cmm_tree.specs.Tree.{FunctionTree, FileTree, functions}
-use Rattle.image_form.specs.Image.{AreTables, stub}
+use Rattle.image_form.specs.Image.{AreTables, stub, stub_words}
 use Rattle.image_form.specs.Tables.{Tables, Func}
 use Rattle.image_rules.proofs.Whole.{total_some}
 use Rattle.layout_rules.specs.declared.form.Form.{Form}
 use Rattle.layout_rules.specs.Conditions.{CanBeLaid, IsFunctionLaid}
 use Rattle.layout_rules.specs.Forms.{total_words, place_of}
-use Rattle.layout_rules.specs.Laid.{stub_words, entries_from, function_words, code_from, rows_from, AreAllForms, IsLaidOut}
+use Rattle.layout_rules.specs.Laid.{entries_from, function_words, code_from, rows_from, AreAllForms, IsLaidOut}
 use Rattle.layout_rules.proofs.Functions.{forms_length, function_length}
 use Rattle.moving_laws.specs.Values.{HasFunctions, function_at}
 use Rattle.rv_machine.specs.Memory.{code_start}

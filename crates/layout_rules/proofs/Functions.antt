@@ -5,12 +5,12 @@ use Rattle.std.specs.List.{AllByRecursion}
 use Rattle.std.proofs.lemmas.Option.{same_Some}
 use Rattle.cmm_tree.specs.Tree.{FunctionTree, FileTree, functions}
 use Rattle.correctness.specs.Bounds.{FillCode}
-use Rattle.image_form.specs.Image.{stub, code_limit}
+use Rattle.image_form.specs.Image.{stub, stub_words, code_limit}
 use Rattle.image_form.specs.Tables.{Func}
 use Rattle.layout_rules.specs.declared.form.Form.{Form}
 use Rattle.layout_rules.specs.Conditions.{LeadsTo, IsFunctionLaid, CanBeLaid}
 use Rattle.layout_rules.specs.Forms.{words_of, total_words, ReachFrom, AreForms, place_of}
-use Rattle.layout_rules.specs.Laid.{stub_words, address_of_place, entries_from, names_at, function_words, code_from, rows_from, laid_out, AreAllForms}
+use Rattle.layout_rules.specs.Laid.{address_of_place, entries_from, names_at, function_words, code_from, rows_from, laid_out, AreAllForms}
 use Rattle.layout_rules.specs.Stands.{StandsAt, Stands}
 use Rattle.layout_rules.specs.Words.{target_of}
 use Rattle.layout_rules.proofs.Standing.{words_length, pieces_stand}
@@ -149,10 +149,10 @@ stands file ps forms k p can are short is =
 
 -- The code is the stub and the functions' words.
 pub filled : (file : FileTree) (ps : List Pieces) (forms : List (List Form)) → CanBeLaid file ps → AreAllForms ps forms →
-    FillCode 16 (4 * length (laid_out file ps forms).code) (laid_out file ps forms).funcs
+    FillCode (4 * stub_words) (4 * length (laid_out file ps forms).code) (laid_out file ps forms).funcs
 filled file ps forms can are =
     let entries = entries_from stub_words ps forms in
     let code = code_from file entries stub_words ps forms in
     let end : 4 * (stub_words + length code) ≡ 4 * length (stub ++ code) = omega (arith, length-append stub code) in
-    subst (λ to. FillCode 16 to (rows_from stub_words (functions file) ps forms)) end
+    subst (λ to. FillCode (4 * stub_words) to (rows_from stub_words (functions file) ps forms)) end
     (fill_code file entries (functions file) ps forms stub_words can.each_one are)

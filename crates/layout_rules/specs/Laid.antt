@@ -10,7 +10,7 @@ use Rattle.cmm_data.specs.Contents.{statics, root_cells}
 use Rattle.cmm_data.specs.Placement.{DataSymbolTree, symbols_of, data_bytes, value_of_symbol}
 use Rattle.cmm_tree.specs.Tree.{FunctionTree, FileTree, functions, comps_of}
 use Rattle.cmm_types.specs.Types.{body_type, result_of}
-use Rattle.image_form.specs.Image.{stub}
+use Rattle.image_form.specs.Image.{stub, stub_words}
 use Rattle.image_form.specs.Tables.{Tables, Func, Sym, Desc}
 use Rattle.layout_rules.specs.declared.form.Form.{Form}
 use Rattle.layout_rules.specs.Externals.{externals, ext_of, number_of}
@@ -23,10 +23,6 @@ use Rattle.rv_pieces.specs.declared.piece.Piece.TheVariants.{Descriptor}
 use Rattle.rv_pieces.specs.declared.piece.Pieces.{Pieces}
 
 -- ---- places, in words from the start of the code
-
--- the words of the stub
-abbrev pub stub_words : ℕ
-stub_words = 4
 
 -- the entries of functions that lie one after the other
 abbrev pub entries_from : ℕ → List Pieces → List (List Form) → List ℕ

@@ -1,10 +1,11 @@
 -- How the pieces of a function lie in the code of an image.
 use Rattle.std.specs.Prelude.{◌≡◌, ℕ, ◌+◌, ◌*◌, ◌≤◌, List, [], ◌∷◌, length, Some, slice_get, ⊤}
 use Rattle.cmm_tree.specs.Tree.{FileTree}
+use Rattle.image_form.specs.Image.{stub_words}
 use Rattle.image_form.specs.Tables.{Tables, Func}
 use Rattle.layout_rules.specs.declared.form.Form.{Form}
 use Rattle.layout_rules.specs.Forms.{words_of, total_words, AreForms}
-use Rattle.layout_rules.specs.Laid.{stub_words, address_of_place, names_at}
+use Rattle.layout_rules.specs.Laid.{address_of_place, names_at}
 use Rattle.layout_rules.specs.Words.{Named, code_of}
 use Rattle.rv_isa.specs.Encoding.{InstrFits, encoded}
 use Rattle.rv_isa.specs.declared.instr.Instr.{Instr}

@@ -99,8 +99,7 @@ abbrev pub poisoned : List Loc → Locations → Locations
 poisoned named f = λ l. cond (is_named l named) (f l) (unless_pointer (f l))
 
 abbrev pub past_frame : Bool → List Loc → Locations → Locations
-past_frame false named f = f
-past_frame true named f = poisoned named f
+past_frame passes named f = cond passes (poisoned named f) f
 
 abbrev pub is_val : ℕ → Option Value → Bool
 is_val end None = false
@@ -181,8 +180,7 @@ on_act c m i next f a (EndsRaising d) = FinishesRaising d
 on_act c m i next f a Stuck = IsStuck
 
 abbrev pub unless_misnamed : Bool → Step State → Step State
-unless_misnamed true x = x
-unless_misnamed false x = IsStuck
+unless_misnamed named x = cond named x IsStuck
 
 -- a frame point at which a named location does not hold what fits val is stuck
 abbrev pub on_values : Place → List Loc → Lin → Line → List Line → Locations → Around →

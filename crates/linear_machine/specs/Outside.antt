@@ -1,5 +1,5 @@
 -- The machine is before an ECALL that asks for an external call.
-use Rattle.std.specs.Prelude.{◌≡◌, ℕ, zero, suc, ◌+◌, Bool, true, false, cond, List, [], ◌∷◌, ◌++◌, map, Option, Some, None, slice_get, slice_index, ◌⊎◌}
+use Rattle.std.specs.Prelude.{◌≡◌, ℕ, zero, suc, ◌+◌, Bool, cond, List, [], ◌∷◌, ◌++◌, map, Option, Some, None, slice_get, slice_index, ◌⊎◌}
 use Rattle.bs_words.specs.External.{External}
 use Rattle.bs_words.specs.Memory.{Memory}
 use Rattle.bs_words.specs.Observed.{Made}
@@ -46,8 +46,8 @@ taken_moving memory result (suc n ∷ x ∷ answers) =
 
 -- a frame call takes two answers, and an external call that is none at most one
 abbrev pub taken_of : Bool → Memory → Ret → List ℕ → Option Taken
-taken_of true memory result answers = taken_moving memory result answers
-taken_of false memory result answers = taken_alone memory result answers
+taken_of frame memory result answers =
+    cond frame (taken_moving memory result answers) (taken_alone memory result answers)
 
 -- ---- the call
 

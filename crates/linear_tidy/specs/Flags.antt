@@ -1,5 +1,5 @@
 -- Which lines have no use, known by tests.
-use Rattle.std.specs.Prelude.{◌≡◌, ℕ, suc, ◌-◌, ◌<◌, Bool, true, false, List, [], ◌∷◌, drop, length, slice_index_or, IsTrue, IsFalse}
+use Rattle.std.specs.Prelude.{◌≡◌, ℕ, suc, ◌-◌, ◌<◌, Bool, true, false, cond, List, [], ◌∷◌, drop, length, slice_index_or, IsTrue, IsFalse}
 use Rattle.lin_ir.specs.Formed.{IsSelfMove}
 use Rattle.lin_ir.specs.Meaning.{after_label}
 use Rattle.lin_ir.specs.Walks.{Stands, Reached}
@@ -94,5 +94,4 @@ kept (false ∷ flags) (i ∷ next) = i ∷ kept flags next
 
 -- a line, unless it goes
 abbrev pub unless_gone : Bool → Line → List Line
-unless_gone true i = []
-unless_gone false i = i ∷ []
+unless_gone goes i = cond goes [] (i ∷ [])
