@@ -10,6 +10,7 @@ mod spread;
 mod sweep;
 
 pub use flow::{Flow, Place};
-pub use liveness::{live, live_in_any_order};
+pub use liveness::{empty_rows, live, live_in_any_order};
 pub use reach::reaching;
 pub use rows::Rows;
+pub use sweep::{add_rows, put_in, take_out};
