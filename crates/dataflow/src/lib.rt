@@ -3,6 +3,7 @@
 #![tactic(auto)]
 
 mod flow;
+mod lists;
 mod liveness;
 mod reach;
 mod rows;
@@ -10,6 +11,7 @@ mod spread;
 mod sweep;
 
 pub use flow::{Flow, Place};
+pub use lists::{one_place, two_places};
 pub use liveness::{empty_rows, live, live_in_any_order};
 pub use reach::reaching;
 pub use rows::Rows;

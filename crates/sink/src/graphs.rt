@@ -1,12 +1,12 @@
 //! The graphs over which is solved what is stale and what is fresh.
-ghost use Rattle.std.specs.Prelude.{◌≡◌, ◌↔◌, ◌<◌, ◌∷◌, [], suc, length, IsTrue, IfOk};
+ghost use Rattle.std.specs.Prelude.{◌≡◌, ◌↔◌, ◌<◌, suc, length, IsTrue, IfOk};
 ghost use Rattle.std.specs.List.{Contains};
 ghost use Rattle.bs_words.specs.Contents.{contents};
 ghost use Rattle.mach_laws.specs.Graph.{numbers, IsFlowOf};
 ghost use Rattle.sink.specs.Graphs.{held, AreLiving, AreOver, IsEntry, IsStalePlace, AreStaleNodes, AreTurned, IsTurned, IsBare};
 
 use bs_words::List;
-use dataflow::{Flow, Place};
+use dataflow::{Flow, Place, one_place};
 use liveness::Backward;
 use mach_ir::{Calling, LiveMap, Mach, MachOp, Mark, Op, Reg};
 use std::alloc::{AllocError, Global};
@@ -122,21 +122,13 @@ fn stale_place(
     })
 }
 
-fn just(alloc: Global, number: u32) -> Result<Vec<u32>, AllocError>
-    ensures { IfOk result (λ numbers. numbers.items ≡ number ∷ []) }
-{
-    let mut numbers = Vec::new(alloc);
-    numbers.push(number)?;
-    Ok(numbers)
-}
-
 /// The place after the last instruction stands for the entry: what the entry leaves unwritten comes from it
 /// to the first place. Nothing else passes it.
 fn entry_place(alloc: Global, mach: &Mach, live: &LiveMap) -> Result<Place, AllocError>
     requires { 0 < length live.now.before.rows.items }
     ensures { IfOk result (IsEntry mach.now live.now.before.rows.items) }
 {
-    let first = just(alloc, 0)?;
+    let first = one_place(alloc, 0)?;
     let params = numbers_of(alloc, mach.params.as_slice())?;
     let unwritten = living(alloc, live, 0, &params)?;
     let all = living(alloc, live, 0, &[])?;
