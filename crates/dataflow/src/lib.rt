@@ -10,7 +10,7 @@ mod rows;
 mod spread;
 mod sweep;
 
-pub use flow::{Flow, Place};
+pub use flow::{Flow, Place, bare_place};
 pub use lists::{one_place, two_places};
 pub use liveness::{empty_rows, live, live_in_any_order};
 pub use reach::reaching;

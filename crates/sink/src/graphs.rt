@@ -3,10 +3,10 @@ ghost use Rattle.std.specs.Prelude.{◌≡◌, ◌↔◌, ◌<◌, suc, length, 
 ghost use Rattle.std.specs.List.{Contains};
 ghost use Rattle.bs_words.specs.Contents.{contents};
 ghost use Rattle.mach_laws.specs.Graph.{numbers, IsFlowOf};
-ghost use Rattle.sink.specs.Graphs.{held, AreLiving, AreOver, IsEntry, IsStalePlace, AreStaleNodes, AreTurned, IsTurned, IsBare};
+ghost use Rattle.sink.specs.Graphs.{held, AreLiving, AreOver, IsEntry, IsStalePlace, AreStaleNodes, AreTurned, IsTurned};
 
 use bs_words::List;
-use dataflow::{Flow, Place, one_place};
+use dataflow::{Flow, Place, bare_place, one_place};
 use liveness::Backward;
 use mach_ir::{Calling, LiveMap, Mach, MachOp, Mark, Op, Reg};
 use std::alloc::{AllocError, Global};
@@ -185,18 +185,6 @@ pub fn stale_flow(
         places: List::from_vec(nodes),
         bound,
     })
-}
-
-/// A place that leads nowhere, reads nothing and writes nothing: the one after the last instruction.
-fn bare_place(alloc: Global) -> Place
-    ensures { IsBare result }
-{
-    Place {
-        next: List::new(alloc),
-        aside: List::new(alloc),
-        reads: List::new(alloc),
-        writes: List::new(alloc),
-    }
 }
 
 fn turned(place: Place) -> Place
