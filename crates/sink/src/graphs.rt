@@ -2,13 +2,13 @@
 ghost use Rattle.std.specs.Prelude.{◌≡◌, ◌↔◌, ◌<◌, suc, length, IsTrue, IfOk};
 ghost use Rattle.std.specs.List.{Contains};
 ghost use Rattle.bs_words.specs.Contents.{contents};
-ghost use Rattle.mach_laws.specs.Graph.{numbers, IsFlowOf};
+ghost use Rattle.mach_laws.specs.Graph.{IsFlowOf};
 ghost use Rattle.sink.specs.Graphs.{held, AreLiving, AreOver, IsEntry, IsStalePlace, AreStaleNodes, AreTurned, IsTurned};
 
 use bs_words::List;
 use dataflow::{Flow, Place, bare_place, one_place};
-use liveness::Backward;
-use mach_ir::{Calling, LiveMap, Mach, MachOp, Mark, Op, Reg};
+use liveness::{Backward, numbers_of};
+use mach_ir::{Calling, LiveMap, Mach, MachOp, Mark, Op};
 use std::alloc::{AllocError, Global};
 
 /// Whether a register may live over it and is to be in a slot then: a call that returns, or the entry
@@ -26,17 +26,6 @@ pub fn is_held(op: &MachOp) -> bool
         MachOp::Mark(Mark::Handler { label: _ }) => true,
         MachOp::Mark(_) => false,
     }
-}
-
-/// The numbers of registers, in their order.
-fn numbers_of(alloc: Global, regs: &[Reg]) -> Result<Vec<u32>, AllocError>
-    ensures { IfOk result (λ found. found.items ≡ numbers regs.now) }
-{
-    let mut found = Vec::with_capacity(alloc, regs.len())?;
-    for reg in regs {
-        found.push(reg.number)?;
-    }
-    Ok(found)
 }
 
 /// Whether the number is one of these.
