@@ -18,8 +18,9 @@ use Rattle.bs_words.proofs.Lists.{pairs_later}
 use Rattle.mach_ir.specs.declared.graph.Node.{Node}
 use Rattle.mach_ir.specs.declared.graph.Graph.{Graph}
 use Rattle.mach_ir.specs.Placed.{Colouring}
+use Rattle.mach_ir.specs.Places as locations
 use Rattle.colouring.specs.Chosen.{fixed, urgency, ComesBefore, IsOrder}
-use Rattle.colouring.specs.Tables.{is_unset, is_open, ranked_nodes, AreRanked, is_more_urgent}
+use Rattle.colouring.specs.Tables.{is_open, ranked_nodes, AreRanked, is_more_urgent}
 use Rattle.colouring.specs.declared.order.Ranked.{Ranked}
 use Rattle.colouring.proofs.Found.{Rising, in_filter, into_filter}
 use Rattle.colouring.proofs.Ordered.{pairs_first}
@@ -71,7 +72,7 @@ not_less a b le = ap (λ (t : Bool). is_lt (cond t Less (cond (nat_eq b a) Equal
     by true = refl
     by false = refl
 
-is_unset_from : (l : Loc) → is_unset l ≡ true → l ≡ loc.Unset
+is_unset_from : (l : Loc) → locations.is_open l ≡ true → l ≡ loc.Unset
 is_unset_from loc.Unset e = refl
 is_unset_from (loc.Machine n) e = cc
 is_unset_from (loc.Slot n) e = cc
@@ -96,7 +97,7 @@ is_order g fresh xs ys up open_nodes ranked moved sorted stable = record {
         let e = in_filter is_open g.nodes x (subst (λ l. Contains l x) open_nodes d) in
         (e.0, is_unset_from x.reg.loc e.1)),
     (λ c. Contains-permutation (ranked_nodes xs) (ranked_nodes ys) x same
-        (subst (λ l. Contains l x) (sym open_nodes) (into_filter is_open g.nodes x c.0 (ap is_unset c.1)))),
+        (subst (λ l. Contains l x) (sym open_nodes) (into_filter is_open g.nodes x c.0 (ap locations.is_open c.1)))),
   );
   sorted = pairs;
 } where

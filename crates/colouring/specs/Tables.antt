@@ -1,10 +1,11 @@
 -- What the tables hold from which places are chosen.
-use Rattle.std.specs.Prelude.{◌≡◌, ℕ, ◌<◌, Bool, true, false, List, map, length, Option, Some, None, slice_index_or, slice_get, All, nat_eq}
+use Rattle.std.specs.Prelude.{◌≡◌, ℕ, ◌<◌, Bool, List, map, length, Option, Some, None, slice_index_or, slice_get, All, nat_eq}
 use Rattle.std.specs.Borrow.{Bor}
 use Rattle.std.specs.Ordering.{is_lt, nat_cmp}
 use Rattle.bs_words.specs.declared.types.Loc.{Loc}
 use Rattle.bs_words.specs.declared.types.Loc.TheVariants as loc
 use Rattle.mach_ir.specs.Placed.{Colouring}
+use Rattle.mach_ir.specs.Places as locations
 use Rattle.mach_ir.specs.declared.graph.Node.{Node}
 use Rattle.colouring.specs.Chosen.{urgency, node_at}
 use Rattle.colouring.specs.declared.merit.Merit.{Merit}
@@ -14,13 +15,9 @@ use Rattle.colouring.specs.declared.tallies.Tallies.{Tallies}
 
 -- ---- the order
 
-abbrev pub is_unset : Loc → Bool
-is_unset loc.Unset = true
-is_unset (loc.Machine n) = false
-is_unset (loc.Slot n) = false
-
+-- whether the place of its register is not chosen yet
 abbrev pub is_open : Node → Bool
-is_open x = is_unset x.reg.loc
+is_open x = locations.is_open x.reg.loc
 
 -- the nodes that are referred to
 abbrev pub referred : List (Bor Node) → List Node

@@ -61,17 +61,6 @@ fn urgency(places: &[Loc], fresh: u32, node: &Node) -> u64
     }
 }
 
-/// Whether the place of the register is open.
-fn is_open(node: &Node) -> bool
-    ensures { result ≡ is_open node.now }
-{
-    match node.reg.loc {
-        Loc::Unset => true,
-        Loc::Machine(_register) => false,
-        Loc::Slot(_slot) => false,
-    }
-}
-
 /// The nodes whose places are open, by rising number, and how urgent they are.
 fn open_nodes<'a>(
     alloc: Global,
@@ -85,7 +74,7 @@ fn open_nodes<'a>(
 {
     let mut ranked = Vec::new(alloc);
     for node in graph.nodes.as_slice() {
-        if is_open(node) {
+        if node.reg.is_open() {
             let urgency = urgency(places, fresh, node);
             ranked.push(Ranked { urgency, node })?;
         }

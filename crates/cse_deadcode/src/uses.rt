@@ -1,5 +1,5 @@
 //! Which registers are used at each place of a function.
-ghost use Rattle.std.specs.Prelude.{◌≡◌, false, replicate, IfOk};
+ghost use Rattle.std.specs.Prelude.{IfOk};
 ghost use Rattle.dataflow.specs.Flow.{WellFormed};
 ghost use Rattle.mach_ir.specs.Sizes.{IsCountable};
 ghost use Rattle.cse_deadcode.specs.Flows.{AreUsed};
@@ -7,21 +7,10 @@ ghost use Rattle.cse_deadcode.specs.Uses.{goes_at, AreUses};
 
 use crate::visits::sweep;
 use bs_bits::Bits;
-use dataflow::{Flow, Rows};
+use dataflow::{Flow, Rows, empty_rows};
 use liveness::flow_of;
 use mach_ir::{Instr, Mach};
 use std::alloc::{AllocError, Global};
-
-/// An empty set of numbers below `bound` for each of `count` places.
-fn empty_rows(alloc: Global, count: usize, bound: u32) -> Result<Vec<Bits>, AllocError>
-    ensures { IfOk result (λ rows. rows.items ≡ replicate count (replicate bound false)) }
-{
-    let mut rows = Vec::with_capacity(alloc, count)?;
-    for _place in 0..count {
-        rows.push(Bits::new(alloc, bound)?)?;
-    }
-    Ok(rows)
-}
 
 /// The numbers that are used before each place of the graph, where instructions that may go only
 /// compute.

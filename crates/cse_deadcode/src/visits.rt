@@ -10,7 +10,7 @@ ghost use Rattle.cse_deadcode.specs.Uses.{goes_at};
 ghost use Rattle.dead_rules.specs.Dropped.{only_computes, may_go};
 
 use bs_bits::Bits;
-use dataflow::{Flow, Place};
+use dataflow::{Flow, Place, add_rows, put_in, take_out};
 use mach_ir::{CopyKind, Instr, MachOp, Op, Pure};
 
 fn only_computes(pure: &Pure) -> bool
@@ -80,43 +80,6 @@ fn is_user(place: &Place, computes: bool, rows: &[Bits]) -> bool
         || is_wanted (contents place.now.next) (contents place.now.writes) rows.now) }
 {
     !computes || is_wanted(rows, place.next.as_slice(), place.writes.as_slice())
-}
-
-/// Adds the sets of the places.
-fn add_rows(set: &mut Bits, rows: &[Bits], places: &[u32])
-    requires sizes { HasSizes (length set.old) rows.now }
-    requires within { All (λ q. q < length rows.now) places.now }
-    ensures size { length set.new ≡ length set.old }
-    ensures members { (r : ℕ) → has set.new r ≡ (has set.old r || list_any (λ q.
-        has (row rows.now q) r) places.now) }
-{
-    for q in places {
-        let _grew = set.union_with(&rows[*q as usize]);
-    }
-}
-
-/// Takes the numbers out.
-fn take_out(set: &mut Bits, numbers: &[u32])
-    requires { All (λ k. k < length set.old) numbers.now }
-    ensures size { length set.new ≡ length set.old }
-    ensures members { (r : ℕ) →
-        has set.new r ≡ (has set.old r && not (list_any (λ k. k == r) numbers.now)) }
-{
-    for k in numbers {
-        set.remove(*k);
-    }
-}
-
-/// Puts the numbers in.
-fn put_in(set: &mut Bits, numbers: &[u32])
-    requires { All (λ k. k < length set.old) numbers.now }
-    ensures size { length set.new ≡ length set.old }
-    ensures members { (r : ℕ) →
-        has set.new r ≡ (has set.old r || list_any (λ k. k == r) numbers.now) }
-{
-    for k in numbers {
-        set.insert(*k);
-    }
 }
 
 /// Puts the numbers in, if it is asked to.

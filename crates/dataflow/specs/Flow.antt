@@ -1,5 +1,5 @@
 -- Graphs of places, walks over them, and what is live.
-use Rattle.std.specs.Prelude.{ℕ, zero, suc, ◌<◌, ◌⊎◌, List, [], map, slice_index_or, length}
+use Rattle.std.specs.Prelude.{◌≡◌, ℕ, zero, suc, ◌<◌, ◌⊎◌, List, [], map, slice_index_or, length}
 use Rattle.std.specs.List.{All, Contains}
 use Rattle.bs_words.specs.Contents.{contents}
 use Rattle.dataflow.specs.declared.flow.Place as place
@@ -39,6 +39,13 @@ pub record IsPlace (count bound : ℕ) (x : place.Place) : Type 0 where
   pub aside : All (λ q. q < count) (contents x.aside)
   pub reads : All (λ r. r < bound) (contents x.reads)
   pub writes : All (λ r. r < bound) (contents x.writes)
+
+-- a place that leads nowhere, and reads and writes nothing
+pub record IsBare (x : place.Place) : Type 0 where
+  pub next : contents x.next ≡ []
+  pub aside : contents x.aside ≡ []
+  pub reads : contents x.reads ≡ []
+  pub writes : contents x.writes ≡ []
 
 -- every place that is named exists, and every number is below the bound
 abbrev pub WellFormed : flow.Flow → Type 0

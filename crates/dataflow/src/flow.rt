@@ -1,8 +1,10 @@
 //! Where control may go between numbered places, and what each place reads and writes.
 ghost use Rattle.std.specs.Prelude.{◌↔◌, ◌<◌, IsTrue};
 ghost use Rattle.std.specs.List.{All};
+ghost use Rattle.dataflow.specs.Flow.{IsBare};
 
 use bs_words::List;
+use std::alloc::Global;
 
 /// Whether each number is below `bound`.
 fn all_below(numbers: &[u32], bound: usize) -> bool
@@ -25,6 +27,18 @@ pub struct Place {
 
     /// The numbers that are written.
     pub writes: List<u32>,
+}
+
+/// A place that leads nowhere, reads nothing and writes nothing: the one after the last instruction.
+pub fn bare_place(alloc: Global) -> Place
+    ensures { IsBare result }
+{
+    Place {
+        next: List::new(alloc),
+        aside: List::new(alloc),
+        reads: List::new(alloc),
+        writes: List::new(alloc),
+    }
 }
 
 /// A graph of places, which are numbered from 0 by their order.

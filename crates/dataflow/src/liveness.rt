@@ -9,7 +9,7 @@ use bs_bits::Bits;
 use std::alloc::{AllocError, Global};
 
 /// An empty set of numbers below `bound` for each of `count` places.
-pub(crate) fn empty_rows(alloc: Global, count: usize, bound: u32) -> Result<Vec<Bits>, AllocError>
+pub fn empty_rows(alloc: Global, count: usize, bound: u32) -> Result<Vec<Bits>, AllocError>
     ensures { IfOk result (λ rows. rows.items ≡ replicate count (replicate bound false)) }
 {
     let mut rows = Vec::with_capacity(alloc, count)?;

@@ -11,8 +11,8 @@ use crate::spread::either;
 use crate::{Flow, Place};
 use bs_bits::Bits;
 
-/// Adds the sets of the places.
-fn add_rows(set: &mut Bits, rows: &[Bits], places: &[u32])
+/// Adds to the set those of the places.
+pub fn add_rows(set: &mut Bits, rows: &[Bits], places: &[u32])
     requires sizes { HasSizes (length set.old) rows.now }
     requires within { All (λ q. q < length rows.now) places.now }
     ensures size { length set.new ≡ length set.old }
@@ -24,8 +24,8 @@ fn add_rows(set: &mut Bits, rows: &[Bits], places: &[u32])
     }
 }
 
-/// Takes the numbers out.
-pub(crate) fn take_out(set: &mut Bits, numbers: &[u32])
+/// Takes the numbers out of the set.
+pub fn take_out(set: &mut Bits, numbers: &[u32])
     requires { All (λ k. k < length set.old) numbers.now }
     ensures size { length set.new ≡ length set.old }
     ensures members { (r : ℕ) →
@@ -36,8 +36,8 @@ pub(crate) fn take_out(set: &mut Bits, numbers: &[u32])
     }
 }
 
-/// Puts the numbers in.
-pub(crate) fn put_in(set: &mut Bits, numbers: &[u32])
+/// Puts the numbers into the set.
+pub fn put_in(set: &mut Bits, numbers: &[u32])
     requires { All (λ k. k < length set.old) numbers.now }
     ensures size { length set.new ≡ length set.old }
     ensures members { (r : ℕ) →

@@ -9,6 +9,7 @@ use Rattle.bs_words.specs.declared.types.Loc.TheVariants as loc
 use Rattle.bs_words.proofs.Lists.{first_in}
 use Rattle.mach_ir.specs.Acts.{Target, At}
 use Rattle.mach_ir.specs.Formed.{WellFormed, LeadsTo, is_exit}
+use Rattle.mach_ir.specs.Labels.{label_of}
 use Rattle.mach_ir.specs.Meaning.{Everything, destroyed_by, killed, has_label}
 use Rattle.mach_ir.specs.Walks.{Among, first, OneOf, this, other, Stands, here, below, IsRegister, is_in_code}
 use Rattle.mach_ir.specs.declared.op.Op.TheVariants as op
@@ -24,7 +25,7 @@ use Rattle.hoist_rules.specs.Chosen.{IsLoopRound, IsWide, IsMoved}
 use Rattle.mach_laws.proofs.Places.{shorter, results_in}
 use Rattle.mach_laws.proofs.Among.{split_among, left_among}
 use Rattle.hoist.specs.Constants.{is_wide, fits_always, constant_of, can_hold, are_none, holds_wide, makes_wide}
-use Rattle.hoist.specs.Loops.{label_of, exit_of, EndsFrom, IsFirstCall, IsCalmWide}
+use Rattle.hoist.specs.Loops.{exit_of, EndsFrom, IsFirstCall, IsCalmWide}
 use Rattle.hoist.specs.Written.{noted, times, is_once}
 use Rattle.hoist.proofs.Reaching.{same_item}
 use Rattle.hoist.proofs.Once.{open_stays, no_param, only_here, times_once}

@@ -5,10 +5,11 @@ use Rattle.std.proofs.lemmas.Bool.{cases_lt, ltb-true, lt-ltb, leb-true, le-leb,
 use Rattle.std.proofs.lemmas.Bool.Decides.{eqb_tells}
 use Rattle.std.proofs.lemmas.List.{get_or_append_left, get_or_push, length-append}
 use Rattle.std.proofs.lemmas.Option.{slice_get_within}
+use Rattle.mach_ir.specs.Labels.{label_of}
 use Rattle.mach_ir.specs.Meaning.{Everything, destroyed_by}
 use Rattle.mach_ir.specs.declared.mach.Instr.{Instr}
 use Rattle.hoist.specs.Constants.{makes_wide}
-use Rattle.hoist.specs.Loops.{label_of, exit_of, IsAbove, IsExitTo, AreEnds, end_noted, end_by, end_of, EndsFrom, IsCalmWide, is_calm_wide, flag_at, AreFlags}
+use Rattle.hoist.specs.Loops.{exit_of, IsAbove, IsExitTo, AreEnds, end_noted, end_by, end_of, EndsFrom, IsCalmWide, is_calm_wide, flag_at, AreFlags}
 
 pub same_item : {X : Type 0} (o : Option X) (x y : X) → o ≡ Some x → o ≡ Some y → x ≡ y
 same_item o x y e h = cc

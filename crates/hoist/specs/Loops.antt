@@ -1,26 +1,12 @@
 -- Loops by places of the text, counted from 0.
 use Rattle.std.specs.Prelude.{◌≡◌, ◌↔◌, ◌<◌, ◌≤◌, ◌⊎◌, ℕ, suc, Bool, true, false, cond, ◌&&◌, nat_eq, nat_lt, nat_le, List, Option, Some, None, length, slice_get, slice_index_or}
 use Rattle.mach_ir.specs.Meaning.{Everything, destroyed_by}
+use Rattle.mach_ir.specs.Labels.{label_of}
 use Rattle.mach_ir.specs.declared.mach.Mark.TheVariants as mark
 use Rattle.mach_ir.specs.declared.mach.MachOp.{MachOp}
 use Rattle.mach_ir.specs.declared.mach.MachOp.TheVariants as mach
 use Rattle.mach_ir.specs.declared.mach.Instr.{Instr}
 use Rattle.hoist.specs.Constants.{makes_wide}
-
--- the label that is here
-abbrev pub label_of : MachOp → Option ℕ
-label_of (mach.Op f) = None
-label_of (mach.Mark (mark.Exit l n)) = None
-label_of (mach.Mark (mark.If t l)) = None
-label_of (mach.Mark (mark.Else l end)) = Some l
-label_of (mach.Mark (mark.Switch labels)) = None
-label_of (mach.Mark (mark.Case indexes l end)) = Some l
-label_of (mach.Mark mark.Catch) = None
-label_of (mach.Mark (mark.With l end)) = Some l
-label_of (mach.Mark (mark.Try l)) = None
-label_of (mach.Mark (mark.Leave l end)) = None
-label_of (mach.Mark (mark.Handler l)) = None
-label_of (mach.Mark (mark.End l)) = Some l
 
 -- the label of an exit
 abbrev pub exit_of : MachOp → Option ℕ

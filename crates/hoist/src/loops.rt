@@ -1,38 +1,12 @@
 //! Loops, by the text.
 ghost use Rattle.std.specs.Prelude.{◌≡◌, ◌≤◌, ◌&&◌, ℕ, length, IfOk};
-ghost use Rattle.hoist.specs.Loops.{label_of, exit_of, end_of, end_noted, is_calm_wide, AreEnds, AreFlags, IsCalmWide};
+ghost use Rattle.hoist.specs.Loops.{exit_of, end_of, end_noted, is_calm_wide, AreEnds, AreFlags, IsCalmWide};
 ghost use Rattle.hoist.specs.Tables.{entry};
 
 use crate::constants::makes_wide;
 use crate::table::Table;
 use mach_ir::{Instr, Label, MachOp, Mark};
 use std::alloc::{AllocError, Global};
-
-/// The label that a mark has.
-fn mark_label(mark: &Mark) -> Option<Label>
-    ensures { result ≡ label_of (MachOp.Mark mark.now) }
-{
-    match mark {
-        Mark::Exit { label: _, tries: _ } => None,
-        Mark::If {
-            test: _,
-            otherwise: _,
-        } => None,
-        Mark::Else { label, end: _ } => Some(*label),
-        Mark::Switch(_) => None,
-        Mark::Case {
-            indexes: _,
-            label,
-            end: _,
-        } => Some(*label),
-        Mark::Catch => None,
-        Mark::With { label, end: _ } => Some(*label),
-        Mark::Try { handler: _ } => None,
-        Mark::Leave { handler: _, end: _ } => None,
-        Mark::Handler { label: _ } => None,
-        Mark::End { label } => Some(*label),
-    }
-}
 
 /// The label to which a mark exits.
 fn mark_exit(mark: &Mark) -> Option<Label>
@@ -57,15 +31,6 @@ fn mark_exit(mark: &Mark) -> Option<Label>
         Mark::Leave { handler: _, end: _ } => None,
         Mark::Handler { label: _ } => None,
         Mark::End { label: _ } => None,
-    }
-}
-
-fn label_of(op: &MachOp) -> Option<Label>
-    ensures { result ≡ label_of op.now }
-{
-    match op {
-        MachOp::Op(_) => None,
-        MachOp::Mark(mark) => mark_label(mark),
     }
 }
 
@@ -104,7 +69,7 @@ pub fn last_exits(alloc: Global, code: &[Instr]) -> Result<Table, AllocError>
 fn end_of(ends: &Table, op: &MachOp) -> usize
     ensures { result ≡ end_of (entry ends.now) op.now }
 {
-    match label_of(op) {
+    match op.own_label() {
         None => 0,
         Some(label) => ends.get(label.0),
     }

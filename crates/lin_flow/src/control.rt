@@ -1,14 +1,15 @@
 //! Where control goes from a line.
-ghost use Rattle.std.specs.Prelude.{◌≡◌, ◌<◌, ◌^◌, ℕ, suc, map, [], ◌∷◌, IfOk};
-ghost use Rattle.mach_ir.specs.Acts.{At, goes_on};
-ghost use Rattle.mach_ir.specs.Labels.{place_to, next_place};
+ghost use Rattle.std.specs.Prelude.{◌≡◌, ◌<◌, ◌^◌, ℕ, suc, map, IfOk};
+ghost use Rattle.mach_ir.specs.Acts.{At};
+ghost use Rattle.mach_ir.specs.Labels.{place_to};
 ghost use Rattle.lin_ir.specs.Walks.{targets};
 ghost use Rattle.lin_ir.specs.Walks as walks;
 ghost use Rattle.lin_flow.specs.Labels.{place_in};
 
 use crate::labels::Labels;
+use dataflow::{one_place, two_places};
 use lin_ir::{Flow, LinOp};
-use mach_ir::{Label, Op};
+use mach_ir::{Label, places_after_op};
 use std::alloc::{AllocError, Global};
 
 /// Whether it leads to the innermost handler too: a call, a frame call, a raise or a bound test.
@@ -21,22 +22,6 @@ pub fn may_raise(op: &LinOp) -> bool
     }
 }
 
-fn one_place(alloc: Global, place: u32) -> Result<Vec<u32>, AllocError>
-    ensures { IfOk result (λ places. places.items ≡ place ∷ []) }
-{
-    let mut places = Vec::new(alloc);
-    places.push(place)?;
-    Ok(places)
-}
-
-fn two_places(alloc: Global, first: u32, second: u32) -> Result<Vec<u32>, AllocError>
-    ensures { IfOk result (λ places. places.items ≡ first ∷ second ∷ []) }
-{
-    let mut places = one_place(alloc, first)?;
-    places.push(second)?;
-    Ok(places)
-}
-
 fn places_of_labels(alloc: Global, labels: &Labels, among: &[Label]) -> Result<Vec<u32>, AllocError>
     ensures { IfOk result (λ places. (p : ℕ) →
         places.items ≡ map (place_to (place_in labels.now) p) (map At among.now)) }
@@ -46,17 +31,6 @@ fn places_of_labels(alloc: Global, labels: &Labels, among: &[Label]) -> Result<V
         places.push(labels.place_of(*label))?;
     }
     Ok(places)
-}
-
-fn places_after_op(alloc: Global, op: &Op, place: u32) -> Result<Vec<u32>, AllocError>
-    requires { suc place < 2 ^ 32 }
-    ensures { IfOk result (λ places. places.items ≡ next_place (goes_on op.now) place) }
-{
-    if op.goes_on() {
-        one_place(alloc, place + 1)
-    } else {
-        Ok(Vec::new(alloc))
-    }
 }
 
 fn places_after_flow(

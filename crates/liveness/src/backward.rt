@@ -1,5 +1,5 @@
 //! Items that are found from the last one to the first.
-ghost use Rattle.std.specs.Prelude.{◌≡◌, ◌∷◌, [], drop, slice_get, IfOk};
+ghost use Rattle.std.specs.Prelude.{◌≡◌, ◌++◌, ◌∷◌, [], drop, slice_get, IfOk};
 
 use std::alloc::{AllocError, Global};
 use std::marker::Model;
@@ -42,6 +42,17 @@ impl<T: Drop> Backward<T> {
         ensures { IfOk result (λ _. self.new ≡ item ∷ self.old) }
     {
         self.items.push(item)?;
+        Ok(())
+    }
+
+    /// Puts these items before the others, in their order.
+    pub fn push_all(&mut self, items: Vec<T>) -> Result<(), AllocError>
+        ensures { IfOk result (λ _. self.new ≡ items.items ++ self.old) }
+    {
+        let mut left = items;
+        while let Some(item) = left.pop() {
+            self.push(item)?;
+        }
         Ok(())
     }
 

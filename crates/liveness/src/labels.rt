@@ -8,41 +8,6 @@ use mach_ir::{Label, Mach, MachOp, Mark};
 use std::alloc::{AllocError, Global};
 use std::collections::BTreeMap;
 
-/// The label that a mark has.
-fn mark_label(mark: &Mark) -> Option<Label>
-    ensures { (l : ℕ) → has_label l (MachOp.Mark mark.now) ≡ is_that_label result l }
-{
-    match mark {
-        Mark::Exit { label: _, tries: _ } => None,
-        Mark::If {
-            test: _,
-            otherwise: _,
-        } => None,
-        Mark::Else { label, end: _ } => Some(*label),
-        Mark::Switch(_) => None,
-        Mark::Case {
-            indexes: _,
-            label,
-            end: _,
-        } => Some(*label),
-        Mark::Catch => None,
-        Mark::With { label, end: _ } => Some(*label),
-        Mark::Try { handler: _ } => None,
-        Mark::Leave { handler: _, end: _ } => None,
-        Mark::Handler { label: _ } => None,
-        Mark::End { label } => Some(*label),
-    }
-}
-
-fn own_label(op: &MachOp) -> Option<Label>
-    ensures { (l : ℕ) → has_label l op.now ≡ is_that_label result l }
-{
-    match op {
-        MachOp::Op(_) => None,
-        MachOp::Mark(mark) => mark_label(mark),
-    }
-}
-
 /// The label of the handler that a mark is.
 fn mark_handler(mark: &Mark) -> Option<Label>
     ensures { (l : ℕ) → is_handler_of l (MachOp.Mark mark.now) ≡ is_that_label result l }
@@ -119,7 +84,7 @@ impl Labels {
         ensures handlers { IfOk result (λ _. (l : ℕ) → handler_in self.new l ≡
             cond (is_handler_of l op.now) place (handler_in self.old l)) }
     {
-        if let Some(label) = own_label(op) {
+        if let Some(label) = op.own_label() {
             self.places.insert(label.0, place + 1)?;
         }
         if let Some(label) = own_handler(op) {

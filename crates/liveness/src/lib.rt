@@ -23,3 +23,4 @@ pub use flow::flow_of;
 pub use labels::Labels;
 pub use live_map::{LiveFlow, live, live_flow};
 pub use numbers::first_free;
+pub use written::numbers_of;

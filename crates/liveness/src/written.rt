@@ -13,7 +13,8 @@ use std::alloc::{AllocError, Global};
 fn is_temporary(register: u8) -> bool
     ensures { result ≡ is_temporary register }
 {
-    (Register::A0 as u8 <= register && register <= Register::A7 as u8) || Register::T3 as u8 <= register
+    (Register::A0 as u8 <= register && register <= Register::A7 as u8)
+        || Register::T3 as u8 <= register
 }
 
 fn register_is_destroyed(op: &MachOp, register: u8) -> bool

@@ -1,6 +1,25 @@
--- Where control goes on by a table of the places of labels, in Mach and in Linear.
+-- The labels of marks, and where control goes on by a table of the places of labels, in Mach and in
+-- Linear.
 use Rattle.std.specs.Prelude.{ℕ, suc, Bool, true, false, nat_eq, List, [], ◌∷◌, Option, Some, None}
 use Rattle.mach_ir.specs.Acts.{Target, On, At}
+use Rattle.mach_ir.specs.declared.mach.Mark.TheVariants as mark
+use Rattle.mach_ir.specs.declared.mach.MachOp.{MachOp}
+use Rattle.mach_ir.specs.declared.mach.MachOp.TheVariants as mach
+
+-- the label that is here
+abbrev pub label_of : MachOp → Option ℕ
+label_of (mach.Op f) = None
+label_of (mach.Mark (mark.Exit l n)) = None
+label_of (mach.Mark (mark.If t l)) = None
+label_of (mach.Mark (mark.Else l end)) = Some l
+label_of (mach.Mark (mark.Switch labels)) = None
+label_of (mach.Mark (mark.Case indexes l end)) = Some l
+label_of (mach.Mark mark.Catch) = None
+label_of (mach.Mark (mark.With l end)) = Some l
+label_of (mach.Mark (mark.Try l)) = None
+label_of (mach.Mark (mark.Leave l end)) = None
+label_of (mach.Mark (mark.Handler l)) = None
+label_of (mach.Mark (mark.End l)) = Some l
 
 -- whether it is this label
 abbrev pub is_that_label : Option ℕ → ℕ → Bool

@@ -6,6 +6,7 @@
 #![tactic(auto)]
 
 pub mod blocks;
+mod control;
 pub mod graph;
 pub mod label;
 mod lines;
@@ -16,6 +17,7 @@ pub mod reg;
 pub mod seq;
 
 pub use blocks::{Blocks, NewBlock};
+pub use control::places_after_op;
 pub use graph::{Colours, Graph, LiveMap, Node};
 pub use label::Label;
 pub use lines::text;

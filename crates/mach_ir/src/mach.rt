@@ -3,12 +3,16 @@
 //! The code of a function is one list in the order of the text. The structures of the text (if,
 //! switch, catch, try) are given by marks in it. A label is that of the place after the mark that
 //! has it first.
+ghost use Rattle.std.specs.Prelude.{◌≡◌, ◌↔◌, ℕ, [], ◌∷◌, IsTrue, IfOk};
+ghost use Rattle.mach_ir.specs.Labels.{label_of, is_that_label};
+ghost use Rattle.mach_ir.specs.Meaning.{Everything, Temporaries, destroyed_by, has_label};
 
 use crate::label::Label;
-use crate::op::{Calling, Op, Right};
+use crate::op::{Calling, CopyKind, Op, Pure, Right};
 use crate::reg::Reg;
 use crate::seq::Seq;
 use bs_words::{CmpOp, Name, Ret};
+use std::alloc::{AllocError, Global};
 
 /// What an `if` tests.
 #[derive(Clone, Copy, PartialEq, Eq, Debug)]
@@ -89,9 +93,46 @@ pub enum MachOp {
     Mark(Mark),
 }
 
+impl Mark {
+    /// The mark's own label, if it has one.
+    fn own_label(&self) -> Option<Label>
+        ensures is { result ≡ label_of (MachOp.Mark self.now) }
+        ensures has { (l : ℕ) → has_label l (MachOp.Mark self.now) ≡ is_that_label result l }
+    {
+        match self {
+            Mark::Exit { label: _, tries: _ } => None,
+            Mark::If {
+                test: _,
+                otherwise: _,
+            } => None,
+            Mark::Else { label, end: _ } => Some(*label),
+            Mark::Switch(_) => None,
+            Mark::Case {
+                indexes: _,
+                label,
+                end: _,
+            } => Some(*label),
+            Mark::Catch => None,
+            Mark::With { label, end: _ } => Some(*label),
+            Mark::Try { handler: _ } => None,
+            Mark::Leave { handler: _, end: _ } => None,
+            Mark::Handler { label: _ } => None,
+            Mark::End { label } => Some(*label),
+        }
+    }
+}
+
 impl MachOp {
-    ghost use Rattle.std.specs.Prelude.{◌↔◌, ◌≡◌, IsTrue};
-    ghost use Rattle.mach_ir.specs.Meaning.{Everything, Temporaries, destroyed_by};
+    /// Its own label, if it has one: that of the place after it.
+    pub fn own_label(&self) -> Option<Label>
+        ensures is { result ≡ label_of self.now }
+        ensures has { (l : ℕ) → has_label l self.now ≡ is_that_label result l }
+    {
+        match self {
+            MachOp::Op(_) => None,
+            MachOp::Mark(mark) => mark.own_label(),
+        }
+    }
 
     /// Whether it destroys every colour: a call or the entry of a handler.
     pub fn destroys_everything(&self) -> bool
@@ -131,6 +172,33 @@ pub struct Instr {
     pub op: MachOp,
     pub args: Seq<Reg>,
     pub results: Seq<Reg>,
+}
+
+fn only(alloc: Global, reg: Reg) -> Result<Seq<Reg>, AllocError>
+    ensures { IfOk result (λ regs. regs ≡ reg ∷ []) }
+{
+    let mut regs = Vec::new(alloc);
+    regs.push(reg)?;
+    Ok(Seq::from_vec(regs))
+}
+
+impl Instr {
+    /// The copy of this kind from the one register to the other. The only error is want of memory.
+    pub fn copy(alloc: Global, kind: CopyKind, from: Reg, to: Reg) -> Result<Instr, AllocError>
+        ensures { IfOk result (λ instr. instr ≡ record {
+          op = MachOp.Op (Op.Pure (Pure.Copy kind));
+          args = from ∷ [];
+          results = to ∷ [];
+        }) }
+    {
+        let args = only(alloc, from)?;
+        let results = only(alloc, to)?;
+        Ok(Instr {
+            op: MachOp::Op(Op::Pure(Pure::Copy(kind))),
+            args,
+            results,
+        })
+    }
 }
 
 /// One function.

@@ -1,12 +1,11 @@
 //! Fresh registers for operands and results in slots, and the copies between them.
-ghost use Rattle.std.specs.Prelude.{◌≡◌, ◌<◌, ◌++◌, ◌∷◌, [], IfOk};
+ghost use Rattle.std.specs.Prelude.{◌≡◌, ◌<◌, ◌++◌, IfOk};
 ghost use Rattle.mach_ir.specs.Sizes.{number_limit};
-ghost use Rattle.spill_rules.specs.Spilled.{copied};
 ghost use Rattle.reload_rules.specs.Reloaded.{is_copy, reads_registers, writes_registers, is_in_slot, is_renewed};
 ghost use Rattle.reload_rules.specs.Reloaded.{fresh, number_past, renewed, reloads, spills, any_renewed};
 
 use bs_words::Loc;
-use mach_ir::{CopyKind, Instr, MachOp, Mark, Op, Pure, Reg, Seq};
+use mach_ir::{CopyKind, Instr, MachOp, Mark, Op, Pure, Reg};
 use std::alloc::{AllocError, Global};
 
 /// Whether the operation is a move, a spill or a reload.
@@ -144,26 +143,6 @@ pub(crate) fn renewed(
     Ok(made)
 }
 
-fn just(alloc: Global, reg: Reg) -> Result<Seq<Reg>, AllocError>
-    ensures { IfOk result (λ regs. regs ≡ reg ∷ []) }
-{
-    let mut regs = Vec::new(alloc);
-    regs.push(reg)?;
-    Ok(Seq::from_vec(regs))
-}
-
-fn copy(alloc: Global, kind: CopyKind, from: Reg, to: Reg) -> Result<Instr, AllocError>
-    ensures { IfOk result (λ instr. instr ≡ copied kind from to) }
-{
-    let args = just(alloc, from)?;
-    let results = just(alloc, to)?;
-    Ok(Instr {
-        op: MachOp::Op(Op::Pure(Pure::Copy(kind))),
-        args,
-        results,
-    })
-}
-
 /// Puts the reloads of these operands after the code.
 pub(crate) fn push_reloads(
     alloc: Global,
@@ -179,7 +158,7 @@ pub(crate) fn push_reloads(
     let mut number = from;
     for reg in regs {
         if is_renewed(registers, *reg) {
-            code.push(copy(alloc, CopyKind::Reload, *reg, fresh(number, *reg))?)?;
+            code.push(Instr::copy(alloc, CopyKind::Reload, *reg, fresh(number, *reg))?)?;
             number += 1;
         }
     }
@@ -200,7 +179,7 @@ pub(crate) fn push_spills(
     let mut number = from;
     for reg in regs {
         if is_renewed(registers, *reg) {
-            code.push(copy(alloc, CopyKind::Spill, fresh(number, *reg), *reg)?)?;
+            code.push(Instr::copy(alloc, CopyKind::Spill, fresh(number, *reg), *reg)?)?;
             number += 1;
         }
     }

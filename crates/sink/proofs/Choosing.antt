@@ -8,6 +8,7 @@ use Rattle.bs_words.specs.Contents.{contents}
 use Rattle.bs_words.specs.declared.types.Loc.{Loc}
 use Rattle.bs_words.specs.declared.types.Loc.TheVariants as loc
 use Rattle.bs_words.proofs.Lists.{none_in, tail_same}
+use Rattle.dataflow.specs.Flow.{IsBare}
 use Rattle.dataflow.specs.Flow as flows
 use Rattle.dataflow.specs.Rows.{row}
 use Rattle.dataflow.specs.declared.flow.Flow as flow
@@ -33,7 +34,7 @@ use Rattle.sink_rules.specs.Chosen.{IsSunkAt}
 use Rattle.sink_rules.specs.Walks.{Fresh, Stale}
 use Rattle.sink.specs.Chosen.{is_call, some_call, has_call, move_at, all_moves, IsMove, AreMoves}
 use Rattle.sink.specs.Mixed.{noted_code}
-use Rattle.sink.specs.Graphs.{held, IsOver, IsBare, IsFreshNode}
+use Rattle.sink.specs.Graphs.{held, IsOver, IsFreshNode}
 use Rattle.sink.specs.Registers.{entered_code}
 use Rattle.sink.specs.Sights.{noted_places}
 use Rattle.sink.specs.Tables.{IsSolved}

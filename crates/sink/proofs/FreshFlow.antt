@@ -2,7 +2,7 @@
 use Rattle.std.proofs.Common.{◌≡◌, ℕ, ◌<◌, ◌≤◌, Bool, ◌⊎◌, ⊎_elim, List, ◌∷◌, length, drop, refl, sym, ◌∙◌, subst}
 use Rattle.std.specs.List.{All, Contains}
 use Rattle.bs_words.specs.Contents.{contents}
-use Rattle.dataflow.specs.Flow.{Graph, graph, IsPlace}
+use Rattle.dataflow.specs.Flow.{Graph, graph, IsPlace, IsBare}
 use Rattle.dataflow.specs.Flow as flows
 use Rattle.dataflow.specs.Reach.{ComesIn, ComesTo, IsReaching}
 use Rattle.dataflow.specs.declared.flow.Flow as flow
@@ -20,7 +20,7 @@ use Rattle.mach_laws.proofs.Places.{ending_next, stands_of, ending_of}
 use Rattle.mach_laws.proofs.Walking.{place_is, among_numbers, in_numbers, ending_place}
 use Rattle.liveness.proofs.Bounds.{no_items}
 use Rattle.sink_rules.specs.Walks.{Fresh, written, on, aside}
-use Rattle.sink.specs.Graphs.{LivesAt, IsBare, IsFreshNode, AreFreshNodes}
+use Rattle.sink.specs.Graphs.{LivesAt, IsFreshNode, AreFreshNodes}
 use Rattle.sink.specs.Tables.{AreFresh}
 use Rattle.sink.proofs.Held.{held_destroys}
 use Rattle.sink.proofs.Graph.{Where, inner, final, beyond, at, none_past, lead, of}

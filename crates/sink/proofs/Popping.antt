@@ -4,6 +4,7 @@ use Rattle.std.proofs.Math.Seq.{drop-length, drop-cons}
 use Rattle.std.proofs.lemmas.List.{length-append}
 use Rattle.std.specs.Prelude.{slice_index_or, option_to_list, IsSome, Option}
 use Rattle.bs_words.specs.Contents.{contents}
+use Rattle.dataflow.specs.Flow.{IsBare}
 use Rattle.dataflow.specs.declared.flow.Flow as flow
 use Rattle.dataflow.specs.declared.flow.Place as place
 use Rattle.mach_ir.specs.Meaning.{written}
@@ -11,7 +12,7 @@ use Rattle.mach_ir.specs.declared.mach.Instr.{Instr}
 use Rattle.mach_ir.specs.declared.mach.Mach.{Mach}
 use Rattle.mach_laws.specs.Graph.{place_of, numbers, next_places, raise_places, numbers_written, IsFlowOf}
 use Rattle.liveness.proofs.Lists.{place_next}
-use Rattle.sink.specs.Graphs.{IsEntry, IsBare, AreOver, IsStalePlace, IsStaleNode, AreStaleNodes, at_end, before, IsTurned, AreTurned, turned_end, turned_before}
+use Rattle.sink.specs.Graphs.{IsEntry, AreOver, IsStalePlace, IsStaleNode, AreStaleNodes, at_end, before, IsTurned, AreTurned, turned_end, turned_before}
 
 -- what is left of a list
 pub record Rest (all items : List place.Place) : Type 0 where

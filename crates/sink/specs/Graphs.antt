@@ -2,6 +2,7 @@
 use Rattle.std.specs.Prelude.{◌≡◌, ◌↔◌, ℕ, Bool, true, false, List, [], ◌∷◌, Contains}
 use Rattle.bs_bits.specs.Set.{has}
 use Rattle.bs_words.specs.Contents.{contents}
+use Rattle.dataflow.specs.Flow.{IsBare}
 use Rattle.dataflow.specs.Rows.{row}
 use Rattle.dataflow.specs.declared.flow.Place as place
 use Rattle.mach_ir.specs.Meaning.{written}
@@ -54,13 +55,6 @@ pub record IsEntry (m : Mach) (rows : List (List Bool)) (x : place.Place) : Type
   pub aside : contents x.aside ≡ []
   pub reads : AreLiving rows 0 (numbers m.params) (contents x.reads)
   pub writes : AreLiving rows 0 [] (contents x.writes)
-
--- a place that leads nowhere, and reads and writes nothing
-pub record IsBare (x : place.Place) : Type 0 where
-  pub next : contents x.next ≡ []
-  pub aside : contents x.aside ≡ []
-  pub reads : contents x.reads ≡ []
-  pub writes : contents x.writes ≡ []
 
 -- ---- nodes
 

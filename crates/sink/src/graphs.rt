@@ -1,14 +1,14 @@
 //! The graphs over which is solved what is stale and what is fresh.
-ghost use Rattle.std.specs.Prelude.{◌≡◌, ◌↔◌, ◌<◌, ◌∷◌, [], suc, length, IsTrue, IfOk};
+ghost use Rattle.std.specs.Prelude.{◌≡◌, ◌↔◌, ◌<◌, suc, length, IsTrue, IfOk};
 ghost use Rattle.std.specs.List.{Contains};
 ghost use Rattle.bs_words.specs.Contents.{contents};
-ghost use Rattle.mach_laws.specs.Graph.{numbers, IsFlowOf};
-ghost use Rattle.sink.specs.Graphs.{held, AreLiving, AreOver, IsEntry, IsStalePlace, AreStaleNodes, AreTurned, IsTurned, IsBare};
+ghost use Rattle.mach_laws.specs.Graph.{IsFlowOf};
+ghost use Rattle.sink.specs.Graphs.{held, AreLiving, AreOver, IsEntry, IsStalePlace, AreStaleNodes, AreTurned, IsTurned};
 
 use bs_words::List;
-use dataflow::{Flow, Place};
-use liveness::Backward;
-use mach_ir::{Calling, LiveMap, Mach, MachOp, Mark, Op, Reg};
+use dataflow::{Flow, Place, bare_place, one_place};
+use liveness::{Backward, numbers_of};
+use mach_ir::{Calling, LiveMap, Mach, MachOp, Mark, Op};
 use std::alloc::{AllocError, Global};
 
 /// Whether a register may live over it and is to be in a slot then: a call that returns, or the entry
@@ -26,17 +26,6 @@ pub fn is_held(op: &MachOp) -> bool
         MachOp::Mark(Mark::Handler { label: _ }) => true,
         MachOp::Mark(_) => false,
     }
-}
-
-/// The numbers of registers, in their order.
-fn numbers_of(alloc: Global, regs: &[Reg]) -> Result<Vec<u32>, AllocError>
-    ensures { IfOk result (λ found. found.items ≡ numbers regs.now) }
-{
-    let mut found = Vec::with_capacity(alloc, regs.len())?;
-    for reg in regs {
-        found.push(reg.number)?;
-    }
-    Ok(found)
 }
 
 /// Whether the number is one of these.
@@ -122,21 +111,13 @@ fn stale_place(
     })
 }
 
-fn just(alloc: Global, number: u32) -> Result<Vec<u32>, AllocError>
-    ensures { IfOk result (λ numbers. numbers.items ≡ number ∷ []) }
-{
-    let mut numbers = Vec::new(alloc);
-    numbers.push(number)?;
-    Ok(numbers)
-}
-
 /// The place after the last instruction stands for the entry: what the entry leaves unwritten comes from it
 /// to the first place. Nothing else passes it.
 fn entry_place(alloc: Global, mach: &Mach, live: &LiveMap) -> Result<Place, AllocError>
     requires { 0 < length live.now.before.rows.items }
     ensures { IfOk result (IsEntry mach.now live.now.before.rows.items) }
 {
-    let first = just(alloc, 0)?;
+    let first = one_place(alloc, 0)?;
     let params = numbers_of(alloc, mach.params.as_slice())?;
     let unwritten = living(alloc, live, 0, &params)?;
     let all = living(alloc, live, 0, &[])?;
@@ -193,18 +174,6 @@ pub fn stale_flow(
         places: List::from_vec(nodes),
         bound,
     })
-}
-
-/// A place that leads nowhere, reads nothing and writes nothing: the one after the last instruction.
-fn bare_place(alloc: Global) -> Place
-    ensures { IsBare result }
-{
-    Place {
-        next: List::new(alloc),
-        aside: List::new(alloc),
-        reads: List::new(alloc),
-        writes: List::new(alloc),
-    }
 }
 
 fn turned(place: Place) -> Place

@@ -1,32 +1,19 @@
 //! The function with its moves.
-ghost use Rattle.std.specs.Prelude.{◌≡◌, ◌++◌, ◌∷◌, [], IfOk};
+ghost use Rattle.std.specs.Prelude.{◌≡◌, ◌++◌, IfOk};
 ghost use Rattle.sink_rules.specs.Sunk.{to_itself};
 ghost use Rattle.sink.specs.Moves.{moves_before, instr_at, code_at};
 
 use crate::chosen::Move;
 use crate::runs::begins_at;
 use liveness::Backward;
-use mach_ir::{CopyKind, Instr, MachOp, Op, Pure, Reg, Seq};
+use mach_ir::{CopyKind, Instr, Reg, Seq};
 use std::alloc::{AllocError, Global};
-
-fn just(alloc: Global, reg: Reg) -> Result<Seq<Reg>, AllocError>
-    ensures { IfOk result (λ regs. regs ≡ reg ∷ []) }
-{
-    let mut regs = Vec::new(alloc);
-    regs.push(reg)?;
-    Ok(Seq::from_vec(regs))
-}
 
 fn to_itself(alloc: Global, reg: Reg) -> Result<Instr, AllocError>
     ensures { IfOk result (λ instr. instr ≡ to_itself reg) }
 {
-    let args = just(alloc, reg)?;
-    let results = just(alloc, reg)?;
-    Ok(Instr {
-        op: MachOp::Op(Op::Pure(Pure::Copy(CopyKind::Move))),
-        args,
-        results,
-    })
+    let made = Instr::copy(alloc, CopyKind::Move, reg, reg)?;
+    Ok(made)
 }
 
 /// The moves before the place.
@@ -40,17 +27,6 @@ fn moves_before(alloc: Global, moves: &[Move], place: usize) -> Result<Vec<Instr
         }
     }
     Ok(made)
-}
-
-/// Puts instructions before the others.
-fn push_all(made: &mut Backward<Instr>, instrs: Vec<Instr>) -> Result<(), AllocError>
-    ensures { IfOk result (λ _. made.new ≡ instrs.items ++ made.old) }
-{
-    let mut left = instrs;
-    while let Some(instr) = left.pop() {
-        made.push(instr)?;
-    }
-    Ok(())
 }
 
 /// Puts the instruction at the place before the others, with its moves: there are some only where a
@@ -68,7 +44,7 @@ fn push_instr(
     made.push(instr)?;
     if begins {
         let before = moves_before(alloc, moves, place)?;
-        push_all(made, before)?;
+        made.push_all(before)?;
     }
     Ok(())
 }

@@ -5,6 +5,7 @@ use Rattle.std.specs.List.{Contains}
 use Rattle.std.specs.Prelude.{slice_index_or}
 use Rattle.bs_words.specs.Contents.{contents}
 use Rattle.bs_words.proofs.Lists.{none_in}
+use Rattle.dataflow.specs.Flow.{IsBare}
 use Rattle.dataflow.specs.declared.flow.Flow as flow
 use Rattle.dataflow.specs.declared.flow.Place as place
 use Rattle.mach_ir.specs.Meaning.{Everything, destroyed_by, written}
@@ -13,7 +14,7 @@ use Rattle.mach_ir.specs.declared.mach.Mach.{Mach}
 use Rattle.mach_laws.specs.Graph.{place_of, numbers, next_places, raise_places, numbers_read, numbers_written, IsFlowOf}
 use Rattle.liveness.specs.Nodes.{IsNode}
 use Rattle.liveness.proofs.Lists.{place_here, place_next}
-use Rattle.spill.specs.Graphs.{IsBare, IsLivingOver, IsLostPlace, IsLostNode, AreLostNodes, at_end, before, reloaded_among, wanted_uses, IsWantedPlace}
+use Rattle.spill.specs.Graphs.{IsLivingOver, IsLostPlace, IsLostNode, AreLostNodes, at_end, before, reloaded_among, wanted_uses, IsWantedPlace}
 
 module _ (m : Mach) (old : flow.Flow) (is : IsFlowOf m old) where
   item_part : (part : place.Place → List ℕ) (xs : List place.Place) (p : ℕ) (x : place.Place) → p < length xs → x ≡ slice_index_or xs p x →

@@ -13,13 +13,6 @@ use Rattle.mach_laws.specs.Graph.{place_of, numbers, next_places, numbers_read, 
 use Rattle.liveness.specs.Nodes.{Uses}
 use Rattle.mach_ir.specs.Places.{is_open}
 
--- a place that leads nowhere, and reads and writes nothing
-pub record IsBare (x : place.Place) : Type 0 where
-  pub next : contents x.next ≡ []
-  pub aside : contents x.aside ≡ []
-  pub reads : contents x.reads ≡ []
-  pub writes : contents x.writes ≡ []
-
 -- ---- what is lost
 
 -- a number that is live at the place after an instruction, and not written there

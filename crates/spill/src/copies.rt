@@ -1,14 +1,13 @@
 //! The function with its stores and reloads.
-ghost use Rattle.std.specs.Prelude.{◌≡◌, ◌+◌, ◌<◌, ◌++◌, ◌^◌, [], ◌∷◌, suc, length, IfOk};
+ghost use Rattle.std.specs.Prelude.{◌≡◌, ◌+◌, ◌<◌, ◌++◌, ◌^◌, suc, length, IfOk};
 ghost use Rattle.mach_ir.specs.Sizes.{number_limit};
-ghost use Rattle.spill_rules.specs.Spilled.{copied};
 ghost use Rattle.spill.specs.Copies.{HaveSlots, CodeHasSlots, slot_of, reloads_at, spills_at, instr_at, code_at};
 
 use crate::tables::Tables;
 use crate::wanted::is_reloaded;
 use bs_words::Loc;
 use liveness::Backward;
-use mach_ir::{CopyKind, Instr, MachOp, Op, Pure, Reg, Seq};
+use mach_ir::{CopyKind, Instr, Reg, Seq};
 use std::alloc::{AllocError, Global};
 
 /// The register of the slot.
@@ -21,26 +20,6 @@ fn slot_of(free: u32, reg: Reg) -> Reg
         loc: Loc::Slot(reg.origin),
         ..reg
     }
-}
-
-fn just(alloc: Global, reg: Reg) -> Result<Seq<Reg>, AllocError>
-    ensures { IfOk result (λ regs. regs ≡ reg ∷ []) }
-{
-    let mut regs = Vec::new(alloc);
-    regs.push(reg)?;
-    Ok(Seq::from_vec(regs))
-}
-
-fn copy(alloc: Global, kind: CopyKind, from: Reg, to: Reg) -> Result<Instr, AllocError>
-    ensures { IfOk result (λ instr. instr ≡ copied kind from to) }
-{
-    let args = just(alloc, from)?;
-    let results = just(alloc, to)?;
-    Ok(Instr {
-        op: MachOp::Op(Op::Pure(Pure::Copy(kind))),
-        args,
-        results,
-    })
 }
 
 /// The reloads of these operands at the place.
@@ -57,7 +36,7 @@ fn reloads_at(
     for reg in args {
         if is_reloaded(&tables.lost, place, reg) {
             let slot = slot_of(tables.free, *reg);
-            made.push(copy(alloc, CopyKind::Reload, slot, *reg)?)?;
+            made.push(Instr::copy(alloc, CopyKind::Reload, slot, *reg)?)?;
         }
     }
     Ok(made)
@@ -77,21 +56,10 @@ fn spills_at(
     for reg in results {
         if tables.wanted.contains(place, reg.number) {
             let slot = slot_of(tables.free, *reg);
-            made.push(copy(alloc, CopyKind::Spill, *reg, slot)?)?;
+            made.push(Instr::copy(alloc, CopyKind::Spill, *reg, slot)?)?;
         }
     }
     Ok(made)
-}
-
-/// Puts instructions before the others.
-fn push_all(made: &mut Backward<Instr>, instrs: Vec<Instr>) -> Result<(), AllocError>
-    ensures { IfOk result (λ _. made.new ≡ instrs.items ++ made.old) }
-{
-    let mut left = instrs;
-    while let Some(instr) = left.pop() {
-        made.push(instr)?;
-    }
-    Ok(())
 }
 
 /// Puts the instruction at the place before the others, with its reloads and stores.
@@ -109,9 +77,9 @@ fn push_instr(
 {
     let reloads = reloads_at(alloc, tables, place, instr.args.as_slice())?;
     let spills = spills_at(alloc, tables, place + 1, instr.results.as_slice())?;
-    push_all(made, spills)?;
+    made.push_all(spills)?;
     made.push(instr)?;
-    push_all(made, reloads)
+    made.push_all(reloads)
 }
 
 /// The code with its stores and reloads.

@@ -8,7 +8,6 @@
 mod copies;
 mod lists;
 mod lost;
-mod places;
 mod spilling;
 mod tables;
 mod wanted;

@@ -7,9 +7,8 @@ ghost use Rattle.spill.specs.Graphs.{LivesAt, AreLivingOver, AreMade, IsLostPlac
 ghost use Rattle.spill.specs.Tables.{AreLost};
 
 use crate::lists::{copy_of, is_among, joined};
-use crate::places::bare_place;
 use bs_words::List;
-use dataflow::{Flow, Place, Rows, reaching};
+use dataflow::{Flow, Place, Rows, bare_place, reaching};
 use liveness::Backward;
 use mach_ir::{LiveMap, Mach, MachOp};
 use std::alloc::{AllocError, Global};

@@ -11,9 +11,8 @@ ghost use Rattle.spill.specs.Tables.{AreLost, AreWanted};
 ghost use Rattle.mach_ir.specs.Places.{is_open};
 
 use crate::lists::copy_of;
-use crate::places::bare_place;
 use bs_words::List;
-use dataflow::{Flow, Place, Rows, live};
+use dataflow::{Flow, Place, Rows, bare_place, live};
 use liveness::Backward;
 use mach_ir::{Mach, Reg};
 use std::alloc::{AllocError, Global};
