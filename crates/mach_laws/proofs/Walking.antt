@@ -4,7 +4,7 @@ use Rattle.std.proofs.lemmas.List.{length-drop}
 use Rattle.std.specs.List.{Contains}
 use Rattle.mach_ir.specs.Acts.{Target, On, At}
 use Rattle.mach_ir.specs.Meaning.{code_at, from_handler}
-use Rattle.mach_ir.specs.Walks.{Among, first, later, OneOf, this, other}
+use Rattle.mach_ir.specs.Walks.{Among, first, later, OneOf, this, other, Live, on, aside, LiveAcross, across_step, across_raise}
 use Rattle.mach_ir.specs.declared.reg.Reg.{Reg}
 use Rattle.mach_ir.specs.declared.mach.Instr.{Instr}
 use Rattle.mach_ir.specs.declared.mach.Mach.{Mach}
@@ -39,6 +39,12 @@ ending_drop (suc p) (i ∷ is) = more (ending_drop p is)
 pub ending_at : {i : Instr} {next code : List Instr} (t : Target) → Ending (i ∷ next) code → Ending (code_at code next t) code
 ending_at On e = ending_next e
 ending_at {code = code} (At l) e = ending_label l code
+
+-- ---- what is live
+
+pub across_live : {m : Mach} {n : ℕ} {i : Instr} {next : List Instr} → LiveAcross m n i next → Live m n (i ∷ next)
+across_live (across_step w l v) = on w l v
+across_live (across_raise r v) = aside r v
 
 -- ---- numbers of registers
 

@@ -10,7 +10,7 @@ use Rattle.mach_ir.specs.Keeps.{Keeps, IsLoose, is_slot, HasOrigin, NamesSymbol,
 use Rattle.mach_ir.specs.Meaning.{after_label, from_handler, code_at, passes_frame, tries_at}
 use Rattle.mach_ir.specs.Placed.{WellPlaced}
 use Rattle.mach_ir.specs.Sizes.{Size, HasSize}
-use Rattle.mach_ir.specs.Walks.{OneOf, this, other, targets, may_raise, goes, raises, Reached, at_entry, by_step, by_raise, LiveAcross, across_step, across_raise, Live, on, aside, IsRegister, NoAddrLive}
+use Rattle.mach_ir.specs.Walks.{OneOf, this, other, targets, may_raise, goes, raises, Reached, at_entry, by_step, by_raise, LiveAcross, IsRegister, NoAddrLive}
 use Rattle.mach_ir.specs.declared.op.CopyKind.{CopyKind}
 use Rattle.mach_ir.specs.declared.reg.Reg.{Reg}
 use Rattle.mach_ir.specs.declared.mach.MachOp.{MachOp}
@@ -18,6 +18,7 @@ use Rattle.mach_ir.specs.declared.mach.Instr.{Instr}
 use Rattle.mach_ir.specs.declared.mach.Mach.{Mach}
 use Rattle.mach_laws.specs.Expand.{expand, Ending, all}
 use Rattle.mach_laws.proofs.Places.{label_expand, handler_expand, ending_label, ending_from_handler, contains_of}
+use Rattle.mach_laws.proofs.Walking.{across_live}
 use Rattle.pass_rules.specs.Measures.{other_operands}
 use Rattle.places_rules.specs.Places.{IsSlot}
 use Rattle.places_rules.proofs.Open.{slot_open}
@@ -188,10 +189,6 @@ module _ (m : Mach) (s : ℕ → ℕ) (free top : ℕ) (formed : WellFormed m) (
   frame_main z (passes_result {i = i} {next = next} {n = n} {rs = rs} k e h) r t = frame_main (Storing i next n rs) h r t
   frame_main z (ends {i = i} {next = next} h) r t = frame_main (Before next) h r t
 
-  live_of : {n : ℕ} {i : Instr} {next : List Instr} → LiveAcross m n i next → Live m n (i ∷ next)
-  live_of (across_step w l v) = on w l v
-  live_of (across_raise r v) = aside r v
-
   pub reloaded_no_addr : NoAddrLive m → NoAddrLive (reloaded_by s m)
   reloaded_no_addr none =
       record {
@@ -200,7 +197,7 @@ module _ (m : Mach) (s : ℕ → ℕ) (free top : ℕ) (formed : WellFormed m) (
             let p = frame_main k.stage k.laid k.reached frame in
             let x = across_back m s free top formed placed is p.instr p.next p.ending p.laid
             (subst (λ j. LiveAcross q r.number j ys) (sym p.same) v) in
-            let u = live_register m (live_of x) p.ending in
+            let u = live_register m (across_live x) p.ending in
             none.none p.instr p.next p.reached (subst (λ (j : Instr). passes_frame j.op ≡ true) (sym p.same) frame) r
             (old_register m s free top formed placed is r u.0 one u.1 u.2) addr x;
       }

@@ -11,7 +11,7 @@ use Rattle.mach_ir.specs.Keeps.{Keeps, IsLoose, is_open, HasSlot, NamesSymbol, N
 use Rattle.mach_ir.specs.Meaning.{after_label, from_handler, code_at, passes_frame, tries_at}
 use Rattle.mach_ir.specs.Placed.{WellPlaced}
 use Rattle.mach_ir.specs.Sizes.{operand_count, Size, HasSize}
-use Rattle.mach_ir.specs.Walks.{OneOf, this, other, targets, may_raise, goes, raises, Reached, at_entry, by_step, by_raise, LiveAcross, across_step, across_raise, Live, on, aside, IsRegister, NoAddrLive}
+use Rattle.mach_ir.specs.Walks.{OneOf, this, other, targets, may_raise, goes, raises, Reached, at_entry, by_step, by_raise, LiveAcross, IsRegister, NoAddrLive}
 use Rattle.mach_ir.specs.declared.op.CopyKind.{CopyKind}
 use Rattle.mach_ir.specs.declared.op.CopyKind.TheVariants as copy
 use Rattle.mach_ir.specs.declared.reg.Reg.{Reg}
@@ -21,6 +21,7 @@ use Rattle.mach_ir.specs.declared.mach.Mach.{Mach}
 use Rattle.mach_laws.specs.Expand.{expand, Ending, all}
 use Rattle.mach_laws.proofs.Grows.{held, instrs_expand, operands_expand, operands_append}
 use Rattle.mach_laws.proofs.Places.{label_expand, handler_expand, ending_label, ending_from_handler}
+use Rattle.mach_laws.proofs.Walking.{across_live}
 use Rattle.liveness.proofs.Bounds.{split_in}
 use Rattle.spill_rules.specs.Spilled.{Plan, in_slot, copied, reload, spill, reloads_of, spills_of, has_operands, has_results, operands_of, results_of, spilled_instr, spilled, IsPlan}
 use Rattle.spill_rules.proofs.Kept.{Which, own, slotted, WasRegister, was_register, origin_of, comp_of, slots_apart, does_spilled}
@@ -171,16 +172,12 @@ module _ (m : Mach) (plan : Plan) (formed : WellFormed m) (placed : WellPlaced m
   frame_main s (passes_result {i = i} {next = next} {rs = rs} k e h) r t = frame_main (Storing i next rs) h r t
   frame_main s (ends {i = i} {next = next} h) r t = frame_main (Before next) h r t
 
-  live_of : {n : ℕ} {i : Instr} {next : List Instr} → LiveAcross m n i next → Live m n (i ∷ next)
-  live_of (across_step w l v) = on w l v
-  live_of (across_raise r v) = aside r v
-
   across_register : (r w : Reg) → IsRegister m w → Which m plan formed placed is w r → (i : Instr) (next : List Instr) →
       Ending (i ∷ next) m.code → WasAcross m plan formed placed is r.number i next → LiveAcross m w.number i next
   across_register r w among (own e) i next ending (itself_across v) =
       subst (λ n. LiveAcross m n i next) (sym (ap (λ (x : Reg). x.number) e)) v
   across_register r w among (slotted e) i next ending (itself_across v) =
-      let u = live_register m (live_of v) ending in
+      let u = live_register m (across_live v) ending in
       absurd (is.fresh u.0 u.1 w.number (ap (λ (x : Reg). x.number) e ∙ sym u.2))
   across_register r w among (own e) i next ending (stored_across n s v k) =
       absurd (is.fresh w among n (s ∙ sym (ap (λ (x : Reg). x.number) e)))
