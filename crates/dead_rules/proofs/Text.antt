@@ -8,7 +8,7 @@ use Rattle.bs_words.specs.declared.values.Value.{Value}
 use Rattle.bs_words.specs.declared.values.Value.TheVariants as value
 use Rattle.cmm_meaning.specs.Setting.{Setting}
 use Rattle.mach_ir.specs.Acts.{Around, On, Act, Goes, Stuck, pure_act, one_result, if_known}
-use Rattle.mach_ir.specs.Formed.{labels_in, labels_of, leaves}
+use Rattle.mach_ir.specs.Formed.{labels_in, leaves}
 use Rattle.mach_ir.specs.Meaning.{has_label, is_handler_of, destroyed_by, killed_by, mach_act, passes_frame, tries_past}
 use Rattle.mach_ir.specs.Placed.{is_straight}
 use Rattle.mach_ir.specs.Walks.{OneOf, this, other, targets, may_raise}
@@ -21,6 +21,7 @@ use Rattle.mach_ir.specs.declared.mach.MachOp.{MachOp}
 use Rattle.mach_ir.specs.declared.mach.MachOp.TheVariants as mach
 use Rattle.mach_ir.specs.declared.mach.Instr.{Instr}
 use Rattle.mach_laws.specs.Expand.{expand, KeepsMarks, NoLabel, no_label, not_labelled, NoHandler, no_handler, not_handled, bounds_try, NoBound, no_bound, not_bound}
+use Rattle.mach_laws.proofs.InPlace.{same_head}
 use Rattle.dead_rules.specs.Dropped.{may_go, without}
 
 -- ---- what may go
@@ -125,15 +126,6 @@ pure_labels i is p = by i.op i.args i.results p
     by : (g : MachOp) (args results : List Reg) → IsPure g →
         labels_in (record { op = g; args = args; results = results } ∷ is) ≡ labels_in is
     by g args results is_pure = refl
-
-pub same_head : (i : Instr) (xs ys : List Instr) → labels_in xs ≡ labels_in ys → labels_in (i ∷ xs) ≡ labels_in (i ∷ ys)
-same_head i xs ys e = by i.op i.args i.results
-  where
-    by : (g : MachOp) (args results : List Reg) →
-        labels_in (record { op = g; args = args; results = results } ∷ xs)
-        ≡ labels_in (record { op = g; args = args; results = results } ∷ ys)
-    by (mach.Op g) args results = e
-    by (mach.Mark g) args results = ap (λ ls. labels_of g ++ ls) e
 
 module _ (drops : ℕ → Bool) where
   abbrev pub f : ℕ → Instr → List Instr

@@ -6,7 +6,7 @@ use Rattle.std.specs.List.{Contains}
 use Rattle.bs_words.specs.declared.types.Loc.{Loc}
 use Rattle.bs_words.specs.declared.types.Loc.TheVariants as loc
 use Rattle.mach_ir.specs.Acts.{Landing, AtLabel, AtHandler}
-use Rattle.mach_ir.specs.Formed.{IsFormed, WellFormed}
+use Rattle.mach_ir.specs.Formed.{IsFormed, WellFormed, HasPlace, place_below, HasHandler, handler_below}
 use Rattle.mach_ir.specs.Meaning.{has_label, is_handler_of, after_label, from_handler, at_handler, landing_code, tries_at, tries_past}
 use Rattle.mach_ir.specs.declared.mach.Mark.TheVariants as mark
 use Rattle.mach_ir.specs.declared.mach.MachOp.{MachOp}
@@ -169,6 +169,16 @@ stands_in [] i c = absurd (none_in i c)
 stands_in (j ∷ is) i c =
     ⊎_elim (λ e. (is, subst (λ (i : Instr). Stands i is (j ∷ is)) e here)) (λ d. let s = stands_in is i d in (s.0, below s.1))
     (in_cons j i is c)
+
+-- ---- what stands behind other code
+
+pub place_behind : {l : ℕ} (xs ys : List Instr) → HasPlace l ys → HasPlace l (xs ++ ys)
+place_behind [] ys h = h
+place_behind (x ∷ xs) ys h = place_below (place_behind xs ys h)
+
+pub handler_behind : {l : ℕ} (xs ys : List Instr) → HasHandler l ys → HasHandler l (xs ++ ys)
+handler_behind [] ys h = h
+handler_behind (x ∷ xs) ys h = handler_below (handler_behind xs ys h)
 
 -- ---- straight code
 

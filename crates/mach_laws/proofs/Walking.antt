@@ -40,6 +40,11 @@ pub ending_at : {i : Instr} {next code : List Instr} (t : Target) → Ending (i 
 ending_at On e = ending_next e
 ending_at {code = code} (At l) e = ending_label l code
 
+-- what only goes on
+pub only_on : (t : Target) → OneOf t (On ∷ []) → t ≡ On
+only_on t this = refl
+only_on t (other o) = elim o [ ]
+
 -- ---- what is live
 
 pub across_live : {m : Mach} {n : ℕ} {i : Instr} {next : List Instr} → LiveAcross m n i next → Live m n (i ∷ next)

@@ -8,7 +8,7 @@ use Rattle.mach_ir.specs.Acts.{Target, On, At}
 use Rattle.mach_ir.specs.Formed.{WellFormed}
 use Rattle.mach_ir.specs.Meaning.{after_label, from_handler, code_at, tries_at, tries_past, destroyed_by, killed}
 use Rattle.mach_ir.specs.Placed.{WellPlaced}
-use Rattle.mach_ir.specs.Walks.{Among, first, later, OneOf, this, other, targets, may_raise, goes, raises, Writes, Live, read, on, aside, LiveAcross, across_step, across_raise, Stands, IsRegister}
+use Rattle.mach_ir.specs.Walks.{Among, first, later, OneOf, targets, may_raise, goes, raises, Writes, Live, read, on, aside, LiveAcross, across_step, across_raise, Stands, IsRegister}
 use Rattle.mach_ir.specs.declared.op.CopyKind.TheVariants as copy
 use Rattle.mach_ir.specs.declared.reg.Reg.{Reg}
 use Rattle.mach_ir.specs.declared.mach.Instr.{Instr}
@@ -17,6 +17,7 @@ use Rattle.mach_laws.specs.Expand.{expand, Ending}
 use Rattle.mach_laws.proofs.Places.{label_expand, handler_expand, ending_next, ending_label, ending_from_handler, form_of}
 use Rattle.mach_laws.proofs.Among.{left_among, right_among, split_among, number_among, among_of}
 use Rattle.mach_laws.proofs.Raised.{label_silent}
+use Rattle.mach_laws.proofs.Walking.{only_on}
 use Rattle.spill_rules.specs.Spilled.{copied}
 use Rattle.bs_words.proofs.Lists.{none_in, in_cons}
 use Rattle.reload_rules.specs.Reloaded.{reads_registers, writes_registers, is_renewed, fresh, number_after, number_past, reloads, spills, results_from, past_instr, renewed_instr}
@@ -252,10 +253,6 @@ module _ (m : Mach) (s : ℕ → ℕ) (free top : ℕ) (formed : WellFormed m) (
   -- where a copy goes on, and where an instruction does
   abbrev Onward : ℕ → List Instr → Target → Type 0
   Onward x ys t = (z : Stage) → Laid z (code_at q.code ys t) → Says x z
-
-  only_on : (t : Target) → OneOf t (On ∷ []) → t ≡ On
-  only_on t this = refl
-  only_on t (other o) = elim o [ ]
 
   at_label : (l : ℕ) → Laid (Before (after_label l m.code)) (after_label l q.code)
   at_label l =

@@ -24,6 +24,7 @@ use Rattle.places_rules.specs.Places.{IsSlot}
 use Rattle.places_rules.proofs.Open.{slot_open}
 use Rattle.spill_rules.specs.Spilled.{copied}
 use Rattle.spill_rules.proofs.Holding.{live_register}
+use Rattle.spill_rules.proofs.Text.{copy_no_symbol, copy_no_external}
 use Rattle.reload_rules.specs.Kept.{with_copies}
 use Rattle.reload_rules.specs.Reloaded.{reads_registers, writes_registers, is_in_slot, is_renewed, fresh, number_after, renewed, any_renewed, needs_registers, any_needs}
 use Rattle.reload_rules.proofs.Copies.{code_instrs, code_operands}
@@ -90,12 +91,6 @@ module _ (m : Mach) (s : ℕ → ℕ) (free top : ℕ) (formed : WellFormed m) (
     where
       of_copy : IsCopy m s free top formed placed is n.instr → ⊥
       of_copy (is_copy kind from to e) = none kind from to (subst (λ (i : Instr). Named i.op) (sym e) n.named)
-
-  no_symbol : (name : List ℕ) (kind : CopyKind) (from to : Reg) → NamesSymbol name (copied kind from to).op → ⊥
-  no_symbol name kind from to n = elim n [ ]
-
-  no_external : (row : _) (kind : CopyKind) (from to : Reg) → NamesExternal row (copied kind from to).op → ⊥
-  no_external row kind from to n = elim n [ ]
 
   -- ---- places that are reached
 
@@ -216,8 +211,8 @@ module _ (m : Mach) (s : ℕ → ℕ) (free top : ℕ) (formed : WellFormed m) (
         does = does_reloaded m s free top formed placed is;
         origins = λ r i l. origin r l (old r i);
         slots = λ r k i e. inl (record { register = r; among = slot_before r k e (old r i); stands = e; same = refl });
-        symbols = λ name n. named_before (NamesSymbol name) (no_symbol name) n;
-        externals = λ row n. named_before (NamesExternal row) (no_external row) n;
+        symbols = λ name n. named_before (NamesSymbol name) (copy_no_symbol name) n;
+        externals = λ row n. named_before (NamesExternal row) (copy_no_external row) n;
         addrs = reloaded_no_addr;
       }
     where

@@ -6,7 +6,7 @@ use Rattle.mach_ir.specs.Acts.{Target, On, At}
 use Rattle.mach_ir.specs.Formed.{WellFormed}
 use Rattle.mach_ir.specs.Meaning.{after_label, from_handler, code_at, tries_at, tries_past, killed}
 use Rattle.mach_ir.specs.Placed.{WellPlaced}
-use Rattle.mach_ir.specs.Walks.{Among, first, later, OneOf, this, other, targets, may_raise, goes, raises, Writes, Live, read, on, aside, LiveAcross, across_step, across_raise, is_colour}
+use Rattle.mach_ir.specs.Walks.{Among, first, later, OneOf, targets, may_raise, goes, raises, Writes, Live, read, on, aside, LiveAcross, across_step, across_raise, is_colour}
 use Rattle.mach_ir.specs.declared.reg.Reg.{Reg}
 use Rattle.mach_ir.specs.declared.mach.Instr.{Instr}
 use Rattle.mach_ir.specs.declared.mach.Mach.{Mach}
@@ -14,6 +14,7 @@ use Rattle.mach_laws.specs.Expand.{expand, Ending}
 use Rattle.mach_laws.proofs.Places.{label_expand, handler_expand, ending_next, ending_label, ending_from_handler, stands_of, form_of}
 use Rattle.mach_laws.proofs.Among.{left_among, split_among, number_among, among_of}
 use Rattle.mach_laws.proofs.Raised.{label_silent}
+use Rattle.mach_laws.proofs.Walking.{only_on}
 use Rattle.liveness.proofs.Bounds.{killed_is_colour}
 use Rattle.split_rules.proofs.Whole.{fixed_colours}
 use Rattle.split_rules.specs.Writes.{Comes, from_write, past, past_raise}
@@ -173,10 +174,6 @@ module _ (m : Mach) (plan : Plan) (formed : WellFormed m) (placed : WellPlaced m
   -- where a copy goes on, and where an instruction does
   abbrev Onward : ℕ → List Instr → Target → Type 0
   Onward x ys t = (s : Stage) → Laid s (code_at q.code ys t) → Says x s
-
-  only_on : (t : Target) → OneOf t (On ∷ []) → t ≡ On
-  only_on t this = refl
-  only_on t (other o) = elim o [ ]
 
   on_case : {x : ℕ} {j : Instr} {ys : List Instr} (s : Stage) (t : Target) → Laid s (j ∷ ys) → (Writes q j x → ⊥) → OneOf t (targets j.op) →
       Onward x ys t → Says x s

@@ -26,7 +26,7 @@ use Rattle.liveness.proofs.Bounds.{split_in}
 use Rattle.spill_rules.specs.Spilled.{Plan, in_slot, copied, reload, spill, reloads_of, spills_of, has_operands, has_results, operands_of, results_of, spilled_instr, spilled, IsPlan}
 use Rattle.spill_rules.proofs.Kept.{Which, own, slotted, WasRegister, was_register, origin_of, comp_of, slots_apart, does_spilled}
 use Rattle.spill_rules.proofs.Live.{Stage, Before, Reading, Storing, Laid, begins, reloads, passes_operand, main, spills, passes_result, ends, laid_of, laid_tries, WasAcross, itself_across, stored_across, across_back}
-use Rattle.spill_rules.proofs.Text.{keeps_marks}
+use Rattle.spill_rules.proofs.Text.{keeps_marks, copy_no_symbol, copy_no_external}
 use Rattle.spill_rules.proofs.Holding.{live_register}
 use Rattle.bs_words.proofs.Places.{same_slot}
 
@@ -82,12 +82,6 @@ module _ (m : Mach) (plan : Plan) (formed : WellFormed m) (placed : WellPlaced m
 
     named_before : IsNamedIn Named q → IsNamedIn Named m
     named_before n = record { instr = n.instr; among = named_in m.code n.instr n.among n.named; named = n.named }
-
-  no_symbol : (name : List ℕ) (kind : CopyKind) (from to : Reg) → NamesSymbol name (copied kind from to).op → ⊥
-  no_symbol name kind from to n = elim n [ ]
-
-  no_external : (row : _) (kind : CopyKind) (from to : Reg) → NamesExternal row (copied kind from to).op → ⊥
-  no_external row kind from to n = elim n [ ]
 
   -- ---- places that are reached
 
@@ -231,8 +225,8 @@ module _ (m : Mach) (plan : Plan) (formed : WellFormed m) (placed : WellPlaced m
               same = origin_of m plan formed placed is w.which;
             };
         slots = λ r k i s. let w = old r i in slot_of r w.register k w.among w.which s;
-        symbols = λ name n. named_before (NamesSymbol name) (no_symbol name) n;
-        externals = λ row n. named_before (NamesExternal row) (no_external row) n;
+        symbols = λ name n. named_before (NamesSymbol name) (copy_no_symbol name) n;
+        externals = λ row n. named_before (NamesExternal row) (copy_no_external row) n;
         addrs = no_addr;
       }
 
