@@ -352,9 +352,6 @@ module _ (number : ℕ → ℕ) (slots : ℕ) (p : Mach) (well : WellFormed p) (
   leaves_none (exit_to h same u) r = absurd (true≢false (sym r))
   leaves_none (jump_to h same u) r = absurd (true≢false (sym r))
 
-  flow_same : (f : Flow) → lin.Flow f ≡ lin.Flow flow.PopTrap → f ≡ flow.PopTrap
-  flow_same f e = cc
-
   line_not_pop : {g : MachOp} {f : LinOp} → AsLine g f → f ≡ lin.Flow flow.PopTrap → ⊥
   line_not_pop (op_line {f = h}) e = out h e
     where
