@@ -14,12 +14,11 @@ use Rattle.cmm_types.specs.Light.{is_light_address}
 use Rattle.cmm_types.specs.Types.{type_of}
 use Rattle.cmm_meaning.specs.Evaluation.{is_left_first}
 use Rattle.mach_ir.specs.declared.mach.Instr.{Instr}
-use Rattle.mach_ir.specs.declared.mach.Mark.{Mark}
 use Rattle.mach_ir.specs.declared.mach.Test.{Test}
 use Rattle.mach_ir.specs.declared.op.Right.{Right}
 use Rattle.mach_ir.specs.declared.op.Right.TheVariants as right
 use Rattle.mach_ir.specs.declared.reg.Reg.{Reg}
-use Rattle.selection_rules.specs.Instructions.{bare, right_regs}
+use Rattle.selection_rules.specs.Instructions.{right_regs}
 use Rattle.selection_rules.specs.Select.{Code, Shape, InRegisters, ConstantRight, ConstantLeft, PowerRight, shape_of, shape_op, shape_right, shape_args, unless_left, unless_right, power_code, operator_code, Named, Label, scopes, reg_of, label_of, move_from, move_to, moves_all, exit_to, ordered, only_when, seat, result_seat, from_seat, symbol_of, unless_symbol, right_of, unless_constant, bound_test, comparison, tested, select_test, is_based, base_of, select_base, call_of, callee_regs, inner_dest, inner_valued, regs_of, count_of, count_cases, width, width_bound, width_labels, bound_name, env_after, raised_name, select, select_waiting, select_filled, select_bound, select_seq, select_cases, select_handlers, deeper, unless_bare, in_handlers, labels_from, cell_stores, params_from, with_params, fresh, seats, returns}
 use Rattle.selection_places.proofs.Sets.{Role, Plain, New, Seated, left, right as in_right, it, Listed}
 use Rattle.selection_places.proofs.Owned.{dropped, kept, kept_of, Either, LabelsOwn, Own, BaseOwn, RowOwn, BoundOwn, SeqOwn, CasesOwn, HandlersOwn}
@@ -144,10 +143,6 @@ module _ (Q : Role → Reg → Type 0) where
       bound_env (bound_name env b name declared e ∷ env) (suc (b + width e)) rest (λ t r i. own t r (in_right (in_right i)))
       (named (own Plain _ (left (it refl refl))) fine)
 
-  handler_params : (b : ℕ) (at : ℕ) (label : LabelTree) (params : List Parameter) (body : Expression) (rest : Handlers) → Within
-      (LabelsOwn b (Handle at label params body rest)) → Each (Q Plain) (params_from (suc b) params)
-  handler_params b at label params body rest own = listed Plain (params_from (suc b) params) (λ t r i. own t r (left i))
-
   -- ---- pieces
 
   codes_from : {o : Option Reg} {d : Reg} → RegFine o → Q Plain d → Codes (move_from o d)
@@ -157,9 +152,6 @@ module _ (Q : Role → Reg → Type 0) where
   codes_to : {o : Option Reg} {a : Reg} → Q Plain a → RegFine o → Codes (move_to a o)
   codes_to q no_reg P next z = z
   codes_to q (a_reg d) P next z = plain (a_plain q) (one d none) refl z
-
-  codes_bare : (f : Mark) → Codes (λ next. bare f ∷ next)
-  codes_bare f P next z = plain none none refl z
 
   codes_moves : {from to : List Reg} → Each (Q Plain) from → Each (Q Plain) to → Codes (moves_all from to)
   codes_moves none to P next z = z

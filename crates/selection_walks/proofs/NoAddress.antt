@@ -182,12 +182,6 @@ end_bound {m} {n} {k} {next} rs y = by (leaves refl refl y)
     by : Leaving m n k (emit.give_back rs) next Bound → ⊥
     by (flew_off mr t z) = true≢false (sym mr)
 
-end_early : {m : Mach} {n k : ℕ} {next : List Instr} (rs : List Reg) → Ahead m n k Early (emit.give_back rs ∷ next) → ⊥
-end_early {m} {n} {k} {next} rs y = by (leaves refl refl y)
-  where
-    by : Leaving m n k (emit.give_back rs) next Early → ⊥
-    by (flew_off mr t z) = true≢false (sym mr)
-
 module _ (m : Mach) (n : ℕ) where
   no_outs : {k : ℕ} {w : Option ℕ} → OutsOf m n k w [] [] []
   no_outs = record { raised = untried; exits = λ label t e. absurd (nowhere t e) }
