@@ -20,7 +20,7 @@ use Rattle.mach_ir.specs.declared.mach.Mach.{Mach}
 use Rattle.mach_laws.specs.Expand.{Ending}
 use Rattle.mach_laws.specs.Graph.{place_of, numbers, next_places, raise_places, numbers_read, numbers_written, IsFlowOf}
 use Rattle.mach_laws.proofs.Places.{ending_from_handler}
-use Rattle.mach_laws.proofs.Walking.{in_numbers, ending_at, place_is, place_at, place_within, ending_place, target_of, in_targets, handler_of, in_handlers}
+use Rattle.mach_laws.proofs.Walking.{in_numbers, ending_at, place_is, place_at, place_within, ending_place, target_of, in_targets, handler_of, in_handlers, ending_leads, ending_raises}
 use Rattle.liveness.proofs.Bounds.{no_items}
 
 pub each : {A : Type 0} (P : A → Type 0) (xs : List A) → ((y : A) → Contains xs y → P y) → All P xs
@@ -106,12 +106,6 @@ module _ (m : Mach) where
   pub raises_to : {i : Instr} {next to : List Instr} → Raises m i next to → Contains (raise_places m (i ∷ next)) (place_of m to)
   raises_to {i} {next} (raises {l = l} {tries = tries} b e) = in_handlers m (may_raise i.op) (tries_at (i ∷ next)) l tries b e
 
-  pub leads_ending : {i : Instr} {next to : List Instr} → Ending (i ∷ next) m.code → Leads m i next to → Ending to m.code
-  leads_ending e (goes t o) = ending_at t e
-
-  pub raise_ending : {i : Instr} {next to : List Instr} → Raises m i next to → Ending to m.code
-  raise_ending (raises {l = l} b e) = ending_from_handler l m.code
-
   -- ---- the graph of liveness
 
   module _ (f : flow.Flow) (is : IsFlowOf m f) (formed : flows.WellFormed f) where
@@ -153,5 +147,5 @@ module _ (m : Mach) where
     live_small {n} (read {i = i} {next = next} a) e =
         let p = place_of m (i ∷ next) in
         All-contains (λ n. n < f.bound) (numbers i.args) n (subst (λ rest. IsSmall (numbers_read rest)) (place_is m e) (reads_small p)) (in_numbers a)
-    live_small (on w l v) e = live_small v (leads_ending e l)
-    live_small (aside r v) e = live_small v (raise_ending r)
+    live_small (on w l v) e = live_small v (ending_leads l e)
+    live_small (aside r v) e = live_small v (ending_raises r)

@@ -9,11 +9,11 @@ use Rattle.mach_ir.specs.declared.reg.Reg.{Reg}
 use Rattle.mach_ir.specs.declared.mach.Instr.{Instr}
 use Rattle.mach_ir.specs.declared.mach.Mach.{Mach}
 use Rattle.mach_laws.specs.Expand.{Ending, all, more}
+use Rattle.mach_laws.proofs.Walking.{ending_leads, ending_raises}
 use Rattle.liveness.proofs.Bounds.{split_in}
 use Rattle.bs_words.proofs.Lists.{none_in, first_in, later_in, in_cons}
 use Rattle.sink.specs.Registers.{entered, entered_code}
 use Rattle.sink.proofs.Seeing.{length_set, at_set, off_set, same_or}
-use Rattle.liveness.proofs.Steps.{leads_ending, raise_ending}
 
 abbrev at : List (Option Reg) → ℕ → Option Reg
 at t n = slice_index_or t n None
@@ -120,8 +120,8 @@ module _ (m : Mach) where
   -- what is live is read
   is_read : {n : ℕ} {rest : List Instr} → Live m n rest → Ending rest m.code → (r : Reg) × Contains (reads m.code) r × (r.number ≡ n)
   is_read {n} (read {i = i} {next = next} a) e = let x = one_of n i.args a in (x.0, in_reads x.0 e x.1, x.2)
-  is_read (on w l v) e = is_read v (leads_ending m e l)
-  is_read (aside r v) e = is_read v (raise_ending m r)
+  is_read (on w l v) e = is_read v (ending_leads l e)
+  is_read (aside r v) e = is_read v (ending_raises r)
 
   module _ (unique : (r q : Reg) → InCode r m.code → InCode q m.code → r.number ≡ q.number → r ≡ q) (size : ℕ) where
     empty_at : (size n : ℕ) (r : Reg) → at (replicate size None) n ≡ Some r → ⊥

@@ -17,7 +17,7 @@ use Rattle.mach_ir.specs.declared.mach.Mach.{Mach}
 use Rattle.mach_laws.specs.Expand.{Ending}
 use Rattle.mach_laws.specs.Graph.{place_of, numbers, next_places, raise_places, IsFlowOf}
 use Rattle.mach_laws.proofs.Places.{ending_next, stands_of, ending_of}
-use Rattle.mach_laws.proofs.Walking.{place_is, among_numbers, in_numbers, ending_place}
+use Rattle.mach_laws.proofs.Walking.{place_is, among_numbers, in_numbers, ending_place, ending_leads, ending_raises}
 use Rattle.liveness.proofs.Bounds.{no_items}
 use Rattle.sink_rules.specs.Walks.{Fresh, written, on, aside}
 use Rattle.sink.specs.Graphs.{LivesAt, IsBare, IsFreshNode, AreFreshNodes}
@@ -28,7 +28,7 @@ use Rattle.sink.proofs.Reaching as reaching
 use Rattle.sink.proofs.Reaching.{next_live, is_held}
 use Rattle.sink.proofs.Living.{decide_in}
 use Rattle.sink.proofs.Nodes.{At, AtEnd}
-use Rattle.liveness.proofs.Steps.{each, leads_ending, raise_ending}
+use Rattle.liveness.proofs.Steps.{each}
 
 module _ (m : Mach) (live : LiveMap) (exact : IsLiveMap m live) where
   abbrev rows : List (List Bool)
@@ -111,9 +111,9 @@ module _ (m : Mach) (live : LiveMap) (exact : IsLiveMap m live) where
     -- ---- and back
 
     fresh_ends : {n : ℕ} {rest : List Instr} → Fresh m n rest → Ending rest m.code
-    fresh_ends (written s w l) = leads_ending m (ending_of s) l
-    fresh_ends (on h d l) = leads_ending m (fresh_ends h) l
-    fresh_ends (aside h r) = raise_ending m r
+    fresh_ends (written s w l) = ending_leads l (ending_of s)
+    fresh_ends (on h d l) = ending_leads l (fresh_ends h)
+    fresh_ends (aside h r) = ending_raises r
 
     comes_to : {n : ℕ} {rest : List Instr} → Fresh m n rest → (p : ℕ) → p ≤ length m.code → drop p m.code ≡ rest → ComesTo g p n
     comes_to {n} (written {i = i} {next = next} s w l) p le e =

@@ -19,7 +19,7 @@ use Rattle.mach_ir.specs.declared.mach.Mach.{Mach}
 use Rattle.mach_laws.specs.Expand.{Ending, all}
 use Rattle.mach_laws.specs.Graph.{place_of, numbers, next_places, raise_places, IsFlowOf}
 use Rattle.mach_laws.proofs.Places.{ending_next, stands_of, ending_of}
-use Rattle.mach_laws.proofs.Walking.{place_is, among_numbers, in_numbers, place_back, ending_place}
+use Rattle.mach_laws.proofs.Walking.{place_is, among_numbers, in_numbers, place_back, ending_place, ending_leads, ending_raises}
 use Rattle.liveness.proofs.Bounds.{no_items, one_more}
 use Rattle.sink_rules.specs.Walks.{Stale, at_entry, over, on, aside}
 use Rattle.sink.specs.Graphs.{LivesAt, IsOver, IsEntry, IsStaleNode, AreStaleNodes}
@@ -27,7 +27,7 @@ use Rattle.sink.specs.Tables.{AreStale}
 use Rattle.sink.proofs.Held.{held_destroys}
 use Rattle.sink.proofs.Graph.{Where, inner, final, beyond, at, none_past, lead, of}
 use Rattle.sink.proofs.Nodes.{At, AtEnd, count}
-use Rattle.liveness.proofs.Steps.{each, leads_ending, raise_ending}
+use Rattle.liveness.proofs.Steps.{each}
 use Rattle.sink.proofs.Reaching as reaching
 use Rattle.sink.proofs.Reaching.{next_live, is_held}
 
@@ -117,9 +117,9 @@ module _ (m : Mach) (live : LiveMap) (exact : IsLiveMap m live) where
 
     stale_ends : {n : ℕ} {rest : List Instr} → Stale m n rest → Ending rest m.code
     stale_ends (at_entry a) = all
-    stale_ends (over s d w l) = leads_ending m (ending_of s) l
-    stale_ends (on h w l) = leads_ending m (stale_ends h) l
-    stale_ends (aside h r) = raise_ending m r
+    stale_ends (over s d w l) = ending_leads l (ending_of s)
+    stale_ends (on h w l) = ending_leads l (stale_ends h)
+    stale_ends (aside h r) = ending_raises r
 
     begins : (n p : ℕ) → p ≤ length m.code → drop p m.code ≡ m.code → (Among n m.params → ⊥) → Live m n m.code → ComesTo g p n
     begins n p le e a v =

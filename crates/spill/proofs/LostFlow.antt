@@ -20,12 +20,12 @@ use Rattle.mach_ir.specs.declared.mach.Mach.{Mach}
 use Rattle.mach_laws.specs.Expand.{Ending}
 use Rattle.mach_laws.specs.Graph.{place_of, numbers, next_places, numbers_read, numbers_written, IsFlowOf}
 use Rattle.mach_laws.proofs.Places.{ending_next, stands_of, ending_of}
-use Rattle.mach_laws.proofs.Walking.{place_is, among_numbers, in_numbers, place_back, place_within, ending_place}
+use Rattle.mach_laws.proofs.Walking.{place_is, among_numbers, in_numbers, place_back, place_within, ending_place, ending_leads}
 use Rattle.liveness.proofs.Bounds.{no_items, split_in}
 use Rattle.spill_rules.specs.Chosen.{lives, Lost, over, still}
 use Rattle.spill.specs.Graphs.{IsMadeBefore, IsLostNode, AreLostNodes, at_end, before}
 use Rattle.spill.specs.Tables.{AreLost}
-use Rattle.liveness.proofs.Steps.{each, destroys_on, Steps, steps_of, steps_to, leads_ending, IsWithin, next_within, reads_small, writes_small, live_small}
+use Rattle.liveness.proofs.Steps.{each, destroys_on, Steps, steps_of, steps_to, IsWithin, next_within, reads_small, writes_small, live_small}
 
 module _ (m : Mach) (live : LiveMap) (exact : IsLiveMap m live) (old : flow.Flow) (is : IsFlowOf m old) (formed : flows.WellFormed old) where
   abbrev rows : List (List Bool)
@@ -137,8 +137,8 @@ module _ (m : Mach) (live : LiveMap) (exact : IsLiveMap m live) (old : flow.Flow
     -- ---- and back
 
     lost_ends : {n : ℕ} {rest : List Instr} → Lost m n rest → Ending rest m.code
-    lost_ends (over (lives s d w l v)) = leads_ending m (ending_of s) l
-    lost_ends (still h a w l) = leads_ending m (lost_ends h) l
+    lost_ends (over (lives s d w l v)) = ending_leads l (ending_of s)
+    lost_ends (still h a w l) = ending_leads l (lost_ends h)
 
     goes_to : {i : Instr} {next to : List Instr} (p : ℕ) → Ending (i ∷ next) m.code → Leads m i next to → p ≤ length m.code → drop p m.code ≡ to →
         Contains (g.next (place_of m (i ∷ next))) p
