@@ -25,6 +25,7 @@ use Rattle.mach_laws.specs.Expand.{expand, Ending, all}
 use Rattle.mach_laws.proofs.Places.{ending_next, stands_of, stands_behind, stands_within, head_of, tail_of, straight_cons, contains_of, stands_in, place_behind}
 use Rattle.pass_rules.proofs.Formed.{ComesFrom, is_new, stood, KeepsPlaces}
 use Rattle.pass_rules.proofs.Formed as places
+use Rattle.pass_rules.proofs.Words.{both_sum}
 use Rattle.dead_rules.specs.Dropped.{may_go, without}
 use Rattle.dead_rules.proofs.Left.{IsMain, contains_left, place_left, handler_left, tries_before, run_back, label_is, handler_is}
 use Rattle.dead_rules.proofs.Text.{pure_of, pure_straight, mark_stays, Fate, falls, remains, fate, same_labels}
@@ -152,13 +153,6 @@ module _ (m : Mach) (moves : ℕ → Bool) (may : MayAllMove m moves) where
 
   -- what is a sum over instructions stays
   module _ (M : List Instr → ℕ) (one : Instr → ℕ) (none : M [] ≡ 0) (more : (i : Instr) (is : List Instr) → M (i ∷ is) ≡ one i + M is) where
-    both_sum : (xs ys : List Instr) → M (xs ++ ys) ≡ M xs + M ys
-    both_sum [] ys = let e = none in omega (arith, e)
-    both_sum (x ∷ xs) ys =
-        let e = more x (xs ++ ys) in
-        let h = more x xs in
-        let ih = both_sum xs ys in omega (arith, e, h, ih)
-
     parts_sum : (code : List Instr) → Ending code m.code → M (expand (moved moves) code) + M (expand f code) ≡ M code
     parts_sum [] ending = let e = none in omega (arith, e)
     parts_sum (i ∷ is) ending = by (divides i is ending) (parts_sum is (ending_next ending))
@@ -177,7 +171,7 @@ module _ (m : Mach) (moves : ℕ → Bool) (may : MayAllMove m moves) where
             let w = more i is in omega (arith, x, y, z, w, ih)
 
     pub sum_same : M q.code ≡ M m.code
-    sum_same = both_sum front rest_of.code ∙ parts_sum m.code all
+    sum_same = both_sum M one none more front rest_of.code ∙ parts_sum m.code all
 
   pub same_size : (s : Size) → HasSize m s → HasSize q s
   same_size s h =

@@ -4,11 +4,10 @@ use Rattle.std.specs.List.{Contains}
 use Rattle.std.specs.Prelude.{slice_index_or}
 use Rattle.std.proofs.lemmas.List.Elements.{Contains-get_or, All-contains}
 use Rattle.hoist_rules.specs.Known.{without, dropped, AreDead, IsDropped, OffsetFits, IsCarried, code_words, code_points, exits, other_operands}
-use Rattle.hoist_rules.proofs.Known.{was_main, still_ends, tries_here, was_register, Fate, falls, remains, fate, exits_both}
+use Rattle.hoist_rules.proofs.Known.{was_main, still_ends, tries_here, was_register, Fate, falls, remains, fate, exits_both, contains_back}
 use Rattle.mach_ir.specs.Formed.{is_exit, WellFormed}
 use Rattle.mach_ir.specs.declared.mach.Instr.{Instr}
 use Rattle.mach_ir.specs.declared.mach.Mach.{Mach}
-use Rattle.dead_rules.proofs.Left.{contains_back}
 use Rattle.mach_laws.specs.Expand.{expand}
 
 exits_later : (b : Bool) (n : ℕ) → n ≤ cond b (suc n) n
