@@ -3,12 +3,12 @@ use Rattle.std.proofs.Common.{◌≡◌, ◌∙◌, ℕ, zero, suc, ◌<◌, ◌
 use Rattle.std.proofs.lemmas.Bool.{and_parts, and_from, le-leb}
 use Rattle.std.proofs.lemmas.List.{length-map}
 use Rattle.std.specs.List.{Contains, list_any}
+use Rattle.std.proofs.lemmas.List.Elements.{Contains-append_cases}
 use Rattle.bs_words.specs.declared.types.Comp.{Comp}
 use Rattle.bs_words.specs.declared.types.Comp.TheVariants as comp
 use Rattle.bs_words.specs.declared.types.Loc.{Loc}
 use Rattle.bs_words.specs.declared.types.Loc.TheVariants as loc
 use Rattle.bs_words.proofs.Lists.{none_in, first_in, later_in, in_cons}
-use Rattle.liveness.proofs.Bounds.{split_in}
 use Rattle.mach_ir.specs.Forms as form
 use Rattle.mach_ir.specs.Forms.{HasForm}
 use Rattle.mach_ir.specs.Formed.{comps, IsFormed, formed_op, formed_mark, WellFormed}
@@ -329,7 +329,7 @@ module _ (m : Mach) (formed : WellFormed m) where
       (λ d.
       ⊎_elim (λ e. record { from = i; known = c i (first_in i next); read = source_of (last_time made) made; is = sym e })
       (λ n. absurd (none_in j n)) (in_cons (remade with_sources made i) j [] d))
-      (split_in made (remade with_sources made i ∷ []) j d))
+      (Contains-append_cases made (remade with_sources made i ∷ []) j d))
       (λ j d. c j (later_in i j next d))
 
   abbrev after : List Instr → List Instr

@@ -1,7 +1,7 @@
 -- Moves from what an operator repeats by the times of the code are exactly the repeats.
 use Rattle.std.proofs.Common.{◌≡◌, ◌∙◌, ℕ, zero, suc, ◌<◌, ◌≤◌, Bool, true, false, cond, ◌||◌, ⊎_elim, List, [], ◌∷◌, ◌++◌, length, Option, Some, None, slice_get, refl, sym, ap, subst, arith}
 use Rattle.std.specs.List.{Contains, list_any}
-use Rattle.liveness.proofs.Bounds.{split_in}
+use Rattle.std.proofs.lemmas.List.Elements.{Contains-append_cases}
 use Rattle.mach_ir.specs.Formed.{IsFormed, WellFormed}
 use Rattle.mach_ir.specs.Placed.{is_straight}
 use Rattle.mach_ir.specs.Walks.{is_in_code}
@@ -279,7 +279,7 @@ module _ (m : Mach) (formed : WellFormed m) where
           from = λ j c o.
               ⊎_elim (λ d. fresh.from j d o)
               (λ d. ⊎_elim (λ e. last_of j e o fate) (λ n. absurd (none_in j n)) (in_cons (remade without_repeat made i) j [] d))
-              (split_in made (remade without_repeat made i ∷ []) j c);
+              (Contains-append_cases made (remade without_repeat made i ∷ []) j c);
           once = λ others j run e r p. by others j run e r p (places_end others j run made (remade without_repeat made i) (sym e));
         }
       where

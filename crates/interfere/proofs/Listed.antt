@@ -5,7 +5,7 @@ use Rattle.std.specs.List.{All, AllPairs, Contains}
 use Rattle.std.specs.Prelude.{Option}
 use Rattle.std.proofs.lemmas.Bool.{cases_lt}
 use Rattle.std.proofs.lemmas.List.{get_or_past}
-use Rattle.std.proofs.lemmas.List.Elements.{Contains-get_or, Contains-append_left, Contains-append_right}
+use Rattle.std.proofs.lemmas.List.Elements.{Contains-get_or, Contains-append_left, Contains-append_right, Contains-append_cases}
 use Rattle.std.proofs.lemmas.List.Quantifiers.{all_pairs_push}
 use Rattle.bs_bits.specs.Set.{has}
 use Rattle.mach_ir.specs.Formed.{WellFormed}
@@ -15,7 +15,6 @@ use Rattle.mach_ir.specs.declared.graph.Graph.{Graph}
 use Rattle.mach_ir.specs.declared.graph.Node.{Node}
 use Rattle.mach_ir.specs.declared.reg.Reg.{Reg}
 use Rattle.mach_ir.specs.declared.mach.Mach.{Mach}
-use Rattle.liveness.proofs.Bounds.{split_in}
 use Rattle.bs_words.proofs.Lists.{none_in, first_in, later_in, in_cons}
 use Rattle.interfere.specs.Registers.{IsAt}
 use Rattle.interfere.specs.Tables.{AreTables, AreByNumber, IsNode, IsNodeAt, HasNode, AreNodesBelow}
@@ -66,8 +65,8 @@ nodes_more t n slot r x old new numbers lt read some node made before =
     (record {
       order = all_pairs_push (λ (x y : Node). x.reg.number < y.reg.number) old x before.order
           (λ k d l. let h = before.below (get_or old k d) (Contains-get_or old k d l) in subst (λ j. (get_or old k d).reg.number < j) (sym number) h);
-      each = λ y c. by (IsNodeAt t) (λ y d. before.each y d) here y (split_in old (x ∷ []) y c);
-      below = λ y c. by (λ (y : Node). y.reg.number < n + 1) (λ y d. let h = before.below y d in omega (arith, h)) last y (split_in old (x ∷ []) y c);
+      each = λ y c. by (IsNodeAt t) (λ y d. before.each y d) here y (Contains-append_cases old (x ∷ []) y c);
+      below = λ y c. by (λ (y : Node). y.reg.number < n + 1) (λ y d. let h = before.below y d in omega (arith, h)) last y (Contains-append_cases old (x ∷ []) y c);
       whole = λ k q l h. ⊎_elim (λ less. let y = before.whole k q less h in record { node = y.node; among = Contains-append_left old (x ∷ []) y.node y.among; reg = y.reg })
           (λ more. let e : k ≡ n = omega (arith, l, more) in
           record { node = x; among = Contains-append_right old (x ∷ []) x (first_in x []); reg = node.reg ∙ same q (subst (λ k. IsAt t.registers.items k q) e h) })

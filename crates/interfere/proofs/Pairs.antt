@@ -4,10 +4,9 @@ use Rattle.std.proofs.Common.{length, take, get_or, refl, sym, ap, ◌∙◌, su
 use Rattle.std.specs.List.{All, Contains}
 use Rattle.std.specs.Prelude.{Option}
 use Rattle.std.proofs.lemmas.List.{take_more, take_all}
-use Rattle.std.proofs.lemmas.List.Elements.{Contains-get_or, Contains-append_left, Contains-append_right}
+use Rattle.std.proofs.lemmas.List.Elements.{Contains-get_or, Contains-append_left, Contains-append_right, Contains-append_cases}
 use Rattle.bs_bits.specs.Set.{has}
 use Rattle.dataflow.specs.Rows.{row}
-use Rattle.liveness.proofs.Bounds.{split_in}
 use Rattle.bs_words.proofs.Lists.{none_in, first_in, in_cons}
 use Rattle.interfere.specs.Members.{AreMembers}
 use Rattle.interfere.specs.Moves.{is_from_to}
@@ -79,7 +78,7 @@ module _ {A : Type 0} (R : A → ℕ → ℕ → Type 0) where
       Adds y z (R (get_or xs i d)) → Adds x z (ForOne R (take (i + 1) xs))
   one_more xs i d x y z lt before here =
       adds_then x y z (ForOne R (take i xs)) (R new) (ForOne R (take (i + 1) xs)) before here
-      (λ n k h. by n k h (split_in (take i xs) (new ∷ []) h.item (subst (λ ys. Contains ys h.item) taken h.among)))
+      (λ n k h. by n k h (Contains-append_cases (take i xs) (new ∷ []) h.item (subst (λ ys. Contains ys h.item) taken h.among)))
       (λ n k h. record { item = h.item; among = subst (λ ys. Contains ys h.item) (sym taken) (Contains-append_left (take i xs) (new ∷ []) h.item h.among); there = h.there })
       (λ n k h. record { item = new; among = subst (λ ys. Contains ys new) (sym taken) (Contains-append_right (take i xs) (new ∷ []) new (first_in new [])); there = h })
     where

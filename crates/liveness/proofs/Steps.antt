@@ -1,6 +1,6 @@
 -- Places of a function and where they lead, as lists of numbers.
 use Rattle.std.proofs.Common.{◌≡◌, ℕ, zero, suc, ◌-◌, ◌<◌, ◌≤◌, Bool, true, false, List, [], ◌∷◌, map, length, drop, refl, subst, arith}
-use Rattle.std.proofs.lemmas.List.Elements.{All-contains, Contains-get_or}
+use Rattle.std.proofs.lemmas.List.Elements.{All-contains, Contains-get_or, All-nil}
 use Rattle.std.specs.List.{All, Contains}
 use Rattle.std.specs.Prelude.{slice_index_or}
 use Rattle.bs_words.specs.Contents.{contents}
@@ -21,7 +21,6 @@ use Rattle.mach_laws.specs.Expand.{Ending}
 use Rattle.mach_laws.specs.Graph.{place_of, numbers, next_places, raise_places, numbers_read, numbers_written, IsFlowOf}
 use Rattle.mach_laws.proofs.Places.{ending_from_handler}
 use Rattle.mach_laws.proofs.Walking.{in_numbers, ending_at, place_is, place_at, place_within, ending_place, target_of, in_targets, handler_of, in_handlers, ending_leads, ending_raises}
-use Rattle.liveness.proofs.Bounds.{no_items}
 
 pub each : {A : Type 0} (P : A → Type 0) (xs : List A) → ((y : A) → Contains xs y → P y) → All P xs
 each P xs h = λ k d lt. h (slice_index_or xs k d) (Contains-get_or xs k d lt)
@@ -125,22 +124,22 @@ module _ (m : Mach) where
     pub next_within : (p : ℕ) → IsWithin (next_places m (drop p m.code))
     next_within p =
         subst IsWithin (is.next p)
-        (of_part IsWithin (λ x. contents x.next) (no_items (λ q. q < length (contents f.places))) (λ x h. h.next) (contents f.places) formed p)
+        (of_part IsWithin (λ x. contents x.next) (All-nil (λ q. q < length (contents f.places))) (λ x h. h.next) (contents f.places) formed p)
 
     pub aside_within : (p : ℕ) → IsWithin (raise_places m (drop p m.code))
     aside_within p =
         subst IsWithin (is.aside p)
-        (of_part IsWithin (λ x. contents x.aside) (no_items (λ q. q < length (contents f.places))) (λ x h. h.aside) (contents f.places) formed p)
+        (of_part IsWithin (λ x. contents x.aside) (All-nil (λ q. q < length (contents f.places))) (λ x h. h.aside) (contents f.places) formed p)
 
     pub reads_small : (p : ℕ) → IsSmall (numbers_read (drop p m.code))
     reads_small p =
         subst IsSmall (is.reads p)
-        (of_part IsSmall (λ x. contents x.reads) (no_items (λ n. n < f.bound)) (λ x h. h.reads) (contents f.places) formed p)
+        (of_part IsSmall (λ x. contents x.reads) (All-nil (λ n. n < f.bound)) (λ x h. h.reads) (contents f.places) formed p)
 
     pub writes_small : (p : ℕ) → IsSmall (numbers_written m (drop p m.code))
     writes_small p =
         subst IsSmall (is.writes p)
-        (of_part IsSmall (λ x. contents x.writes) (no_items (λ n. n < f.bound)) (λ x h. h.writes) (contents f.places) formed p)
+        (of_part IsSmall (λ x. contents x.writes) (All-nil (λ n. n < f.bound)) (λ x h. h.writes) (contents f.places) formed p)
 
     -- what is live is below the bound
     pub live_small : {n : ℕ} {rest : List Instr} → Live m n rest → Ending rest m.code → n < f.bound

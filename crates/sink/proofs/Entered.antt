@@ -1,6 +1,6 @@
 -- What the table of registers shows.
 use Rattle.std.proofs.Common.{◌≡◌, ℕ, zero, suc, ◌<◌, Bool, true, false, cond, ◌⊎◌, inl, inr, ⊎_elim, List, [], ◌∷◌, ◌++◌, Some, None, length, replicate, refl, sym, ap, ◌∙◌, subst}
-use Rattle.std.proofs.lemmas.List.Elements.{Contains-append_left, Contains-append_right}
+use Rattle.std.proofs.lemmas.List.Elements.{Contains-append_left, Contains-append_right, Contains-append_cases}
 use Rattle.std.proofs.lemmas.Bool.{cases_Bool, lt-ltb, ltb-true}
 use Rattle.std.specs.List.{Contains}
 use Rattle.std.specs.Prelude.{Option, nat_lt, slice_index_or, slice_set}
@@ -10,7 +10,6 @@ use Rattle.mach_ir.specs.declared.mach.Instr.{Instr}
 use Rattle.mach_ir.specs.declared.mach.Mach.{Mach}
 use Rattle.mach_laws.specs.Expand.{Ending, all, more}
 use Rattle.mach_laws.proofs.Walking.{ending_leads, ending_raises}
-use Rattle.liveness.proofs.Bounds.{split_in}
 use Rattle.bs_words.proofs.Lists.{none_in, first_in, later_in, in_cons}
 use Rattle.sink.specs.Registers.{entered, entered_code}
 use Rattle.sink.proofs.Seeing.{length_set, at_set, off_set, same_or}
@@ -105,7 +104,7 @@ entered_reads (i ∷ is) t = entered_reads is (entered i.args t) ∙ sym (entere
 
 reads_in : (code : List Instr) (r : Reg) → Contains (reads code) r → InCode r code
 reads_in [] r c = absurd (none_in r c)
-reads_in (i ∷ is) r c = ⊎_elim (λ a. in_args a) (λ d. further (reads_in is r d)) (split_in i.args (reads is) r c)
+reads_in (i ∷ is) r c = ⊎_elim (λ a. in_args a) (λ d. further (reads_in is r d)) (Contains-append_cases i.args (reads is) r c)
 
 in_reads : {i : Instr} {next code : List Instr} (r : Reg) → Ending (i ∷ next) code → Contains i.args r → Contains (reads code) r
 in_reads {i} {next} r all c = Contains-append_left i.args (reads next) r c

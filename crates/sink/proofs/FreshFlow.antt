@@ -1,6 +1,7 @@
 -- What reaches a place in the graph of what is fresh is what is fresh there.
 use Rattle.std.proofs.Common.{◌≡◌, ℕ, ◌<◌, ◌≤◌, Bool, ◌⊎◌, ⊎_elim, List, ◌∷◌, length, drop, refl, sym, ◌∙◌, subst}
 use Rattle.std.specs.List.{All, Contains}
+use Rattle.std.proofs.lemmas.List.Elements.{All-nil}
 use Rattle.bs_words.specs.Contents.{contents}
 use Rattle.dataflow.specs.Flow.{Graph, graph, IsPlace}
 use Rattle.dataflow.specs.Flow as flows
@@ -18,7 +19,6 @@ use Rattle.mach_laws.specs.Expand.{Ending}
 use Rattle.mach_laws.specs.Graph.{place_of, numbers, next_places, raise_places, IsFlowOf}
 use Rattle.mach_laws.proofs.Places.{ending_next, stands_of, ending_of}
 use Rattle.mach_laws.proofs.Walking.{place_is, among_numbers, in_numbers, ending_place, ending_leads, ending_raises}
-use Rattle.liveness.proofs.Bounds.{no_items}
 use Rattle.sink_rules.specs.Walks.{Fresh, written, on, aside}
 use Rattle.sink.specs.Graphs.{LivesAt, IsBare, IsFreshNode, AreFreshNodes}
 use Rattle.sink.specs.Tables.{AreFresh}
@@ -164,10 +164,10 @@ module _ (m : Mach) (live : LiveMap) (exact : IsLiveMap m live) where
       fits_end =
           let n = last.is_end in
           record {
-            next = subst (All (λ q. q < length (contents f.places))) (sym n.next) (no_items (λ q. q < length (contents f.places)));
-            aside = subst (All (λ q. q < length (contents f.places))) (sym n.aside) (no_items (λ q. q < length (contents f.places)));
-            reads = subst (All (λ r. r < f.bound)) (sym n.reads) (no_items (λ r. r < f.bound));
-            writes = subst (All (λ r. r < f.bound)) (sym n.writes) (no_items (λ r. r < f.bound));
+            next = subst (All (λ q. q < length (contents f.places))) (sym n.next) (All-nil (λ q. q < length (contents f.places)));
+            aside = subst (All (λ q. q < length (contents f.places))) (sym n.aside) (All-nil (λ q. q < length (contents f.places)));
+            reads = subst (All (λ r. r < f.bound)) (sym n.reads) (All-nil (λ r. r < f.bound));
+            writes = subst (All (λ r. r < f.bound)) (sym n.writes) (All-nil (λ r. r < f.bound));
           }
 
       pub fresh_formed : flows.WellFormed f

@@ -1,6 +1,6 @@
 -- What is live in the graph of wanted registers is what is wanted.
 use Rattle.std.proofs.Common.{◌≡◌, ℕ, zero, suc, ◌<◌, Bool, true, false, cond, ◌&&◌, inl, inr, ⊎_elim, List, [], ◌∷◌, length, drop, refl, sym, ap, ◌∙◌, subst, arith}
-use Rattle.std.proofs.lemmas.List.Elements.{All-contains}
+use Rattle.std.proofs.lemmas.List.Elements.{All-contains, All-nil}
 use Rattle.std.specs.List.{All, Contains}
 use Rattle.std.proofs.lemmas.Bool.{and_parts}
 use Rattle.bs_bits.specs.Set.{has}
@@ -22,7 +22,6 @@ use Rattle.mach_laws.proofs.Walking.{place_is, among_numbers, in_numbers, place_
 use Rattle.mach_laws.proofs.Places.{stands_of, ending_of, is_unset}
 use Rattle.mach_laws.proofs.Among.{among_of}
 use Rattle.liveness.specs.Nodes.{Uses, AreNodes}
-use Rattle.liveness.proofs.Bounds.{no_items}
 use Rattle.liveness.proofs.Graph.{count_is, part_is, nodes_within}
 use Rattle.spill_rules.specs.Chosen.{Lost, IsReloaded}
 use Rattle.spill.specs.Graphs.{reloaded_among, reloaded_before, wanted_uses}
@@ -193,7 +192,7 @@ module _ (m : Mach) (lost : List (List Bool)) (are : AreLost m lost) (old : flow
   -- ---- the graph is one
 
   reloaded_small : (rest : List Instr) → All (λ n. n < old.bound) (numbers_read rest) → All (λ n. n < old.bound) (reloaded_before m lost rest)
-  reloaded_small [] h = no_items (λ n. n < old.bound)
+  reloaded_small [] h = All-nil (λ n. n < old.bound)
   reloaded_small (i ∷ next) h =
       each (λ n. n < old.bound) (reloaded_among lost (place_of m (i ∷ next)) i.args)
       (λ n c.

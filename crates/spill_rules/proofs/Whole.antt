@@ -5,6 +5,7 @@ use Rattle.bs_words.specs.declared.types.Loc.TheVariants as loc
 use Rattle.bs_words.proofs.Lists.{none_in, first_in, later_in, in_cons}
 use Rattle.std.proofs.lemmas.List.{length-append}
 use Rattle.std.proofs.lemmas.Bool.{both_ways}
+use Rattle.std.proofs.lemmas.List.Elements.{Contains-append_cases}
 use Rattle.mach_ir.specs.Acts.{Target, On, At}
 use Rattle.mach_ir.specs.Formed.{WellFormed}
 use Rattle.mach_ir.specs.Keeps.{Keeps, IsLoose, is_open, HasSlot, NamesSymbol, NamesExternal, IsNamedIn}
@@ -22,7 +23,6 @@ use Rattle.mach_laws.specs.Expand.{expand, Ending, all}
 use Rattle.mach_laws.proofs.Grows.{held, instrs_expand, operands_expand, operands_append}
 use Rattle.mach_laws.proofs.Places.{label_expand, handler_expand, ending_label, ending_from_handler}
 use Rattle.mach_laws.proofs.Walking.{across_live}
-use Rattle.liveness.proofs.Bounds.{split_in}
 use Rattle.spill_rules.specs.Spilled.{Plan, in_slot, copied, reload, spill, reloads_of, spills_of, has_operands, has_results, operands_of, results_of, spilled_instr, spilled, IsPlan}
 use Rattle.spill_rules.proofs.Kept.{Which, own, slotted, WasRegister, was_register, origin_of, comp_of, slots_apart, does_spilled}
 use Rattle.spill_rules.proofs.Live.{Stage, Before, Reading, Storing, Laid, begins, reloads, passes_operand, main, spills, passes_result, ends, laid_of, laid_tries, WasAcross, itself_across, stored_across, across_back}
@@ -77,8 +77,8 @@ module _ (m : Mach) (plan : Plan) (formed : WellFormed m) (placed : WellPlaced m
         (λ g.
         ⊎_elim (λ e. subst (Contains (i ∷ next)) e (first_in i next)) (λ d. absurd (in_spills (length next) (results_of i) j d n))
         (in_cons i j (spills_of plan (length next) (results_of i)) g))
-        (split_in (reloads_of plan (length next) (operands_of i)) (i ∷ spills_of plan (length next) (results_of i)) j h))
-        (λ h. later_in i j next (named_in next j h n)) (split_in (f (length next) i) (expand f next) j c)
+        (Contains-append_cases (reloads_of plan (length next) (operands_of i)) (i ∷ spills_of plan (length next) (results_of i)) j h))
+        (λ h. later_in i j next (named_in next j h n)) (Contains-append_cases (f (length next) i) (expand f next) j c)
 
     named_before : IsNamedIn Named q → IsNamedIn Named m
     named_before n = record { instr = n.instr; among = named_in m.code n.instr n.among n.named; named = n.named }
