@@ -23,16 +23,6 @@ use Rattle.interfere.specs.declared.tables.Tables.{Tables}
 Rises : Node → Node → Type 0
 Rises x y = x.reg.number < y.reg.number
 
-pub nodes_none : (t : Tables) (nodes : List Node) → nodes ≡ [] → AreNodesBelow t 0 nodes
-nodes_none t nodes e =
-    subst (AreNodesBelow t 0) (sym e)
-    (record {
-      order = λ i j d lt le. absurd (omega (arith, le));
-      each = λ x c. absurd (none_in x c);
-      below = λ x c. absurd (none_in x c);
-      whole = λ n r lt h. absurd (omega (arith, lt));
-    })
-
 -- what was read at a number is there
 read_at : (xs : List (Option Reg)) (n : ℕ) (slot : Option Reg) (r : Reg) → n < length xs → slot ≡ get_or xs n slot →
     slot ≡ Some r → IsAt xs n r
@@ -96,9 +86,6 @@ nodes_more t n slot r x old new numbers lt read some node made before =
     by : (P : Node → Type 0) → ((y : Node) → Contains old y → P y) → P x → (y : Node) → Contains old y ⊎ Contains (x ∷ []) y → P y
     by P all one y (inl c) = all y c
     by P all one y (inr c) = ⊎_elim (λ e. subst P e one) (λ z. absurd (none_in y z)) (in_cons x y [] c)
-
-pub nodes_all : (t : Tables) (count n : ℕ) (nodes : List Node) → n ≡ count → AreNodesBelow t n nodes → AreNodesBelow t count nodes
-nodes_all t count n nodes e h = subst (λ k. AreNodesBelow t k nodes) e h
 
 -- a register of the tables has a row
 pub has_row : (t : Tables) (n : ℕ) (slot : Option Reg) (r : Reg) → AreByNumber t → n < length t.registers.items →

@@ -16,15 +16,6 @@ pub record AreMembersBelow (set : List Bool) (from : ℕ) (members : List ℕ) :
   pub sound : (k : ℕ) → Contains members k → (k < from) × (has set k ≡ true)
   pub whole : (k : ℕ) → k < from → has set k ≡ true → Contains members k
 
-pub below_none : (set : List Bool) (members : List ℕ) → members ≡ [] → AreMembersBelow set 0 members
-below_none set members e =
-    subst (AreMembersBelow set 0) (sym e)
-    (record {
-      sorted = λ i j d lt le. absurd (omega (arith, le));
-      sound = λ k c. absurd (none_in k c);
-      whole = λ k lt h. absurd (omega (arith, lt));
-    })
-
 -- a number that is a member is below the size
 pub member_below : (set : List Bool) (k : ℕ) → has set k ≡ true → k < length set
 member_below set k e =

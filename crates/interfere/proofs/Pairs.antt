@@ -10,7 +10,7 @@ use Rattle.dataflow.specs.Rows.{row}
 use Rattle.bs_words.proofs.Lists.{none_in, first_in, in_cons}
 use Rattle.interfere.specs.Members.{AreMembers}
 use Rattle.interfere.specs.Moves.{is_from_to}
-use Rattle.interfere.specs.Pairs.{Table, EitherWay, one_way, other_way, Adds, IsPair, ForOne, Meeting, MeetsSet}
+use Rattle.interfere.specs.Pairs.{Table, EitherWay, one_way, other_way, Adds, ForOne, Meeting, MeetsSet}
 use Rattle.interfere.specs.Pairs.{MeetsPlaces}
 use Rattle.interfere.specs.declared.moves.Move.{Move}
 
@@ -107,17 +107,6 @@ not_joined t moved number other e =
     let f : is_from_to moved other number ≡ false =
     subst (λ n. is_from_to moved other n ≡ false) (sym h.written) (subst (λ k. is_from_to moved k n ≡ false) (sym h.live) h.no_move) in
     cc)
-
-pub now_joined : (x y : Table) (moved : Option Move) (number other : ℕ) → is_from_to moved other number ≡ false →
-    Adds x y (IsPair number other) → Adds x y (Meeting moved number other)
-now_joined x y moved number other e h =
-    adds_same x y (IsPair number other) (Meeting moved number other) h
-    (λ n k p. record {
-      written = p.one;
-      live = p.two;
-      no_move = subst (λ n. is_from_to moved k n ≡ false) p.one (subst (λ k. is_from_to moved k number ≡ false) p.two e);
-    })
-    (λ n k p. record { one = p.written; two = p.live })
 
 -- with each of a list of members is with the set
 pub with_set : (x y : Table) (moved : Option Move) (set : List Bool) (members : List ℕ) (number : ℕ) → AreMembers set members →
