@@ -9,12 +9,6 @@ use Rattle.bs_words.proofs.Lists.{none_in, first_in, in_cons}
 use Rattle.spill.specs.Graphs.{LivesAt, AreLivingOver, AreMade}
 
 module _ (rows : List (List Bool)) (after : ℕ) (written : List ℕ) where
-  pub over_none : (found : List ℕ) → found ≡ [] → AreLivingOver rows after 0 written found
-  over_none found e = λ n. (
-    λ c. absurd (none_in n (subst (λ xs. Contains xs n) e c)),
-    λ h. let lt = h.0 in absurd (omega (arith, lt)),
-  )
-
   below_or : (n k : ℕ) → n < k + 1 → (n < k) ⊎ (n ≡ k)
   below_or n k lt = ⊎_elim (λ h. inl h) (λ h. inr (omega (arith, lt, h))) (cases_lt n k)
 
