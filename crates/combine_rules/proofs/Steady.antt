@@ -46,10 +46,6 @@ firm (Ok v) = a_value
 firm (Err k) = no_value
 
 -- where the test holds in the first it holds in the second
-firm_cond : {A : Type 0} (x y : Bool) (v : A) (k : Kind) → (x ≡ true → y ≡ true) → Firm (cond x (Ok v) (Err k)) (cond y (Ok v) (Err k))
-firm_cond false y v k h = no_value
-firm_cond {A} true y v k h = subst (λ z. Firm (Ok v) (cond z (Ok v) (Err k))) (sym (h refl)) a_value
-
 firm_only : (x y : Bool) (k : Kind) (v : Value) → (x ≡ true → y ≡ true) → Firm (operators.only_if x k v) (operators.only_if y k v)
 firm_only false y k v h = no_value
 firm_only true y k v h = subst (λ z. Firm (Ok v) (operators.only_if z k v)) (sym (h refl)) a_value

@@ -19,7 +19,6 @@ use Rattle.mach_ir.specs.Walks.{IsRegister, is_param, is_in_code, LiveAcross}
 use Rattle.mach_ir.specs.declared.reg.Reg.{Reg}
 use Rattle.mach_ir.specs.declared.mach.Instr.{Instr}
 use Rattle.mach_ir.specs.declared.mach.Mach.{Mach}
-use Rattle.mach_ir.proofs.Keeping.{level, level_trail}
 use Rattle.mach_laws.specs.Expand.{Ending, expand}
 use Rattle.mach_laws.proofs.General as general
 use Rattle.mach_laws.proofs.General.{at}
@@ -27,6 +26,7 @@ use Rattle.mach_laws.proofs.Leads.{Within, asks_in, within}
 use Rattle.mach_laws.proofs.Level as levels
 use Rattle.mach_laws.proofs.Places.{tries_expand, stands_of, results_in}
 use Rattle.mach_laws.proofs.Simulate.{Agrees}
+use Rattle.mach_laws.proofs.Level.{ahead_of, trails_of}
 use Rattle.repeat_rules.specs.Kept.{OwnOrigins}
 use Rattle.repeat_rules.proofs.Acting.{GoesOn, is_stuck, goes_on, straight_on}
 use Rattle.repeat_rules.proofs.OneForOne as one
@@ -205,12 +205,6 @@ module _ (m : Mach) (plan : ℕ → Reg → Reg) (formed : WellFormed m) (own : 
                 (subst (λ b. general.Replaces c m q f (keeps_marks plan) refl Suit InStep i next x x a b vs) s.file
                 (replaced i next x a ending s.typed s.holds vs e)));
           }
-
-    ahead_of : (x y : Around) → x ≡ y → Ahead x y
-    ahead_of x y e = subst (Ahead x) e (level x)
-
-    trails_of : (x y : Around) → x ≡ y → Trails x y
-    trails_of x y e = subst (Trails x) e (level_trail x)
 
     begun : (x : Around) (a : File) → TypedAt a → InStep m.code x x a a
     begun x a typed =

@@ -2,7 +2,7 @@
 use Rattle.std.proofs.Common.{◌≡◌, ℕ, true, false, ◌⊎◌, inl, inr, ⊎_elim, List, [], ◌∷◌, length, map, refl, sym, ap, ◌∙◌, subst}
 use Rattle.std.proofs.lemmas.Bool.{cases_eq, both_ways}
 use Rattle.std.specs.List.{Contains}
-use Rattle.std.proofs.lemmas.List.Elements.{All-contains}
+use Rattle.std.proofs.lemmas.List.Elements.{All-contains, Contains-append_left}
 use Rattle.bs_words.specs.declared.types.Comp.TheVariants as comp
 use Rattle.bs_words.specs.declared.types.Loc.TheVariants as loc
 use Rattle.bs_words.proofs.Lists.{first_in}
@@ -21,7 +21,7 @@ use Rattle.mach_laws.proofs.Among.{number_among, among_of}
 use Rattle.repeat_rules.specs.Repeated.{allocates}
 use Rattle.repeat_rules.proofs.OneForOne as one
 use Rattle.mach_laws.proofs.InPlace.{both}
-use Rattle.repeat_rules.proofs.OneForOne.{in_append, in_front}
+use Rattle.repeat_rules.proofs.OneForOne.{in_append}
 use Rattle.repeat_rules.proofs.Standing.{straight_frame}
 use Rattle.copy_rules.proofs.Form.{alike, in_map, was_register}
 use Rattle.copy_rules.proofs.Standing.{Standing, Earlier, just_now, earlier, earlier_of, not_at_label, not_at_handler, ReadAt, from_source, as_it_is, read_at}
@@ -48,7 +48,7 @@ module _ (m : Mach) (plan : ℕ → Reg → Reg) (formed : WellFormed m)
   move_there {rest} c s w =
       let t = w.copies in
       subst (λ xs. Contains xs (move s c)) (sym w.whole)
-      (in_front w.made (expand f rest) (move s c)
+      (Contains-append_left w.made (expand f rest) (move s c)
       (subst (λ xs. Contains xs (move s c)) (sym t.within) (in_append t.others (move s c) t.run)))
 
   -- the source of a copy that stands is a register of both

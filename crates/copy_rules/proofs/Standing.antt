@@ -2,7 +2,7 @@
 use Rattle.std.proofs.Common.{◌≡◌, ◌≢◌, ℕ, true, false, ⊎_elim, List, [], ◌∷◌, ◌++◌, length, refl, sym, ap, subst}
 use Rattle.std.proofs.lemmas.Bool.{cases_Bool, both_ways}
 use Rattle.std.proofs.lemmas.List.{append_cancel_right}
-use Rattle.std.proofs.lemmas.List.Elements.{All-contains}
+use Rattle.std.proofs.lemmas.List.Elements.{All-contains, Contains-append_left}
 use Rattle.std.specs.List.{Contains}
 use Rattle.bs_words.specs.declared.types.Comp.{Comp}
 use Rattle.bs_words.specs.declared.types.Comp.TheVariants as comp
@@ -21,7 +21,7 @@ use Rattle.mach_ir.specs.declared.mach.Instr.{Instr}
 use Rattle.mach_ir.specs.declared.mach.Mach.{Mach}
 use Rattle.mach_laws.specs.Expand.{Ending, expand}
 use Rattle.repeat_rules.specs.Repeated.{allocates, Ends}
-use Rattle.repeat_rules.proofs.OneForOne.{in_append, in_front, Before, before_of, Made, made_past}
+use Rattle.repeat_rules.proofs.OneForOne.{in_append, Before, before_of, Made, made_past}
 use Rattle.repeat_rules.proofs.Runs as run
 use Rattle.repeat_rules.proofs.Runs.{straight_front, Last, it_is, in_run, last_of, none_before, IsWithin}
 
@@ -83,7 +83,7 @@ restricted c s w ys zs e =
     }
   where
     to_run : (i : Instr) → Contains ys i → Contains w.run i
-    to_run i d = subst (λ xs. Contains xs i) (sym e) (in_front ys zs i d)
+    to_run i d = subst (λ xs. Contains xs i) (sym e) (Contains-append_left ys zs i d)
 
 pub since : (made : List Instr) (x : Instr) (c s : Reg) → IsCopy (made ++ x ∷ []) c s → Since made x c s
 since made x c s w = by (last_of made x w.others (move s c) w.run w.within)

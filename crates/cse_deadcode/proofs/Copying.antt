@@ -3,12 +3,12 @@ use Rattle.std.proofs.Common.{◌≡◌, ◌∙◌, ℕ, zero, suc, ◌<◌, ◌
 use Rattle.std.proofs.lemmas.Bool.{and_parts, and_from, le-leb}
 use Rattle.std.proofs.lemmas.List.{length-map}
 use Rattle.std.specs.List.{Contains, list_any}
+use Rattle.std.proofs.lemmas.List.Elements.{Contains-append_cases, Contains-append_left, Contains-append_right}
 use Rattle.bs_words.specs.declared.types.Comp.{Comp}
 use Rattle.bs_words.specs.declared.types.Comp.TheVariants as comp
 use Rattle.bs_words.specs.declared.types.Loc.{Loc}
 use Rattle.bs_words.specs.declared.types.Loc.TheVariants as loc
-use Rattle.bs_words.proofs.Lists.{none_in, first_in, later_in, in_cons}
-use Rattle.liveness.proofs.Bounds.{split_in}
+use Rattle.bs_words.proofs.Lists.{none_in, first_in, later_in, in_cons, head_same}
 use Rattle.mach_ir.specs.Forms as form
 use Rattle.mach_ir.specs.Forms.{HasForm}
 use Rattle.mach_ir.specs.Formed.{comps, IsFormed, formed_op, formed_mark, WellFormed}
@@ -31,7 +31,7 @@ use Rattle.cse_deadcode.specs.Copies.{is_move, is_copy, source_first, source_by,
 use Rattle.cse_deadcode.proofs.Last.{AreQuiet, Found, find, last_from}
 use Rattle.cse_deadcode.proofs.Noting.{first_true, only_first, number_written, written_number, number_write, unwritten, quiet, ends_run, in_run}
 use Rattle.cse_deadcode.proofs.Alike.{one_of}
-use Rattle.cse_deadcode.proofs.Parts.{in_front, behind, at_seam, head_of, Places, one_place, further_on, places, operand_in, result_in}
+use Rattle.cse_deadcode.proofs.Parts.{at_seam, Places, one_place, further_on, places, operand_in, result_in}
 use Rattle.cse_deadcode.proofs.Planned as step
 use Rattle.cse_deadcode.proofs.Standing.{of_each, all_straight, quiet_later, later_quiet, still_holds, holds_still}
 use Rattle.mach_ir.specs.Places.{is_open, same_comp}
@@ -222,7 +222,7 @@ module _ (m : Mach) (formed : WellFormed m) where
           by (one_place a b g) = record { is = b; place = a }
           by (further_on mid a b) =
               absurd (not_both (happens key f.found) f.holds
-              (silent q c f.found (subst (λ run. Contains run f.found) (sym b) (behind mid (f.found ∷ f.run) f.found (first_in f.found f.run)))))
+              (silent q c f.found (subst (λ run. Contains run f.found) (sym b) (Contains-append_right mid (f.found ∷ f.run) f.found (first_in f.found f.run)))))
 
       -- another instruction leaves no copy
       other_last : is_move f.found.op ≡ false → ReadFor made r (source_of (last_time made) made r)
@@ -239,7 +239,7 @@ module _ (m : Mach) (formed : WellFormed m) where
       moved_to h = record { from = g.read s.from; is = whole ∙ ap (move (g.read s.from)) same }
         where
           g : IsMade f.found
-          g = are f.found (subst (λ code. Contains code f.found) (sym f.within) (behind f.others (f.found ∷ f.run) f.found (first_in f.found f.run)))
+          g = are f.found (subst (λ code. Contains code f.found) (sym f.within) (Contains-append_right f.others (f.found ∷ f.run) f.found (first_in f.found f.run)))
 
           s : Moves g.from
           s = moves_of (of_each IsFormed m.code g.from formed.instrs g.known) (ap (λ (j : Instr). is_move j.op) (sym g.is) ∙ h)
@@ -291,7 +291,7 @@ module _ (m : Mach) (formed : WellFormed m) where
           d = moved_to h
 
           same_source : (q : Reg) (c : IsCopy made r q) → q ≡ d.from
-          same_source q c = head_of (ap (λ (j : Instr). j.args) ((the_move q c).is ∙ d.is))
+          same_source q c = head_same (ap (λ (j : Instr). j.args) ((the_move q c).is ∙ d.is))
 
           by : (b : Bool) → is_copy (last_time made) time d.from r ≡ b → ReadFor made r (source_of (last_time made) made r)
           by true e = subst (ReadFor made r) (sym (by_move d ∙ ap (λ b. cond b d.from r) e)) (source (copied d e))
@@ -329,7 +329,7 @@ module _ (m : Mach) (formed : WellFormed m) where
       (λ d.
       ⊎_elim (λ e. record { from = i; known = c i (first_in i next); read = source_of (last_time made) made; is = sym e })
       (λ n. absurd (none_in j n)) (in_cons (remade with_sources made i) j [] d))
-      (split_in made (remade with_sources made i ∷ []) j d))
+      (Contains-append_cases made (remade with_sources made i ∷ []) j d))
       (λ j d. c j (later_in i j next d))
 
   abbrev after : List Instr → List Instr
@@ -351,8 +351,8 @@ module _ (m : Mach) (formed : WellFormed m) where
   read_after before i next e r c =
       subst (ReadFor (after before) r) (ap (λ p. p r) (sym (step.planned with_sources choice (λ r. r) m.code before i next e)))
       (read_for (after before)
-      (all_made [] before (λ j d. absurd (none_in j d)) (λ j d. subst (λ code. Contains code j) (sym e) (in_front before (i ∷ next) j d)))
-      r (is_in_code (operand_in m.code i r (subst (λ code. Contains code i) (sym e) (behind before (i ∷ next) i (first_in i next))) c)))
+      (all_made [] before (λ j d. absurd (none_in j d)) (λ j d. subst (λ code. Contains code j) (sym e) (Contains-append_left before (i ∷ next) j d)))
+      r (is_in_code (operand_in m.code i r (subst (λ code. Contains code i) (sym e) (Contains-append_right before (i ∷ next) i (first_in i next))) c)))
 
   pub is_propagated : (q : Mach) → q ≡ record m { code = made_by with_sources [] m.code } → IsPropagated m q
   is_propagated q e =

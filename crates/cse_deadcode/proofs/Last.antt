@@ -17,10 +17,6 @@ module _ {X : Type 0} (test : X → Bool) where
   after_one true = refl
   after_one false = refl
 
-  before_any : (a b : Bool) (n m : ℕ) → n ≡ m → or_before a (cond b (suc m) 0) ≡ cond b (suc (suc m)) (or_before a 0)
-  before_any a true n m e = refl
-  before_any a false n m e = refl
-
   over : (a b : Bool) (n m : ℕ) → or_before a (cond b (suc n) m) ≡ cond b (suc (suc n)) (or_before a m)
   over a true n m = refl
   over a false n m = refl

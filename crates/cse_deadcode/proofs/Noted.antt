@@ -19,26 +19,9 @@ twice true false time old = refl
 twice false true time old = refl
 twice false false time old = refl
 
-pub twice_back : (a b : Bool) (time old : ℕ) → cond a time (cond b time old) ≡ cond (a || b) time old
-twice_back true b time old = refl
-twice_back false b time old = refl
-
-pub thrice : (a b c : Bool) (time old : ℕ) → cond c time (cond b time (cond a time old)) ≡ cond (a || (b || c)) time old
-thrice true true true time old = refl
-thrice true true false time old = refl
-thrice true false true time old = refl
-thrice true false false time old = refl
-thrice false true true time old = refl
-thrice false true false time old = refl
-thrice false false true time old = refl
-thrice false false false time old = refl
-
 -- a table in which writes of these registers are noted
 pub record Notes (old new : Times) (time : ℕ) (regs : List Reg) : Type 0 where
   pub each : (e : Event) → time_in new e ≡ cond (list_any (writes e) regs) time (time_in old e)
-
-pub notes_none : (old : Times) (time : ℕ) (regs : List Reg) → Notes old old time (take 0 regs)
-notes_none old time regs = record { each = λ e. refl }
 
 pub notes_more : (old now new : Times) (time : ℕ) (regs : List Reg) (i : ℕ) (d : Reg) → i < length regs →
     Notes old now time (take i regs) → ((e : Event) → time_in new e ≡ cond (writes e (get_or regs i d)) time (time_in now e)) →
@@ -73,14 +56,6 @@ pub record Remaking (make : Making) (code rest made : List Instr) (times : Times
   pub are : AreTimes times made
   pub whole : made_by make made rest ≡ made_by make [] code
 
-pub remaking_begun : (make : Making) (code rest made : List Instr) (times : Times) → rest ≡ code → made ≡ [] →
-    ((e : Event) → time_in times e ≡ 0) → Remaking make code rest made times
-remaking_begun make code rest made times e h zero =
-    record {
-      are = record { each = λ e. zero e ∙ ap (λ code. last_time code e) (sym h) };
-      whole = ap (λ made. made_by make made rest) h ∙ ap (made_by make []) e;
-    }
-
 pub remaking_more : (make : Making) (code rest later made after : List Instr) (times new : Times) (i x : Instr) (time : ℕ) →
     rest ≡ i ∷ later → x ≡ make (time_in times) made i → time ≡ length made + 1 →
     ((e : Event) → time_in new e ≡ cond (happens e x) time (time_in times e)) → after ≡ made ++ x ∷ [] →
@@ -97,7 +72,3 @@ remaking_more make code rest later made after times new i x time next is now not
 
     same : x ≡ remade make made i
     same = is ∙ ap (λ at. make at made i) clock
-
-pub remaking_done : (make : Making) (code rest made result : List Instr) (times : Times) → Remaking make code rest made times →
-    rest ≡ [] → result ≡ made → result ≡ made_by make [] code
-remaking_done make code rest made result times r none e = e ∙ ap (made_by make made) (sym none) ∙ r.whole

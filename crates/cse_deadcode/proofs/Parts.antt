@@ -5,29 +5,7 @@ use Rattle.std.specs.List.{Contains}
 use Rattle.mach_ir.specs.Walks.{InCode, in_args, in_results, further}
 use Rattle.mach_ir.specs.declared.reg.Reg.{Reg}
 use Rattle.mach_ir.specs.declared.mach.Instr.{Instr}
-use Rattle.bs_words.proofs.Lists.{none_in, first_in, later_in, in_cons, drop_none}
-
-pub in_front : {A : Type 0} (xs ys : List A) (y : A) → Contains xs y → Contains (xs ++ ys) y
-in_front [] ys y c = absurd (none_in y c)
-in_front (x ∷ xs) ys y c =
-    ⊎_elim (λ e. subst (Contains (x ∷ (xs ++ ys))) e (first_in x (xs ++ ys)))
-    (λ d. later_in x y (xs ++ ys) (in_front xs ys y d)) (in_cons x y xs c)
-
-pub behind : {A : Type 0} (xs ys : List A) (y : A) → Contains ys y → Contains (xs ++ ys) y
-behind [] ys y c = c
-behind (x ∷ xs) ys y c = later_in x y (xs ++ ys) (behind xs ys y c)
-
-pub none_cons : {A : Type 0} {x : A} {xs : List A} → [] ≡ x ∷ xs → ⊥
-none_cons e = cc
-
-pub cons_none : {A : Type 0} {x : A} {xs : List A} → x ∷ xs ≡ [] → ⊥
-cons_none e = cc
-
-pub head_of : {A : Type 0} {x y : A} {xs ys : List A} → x ∷ xs ≡ y ∷ ys → x ≡ y
-head_of e = cc
-
-pub tail_of : {A : Type 0} {x y : A} {xs ys : List A} → x ∷ xs ≡ y ∷ ys → xs ≡ ys
-tail_of e = cc
+use Rattle.bs_words.proofs.Lists.{none_in, in_cons, drop_none, head_same, tail_same}
 
 pub some_same : {A : Type 0} {x y : A} → Some x ≡ Some y → x ≡ y
 some_same e = cc
@@ -54,14 +32,14 @@ places_more {z = z} (further_on mid e h) = further_on mid (ap (λ xs. z ∷ xs) 
 
 pub places : {A : Type 0} (xs : List A) (x : A) (past ys : List A) (y : A) (rest : List A) → xs ++ x ∷ past ≡ ys ++ y ∷ rest →
     length xs ≤ length ys → Places xs x past ys y rest
-places [] x past [] y rest e le = one_place refl (head_of e) (tail_of e)
+places [] x past [] y rest e le = one_place refl (head_same e) (tail_same e)
 places [] x past (z ∷ ys) y rest e le =
-    further_on ys (ap (λ v. v ∷ ys) (sym (head_of e))) (tail_of e)
+    further_on ys (ap (λ v. v ∷ ys) (sym (head_same e))) (tail_same e)
 places (v ∷ xs) x past [] y rest e le = absurd (omega (arith, le))
 places (v ∷ xs) x past (z ∷ ys) y rest e le =
     let less : length xs ≤ length ys = omega (arith, le) in
-    subst (λ u. Places (v ∷ xs) x past (u ∷ ys) y rest) (head_of e)
-    (places_more (places xs x past ys y rest (tail_of e) less))
+    subst (λ u. Places (v ∷ xs) x past (u ∷ ys) y rest) (head_same e)
+    (places_more (places xs x past ys y rest (tail_same e) less))
 
 -- a place is not after the last
 pub places_end : {A : Type 0} (xs : List A) (x : A) (past ys : List A) (y : A) → xs ++ x ∷ past ≡ ys ++ y ∷ [] →

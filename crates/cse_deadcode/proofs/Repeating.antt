@@ -1,7 +1,7 @@
 -- Moves from what an operator repeats by the times of the code are exactly the repeats.
 use Rattle.std.proofs.Common.{◌≡◌, ◌∙◌, ℕ, zero, suc, ◌<◌, ◌≤◌, Bool, true, false, cond, ◌||◌, ⊎_elim, List, [], ◌∷◌, ◌++◌, length, Option, Some, None, slice_get, refl, sym, ap, subst, arith}
 use Rattle.std.specs.List.{Contains, list_any}
-use Rattle.liveness.proofs.Bounds.{split_in}
+use Rattle.std.proofs.lemmas.List.Elements.{Contains-append_cases, Contains-append_left, Contains-append_right}
 use Rattle.mach_ir.specs.Formed.{IsFormed, WellFormed}
 use Rattle.mach_ir.specs.Placed.{is_straight}
 use Rattle.mach_ir.specs.Walks.{is_in_code}
@@ -16,7 +16,7 @@ use Rattle.mach_ir.specs.declared.mach.MachOp.{MachOp}
 use Rattle.mach_ir.specs.declared.mach.MachOp.TheVariants as mach
 use Rattle.repeat_rules.specs.Repeated.{is_operator, StillStands, Repeats, from_earlier, IsBefore, IsRepeated}
 use Rattle.bs_words.specs.declared.operators.IntOp.{IntOp}
-use Rattle.bs_words.proofs.Lists.{none_in, first_in, later_in, in_cons}
+use Rattle.bs_words.proofs.Lists.{none_in, first_in, later_in, in_cons, none_there}
 use Rattle.cse_deadcode.specs.declared.events.Computed.{Computed}
 use Rattle.cse_deadcode.specs.declared.events.Event.{Event}
 use Rattle.cse_deadcode.specs.declared.events.Event.TheVariants as event
@@ -27,7 +27,7 @@ use Rattle.cse_deadcode.specs.Repeats.{stands, standing_first, standing, standin
 use Rattle.cse_deadcode.proofs.Last.{Found, find, last_from}
 use Rattle.cse_deadcode.proofs.Noting.{second_true, any_none, never_written}
 use Rattle.cse_deadcode.proofs.Alike.{operator_of, same_itself, OperatorShape, operator_shape, alike}
-use Rattle.cse_deadcode.proofs.Parts.{in_front, behind, none_cons, some_same, none_some, some_none, at_seam, Places, one_place, further_on, places, places_end, operand_in}
+use Rattle.cse_deadcode.proofs.Parts.{some_same, none_some, some_none, at_seam, Places, one_place, further_on, places, places_end, operand_in}
 use Rattle.cse_deadcode.proofs.Planned as step
 use Rattle.cse_deadcode.proofs.Standing.{of_each, all_straight, still_stands, stands_still}
 use Rattle.bs_words.proofs.Truths.{not_both}
@@ -157,7 +157,7 @@ module _ (m : Mach) (formed : WellFormed m) where
         (ap (λ code. slice_get code (length f.others)) f.within ∙ at_seam f.others f.found f.run)
 
     in_made : (others : List Instr) (j : Instr) (run : List Instr) → made ≡ others ++ j ∷ run → Contains made j
-    in_made others j run e = subst (λ code. Contains code j) (sym e) (behind others (j ∷ run) j (first_in j run))
+    in_made others j run e = subst (λ code. Contains code j) (sym e) (Contains-append_right others (j ∷ run) j (first_in j run))
 
     -- ---- what is found is repeated
 
@@ -193,7 +193,7 @@ module _ (m : Mach) (formed : WellFormed m) where
         (t : StillStands made j r) → t.others ≡ others → t.run ≡ mid ++ k ∷ rest → StillStands (others ++ j ∷ mid) j r
     stood others j mid k rest r t e h =
         let within : (x : Instr) → Contains mid x → Contains t.run x =
-        λ x c. subst (λ code. Contains code x) (sym h) (in_front mid (k ∷ rest) x c) in
+        λ x c. subst (λ code. Contains code x) (sym h) (Contains-append_left mid (k ∷ rest) x c) in
         record {
           others = others;
           run = mid;
@@ -279,7 +279,7 @@ module _ (m : Mach) (formed : WellFormed m) where
           from = λ j c o.
               ⊎_elim (λ d. fresh.from j d o)
               (λ d. ⊎_elim (λ e. last_of j e o fate) (λ n. absurd (none_in j n)) (in_cons (remade without_repeat made i) j [] d))
-              (split_in made (remade without_repeat made i ∷ []) j c);
+              (Contains-append_cases made (remade without_repeat made i ∷ []) j c);
           once = λ others j run e r p. by others j run e r p (places_end others j run made (remade without_repeat made i) (sym e));
         }
       where
@@ -305,8 +305,8 @@ module _ (m : Mach) (formed : WellFormed m) where
       }
     where
       nothing : (others : List Instr) (j : Instr) (run : List Instr) → [] ≡ others ++ j ∷ run → ⊥
-      nothing [] j run e = none_cons e
-      nothing (x ∷ others) j run e = none_cons e
+      nothing [] j run e = none_there e
+      nothing (x ∷ others) j run e = none_there e
 
   fresh_all : (made code : List Instr) → Fresh made → ((i : Instr) → Contains code i → Contains m.code i) →
       Fresh (made_by without_repeat made code)
@@ -350,10 +350,10 @@ module _ (m : Mach) (formed : WellFormed m) where
 
   fresh_before : (before : List Instr) (i : Instr) (next : List Instr) → m.code ≡ before ++ i ∷ next → Fresh (after before)
   fresh_before before i next e =
-      fresh_all [] before fresh_none (λ j c. subst (λ code. Contains code j) (sym e) (in_front before (i ∷ next) j c))
+      fresh_all [] before fresh_none (λ j c. subst (λ code. Contains code j) (sym e) (Contains-append_left before (i ∷ next) j c))
 
   of_code : (before : List Instr) (i : Instr) (next : List Instr) → m.code ≡ before ++ i ∷ next → Contains m.code i
-  of_code before i next e = subst (λ code. Contains code i) (sym e) (behind before (i ∷ next) i (first_in i next))
+  of_code before i next e = subst (λ code. Contains code i) (sym e) (Contains-append_right before (i ∷ next) i (first_in i next))
 
   pub is_repeated : (q : Mach) → q ≡ record m { code = made_by without_repeat [] m.code } → IsRepeated m q
   is_repeated q e =

@@ -1,7 +1,7 @@
 -- What is dropped by the table is dead, and the code that is left, from its end.
 use Rattle.std.proofs.Common.{◌≡◌, ℕ, ◌+◌, ◌-◌, Bool, true, false, not, cond, ◌&&◌, inl, inr, List, [], ◌∷◌, ◌++◌, length, refl, sym, ap, ◌∙◌, subst, append_assoc, arith}
 use Rattle.std.proofs.lemmas.Bool.{or_cases}
-use Rattle.std.proofs.lemmas.List.{append-nil, length-append}
+use Rattle.std.proofs.lemmas.List.{length-append}
 use Rattle.bs_bits.specs.Set.{has}
 use Rattle.dataflow.specs.Rows.{row}
 use Rattle.mach_ir.specs.Walks.{Among, first, later}
@@ -94,9 +94,6 @@ pub record Dropping (rows : List (List Bool)) (code items left : List Instr) : T
   pub whole : items ++ done ≡ code
   pub left_so : left ≡ expand (without (drops_by rows code)) done
 
-pub dropping_begun : (rows : List (List Bool)) (code items left : List Instr) → items ≡ code → left ≡ [] → Dropping rows code items left
-dropping_begun rows code items left e h = record { done = []; whole = append-nil items ∙ e; left_so = h }
-
 ending_past : (xs ys : List Instr) → Ending ys (xs ++ ys)
 ending_past [] ys = all
 ending_past (x ∷ xs) ys = more (ending_past xs ys)
@@ -132,8 +129,3 @@ dropping_more rows code items rest left new i after popped here e r =
     same =
         ap (λ b. may_go i.op && b) (dead_at rows code i r.done ending ∙ ap (λ k. is_dead rows k i) place)
         ∙ again_and (may_go i.op) (not (is_one_used rows after i.results))
-
-pub dropping_done : (rows : List (List Bool)) (code items left made : List Instr) → Dropping rows code items left → items ≡ [] → made ≡ left →
-    made ≡ expand (without (drops_by rows code)) code
-dropping_done rows code items left made r none e =
-    e ∙ r.left_so ∙ ap (expand (without (drops_by rows code))) (ap (λ xs. xs ++ r.done) (sym none) ∙ r.whole)

@@ -1,12 +1,11 @@
 -- A function without its dead instructions does what it did: what is used holds the same.
 use Rattle.std.proofs.Common.{◌≡◌, ℕ, Bool, true, false, inl, inr, ◌⊎◌, ⊎_elim, List, [], ◌∷◌, length, Option, Some, None, refl, sym, ap, ◌∙◌, subst}
-use Rattle.std.proofs.lemmas.List.Elements.{All-contains}
 use Rattle.bs_words.specs.Memory.{Memory}
 use Rattle.bs_words.specs.declared.values.Value.{Value}
 use Rattle.bs_words.proofs.Lists.{head_same, tail_same}
 use Rattle.cmm_meaning.specs.State.{Doing}
 use Rattle.mach_ir.specs.Acts.{Around, Target, On, At, Landing, AtLabel, AtHandler, Replaces}
-use Rattle.mach_ir.specs.Formed.{IsFormed, WellFormed}
+use Rattle.mach_ir.specs.Formed.{WellFormed}
 use Rattle.mach_ir.specs.Runs.{Place, entered}
 use Rattle.mach_ir.specs.Meaning.{State, File, put_all, clear, killed, written, values, past_frame, passes_frame, after_label, at_handler, code_at, tries_at, landing_code, start}
 use Rattle.mach_ir.specs.Walks.{Among, OneOf, targets, may_raise, goes, raises, Live, LiveAcross}
@@ -19,7 +18,7 @@ use Rattle.mach_laws.proofs.General as general
 use Rattle.mach_laws.proofs.General.{at}
 use Rattle.mach_laws.proofs.Leads.{IsTry, MayLand, lands_at_label, lands_at_handler, try_on}
 use Rattle.mach_laws.proofs.Level as level
-use Rattle.mach_laws.proofs.Places.{ending_next, ending_label, ending_land, stands_of, contains_of, land_expand}
+use Rattle.mach_laws.proofs.Places.{ending_next, ending_label, ending_land, stands_of, land_expand, form_of}
 use Rattle.mach_laws.proofs.Simulate.{Agrees}
 use Rattle.mach_laws.proofs.Among.{split_among}
 use Rattle.mach_laws.proofs.Raised.{IsRaised, IsSilent, label_silent, try_silent, told}
@@ -39,9 +38,6 @@ module _ (m : Mach) (drops : ℕ → Bool) (dead : AreDead m drops) (formed : We
   -- what is used holds the same
   abbrev Same : List Instr → File → File → Type 0
   Same rest a b = (n : ℕ) → IsUsed m n rest → a n ≡ b n
-
-  form_of : {i : Instr} {next : List Instr} → Ending (i ∷ next) m.code → IsFormed i
-  form_of {i} e = All-contains IsFormed m.code i formed.instrs (contains_of (stands_of e))
 
   -- ---- where registers of one origin agree
 
@@ -155,7 +151,7 @@ module _ (m : Mach) (drops : ℕ → Bool) (dead : AreDead m drops) (formed : We
         ))
 
     landed : (to : Landing) → MayLand i.op to → Same (landing_code m.code (i ∷ next) to) a' b'
-    landed (AtLabel l) (lands_at_label o) n u = still n (on (label_silent m (form_of ending) l o n) (goes (At l) o) u)
+    landed (AtLabel l) (lands_at_label o) n u = still n (on (label_silent m (form_of formed ending) l o n) (goes (At l) o) u)
     landed AtHandler (lands_at_handler r) n u = still n (caught r (tries_at (i ∷ next)) refl u)
 
     lands : (to : Landing) → MayLand i.op to → (y : Around) → IsSilent m i ⊎ IsRaised y.raised →
@@ -169,7 +165,7 @@ module _ (m : Mach) (drops : ℕ → Bool) (dead : AreDead m drops) (formed : We
     )
 
     pushed : IsTry i.op → Same next a' b'
-    pushed t n u = still n (on (try_silent m (form_of ending) t n) (goes On (try_on i.op t)) u)
+    pushed t n u = still n (on (try_silent m (form_of formed ending) t n) (goes On (try_on i.op t)) u)
 
     same_operation : level.SameOperation c m q f (keeps_marks drops) refl Suit Same (IsSilent m i) i i next [] a' b'
     same_operation =
@@ -184,7 +180,7 @@ module _ (m : Mach) (drops : ℕ → Bool) (dead : AreDead m drops) (formed : We
             λ y w. (
               (refl, pushed t),
               agrees_by next (ending_next ending) a' b' y (written m i) (pushed t)
-                  (silent_wrote i y.raised a' b' (inl (try_silent m (form_of ending) t))) w,
+                  (silent_wrote i y.raised a' b' (inl (try_silent m (form_of formed ending) t))) w,
             ),
           );
         }
@@ -205,7 +201,7 @@ module _ (m : Mach) (drops : ℕ → Bool) (dead : AreDead m drops) (formed : We
           passing = general.passed;
           vals = λ known. vals_before i next a b y ending same known;
           reads = sym (values_same a b i.args (λ n z. same n (used_by m drops dead ending kept z))) ∙ e;
-          told = told m (form_of ending) c.setting vs y;
+          told = told m (form_of formed ending) c.setting vs y;
           same = same_operation;
         })
 

@@ -13,7 +13,7 @@ use Rattle.mach_ir.specs.declared.reg.Reg.{Reg}
 use Rattle.mach_ir.specs.declared.mach.Instr.{Instr}
 use Rattle.mach_ir.specs.declared.mach.Mach.{Mach}
 use Rattle.mach_laws.specs.Expand.{expand, Ending}
-use Rattle.mach_laws.proofs.Places.{label_expand, handler_expand, tries_expand, ending_next, ending_label, ending_from_handler, stands_of, head_of, tail_of, straight_cons, straight_none}
+use Rattle.mach_laws.proofs.Places.{label_expand, handler_expand, tries_expand, ending_next, ending_label, ending_from_handler, stands_of, head_of, tail_of, straight_cons, straight_none, stands_in, contains_of}
 use Rattle.pass_rules.specs.Carried.{EndsInReturn, at_return, further as end_below}
 use Rattle.dead_rules.specs.Dropped.{may_go, without}
 use Rattle.dead_rules.proofs.Text.{pure_of, pure_on, pure_straight, label_stays, handler_stays, Fate, falls, remains, fate, keeps_marks}
@@ -46,6 +46,9 @@ module _ (drops : ℕ → Bool) where
       by : Fate drops i is → (Stands j zs (expand f is) → IsMain j zs is) → IsMain j zs (i ∷ is)
       by (falls g d e h) again = more_of (again (subst (Stands j zs) h s))
       by (remains k e h) again = at_head k refl refl (subst (Stands j zs) h s) again
+
+  pub contains_back : (code : List Instr) (i : Instr) → Contains (expand f code) i → Contains code i
+  contains_back code i c = let s = stands_in (expand f code) i c in contains_of (was_main code i s.0 s.1).stands
 
   pub code_back : {r : Reg} (code : List Instr) → InCode r (expand f code) → InCode r code
   code_back [] c = c

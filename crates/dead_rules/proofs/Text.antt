@@ -8,8 +8,8 @@ use Rattle.bs_words.specs.declared.values.Value.{Value}
 use Rattle.bs_words.specs.declared.values.Value.TheVariants as value
 use Rattle.cmm_meaning.specs.Setting.{Setting}
 use Rattle.mach_ir.specs.Acts.{Around, On, Act, Goes, Stuck, pure_act, one_result, if_known}
-use Rattle.mach_ir.specs.Formed.{labels_in, labels_of, leaves}
-use Rattle.mach_ir.specs.Meaning.{has_label, is_handler_of, destroyed_by, killed_by, mach_act, passes_frame, tries_past}
+use Rattle.mach_ir.specs.Formed.{labels_in}
+use Rattle.mach_ir.specs.Meaning.{has_label, is_handler_of, destroyed_by, killed_by, mach_act, passes_frame}
 use Rattle.mach_ir.specs.Placed.{is_straight}
 use Rattle.mach_ir.specs.Walks.{OneOf, this, other, targets, may_raise}
 use Rattle.mach_ir.specs.declared.op.Op.TheVariants as op
@@ -21,12 +21,10 @@ use Rattle.mach_ir.specs.declared.mach.MachOp.{MachOp}
 use Rattle.mach_ir.specs.declared.mach.MachOp.TheVariants as mach
 use Rattle.mach_ir.specs.declared.mach.Instr.{Instr}
 use Rattle.mach_laws.specs.Expand.{expand, KeepsMarks, NoLabel, no_label, not_labelled, NoHandler, no_handler, not_handled, bounds_try, NoBound, no_bound, not_bound}
+use Rattle.mach_laws.proofs.InPlace.{same_head, IsPure, is_pure}
 use Rattle.dead_rules.specs.Dropped.{may_go, without}
 
 -- ---- what may go
-
-pub data IsPure : MachOp → Type 0 where
-  is_pure : {f : Pure} → IsPure (mach.Op (op.Pure f))
 
 pub pure_of : (g : MachOp) → may_go g ≡ true → IsPure g
 pure_of (mach.Op (op.Pure f)) e = is_pure
@@ -53,9 +51,6 @@ pure_kills cs results is_pure = refl
 
 pub pure_straight : {g : MachOp} → IsPure g → is_straight g ≡ true
 pure_straight is_pure = refl
-
-pure_tries : {g : MachOp} (ts : List ℕ) → IsPure g → tries_past g ts ≡ ts
-pure_tries ts is_pure = refl
 
 -- it goes on, with nothing changed round it, or is stuck
 abbrev pub GoesOn : Around → Act → Type 0
@@ -104,20 +99,6 @@ bound_stays (mach.Mark g) e = refl
 pub mark_stays : (f : _) (g : MachOp) → g ≡ mach.Mark f → may_go g ≡ false
 mark_stays f g e = ap may_go e
 
-pub raise_stays : (g : MachOp) → may_raise g ≡ true → may_go g ≡ false
-raise_stays (mach.Op (op.Pure f)) e = absurd (both_ways false refl e)
-raise_stays (mach.Op (op.Access f)) e = refl
-raise_stays (mach.Op (op.Calling f)) e = refl
-raise_stays (mach.Op (op.Leaving f)) e = refl
-raise_stays (mach.Mark f) e = refl
-
-pub leave_stays : (g : MachOp) → leaves g ≡ true → may_go g ≡ false
-leave_stays (mach.Op (op.Pure f)) e = absurd (both_ways false refl e)
-leave_stays (mach.Op (op.Access f)) e = refl
-leave_stays (mach.Op (op.Calling f)) e = refl
-leave_stays (mach.Op (op.Leaving f)) e = refl
-leave_stays (mach.Mark f) e = refl
-
 -- it has no label
 pub pure_labels : (i : Instr) (is : List Instr) → IsPure i.op → labels_in (i ∷ is) ≡ labels_in is
 pure_labels i is p = by i.op i.args i.results p
@@ -125,15 +106,6 @@ pure_labels i is p = by i.op i.args i.results p
     by : (g : MachOp) (args results : List Reg) → IsPure g →
         labels_in (record { op = g; args = args; results = results } ∷ is) ≡ labels_in is
     by g args results is_pure = refl
-
-pub same_head : (i : Instr) (xs ys : List Instr) → labels_in xs ≡ labels_in ys → labels_in (i ∷ xs) ≡ labels_in (i ∷ ys)
-same_head i xs ys e = by i.op i.args i.results
-  where
-    by : (g : MachOp) (args results : List Reg) →
-        labels_in (record { op = g; args = args; results = results } ∷ xs)
-        ≡ labels_in (record { op = g; args = args; results = results } ∷ ys)
-    by (mach.Op g) args results = e
-    by (mach.Mark g) args results = ap (λ ls. labels_of g ++ ls) e
 
 module _ (drops : ℕ → Bool) where
   abbrev pub f : ℕ → Instr → List Instr

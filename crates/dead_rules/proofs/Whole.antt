@@ -1,6 +1,5 @@
 -- What a function without its dead instructions keeps, and that it is one.
 use Rattle.std.proofs.Common.{◌≡◌, ℕ, ◌≤◌, Bool, true, false, cond, ◌&&◌, inl, inr, List, [], ◌∷◌, ◌++◌, length, refl, sym, ap, ◌∙◌, subst, arith}
-use Rattle.std.specs.List.{Contains}
 use Rattle.std.proofs.Math.Nat.{le_trans}
 use Rattle.mach_ir.specs.Acts.{On}
 use Rattle.mach_ir.specs.Formed.{IsFormed, AreDistinct, HasPlace, HasHandler, WellFormed}
@@ -14,12 +13,12 @@ use Rattle.mach_ir.specs.declared.reg.Reg.{Reg}
 use Rattle.mach_ir.specs.declared.mach.Instr.{Instr}
 use Rattle.mach_ir.specs.declared.mach.Mach.{Mach}
 use Rattle.mach_laws.specs.Expand.{expand}
-use Rattle.mach_laws.proofs.Places.{ending_next, ending_of, stands_behind, stands_within, head_of, tail_of, straight_cons, contains_of, stands_in}
+use Rattle.mach_laws.proofs.Places.{ending_next, ending_of, stands_behind, stands_within, head_of, tail_of, straight_cons}
 use Rattle.pass_rules.proofs.Formed.{KeepsPlaces, stood}
 use Rattle.pass_rules.proofs.Formed as places
 use Rattle.dead_rules.specs.Dropped.{may_go, without, dropped, AreDead, IsDropped, IsLive, IsKept}
 use Rattle.dead_rules.proofs.Kept.{does_dropped}
-use Rattle.dead_rules.proofs.Left.{IsMain, was_main, contains_left, place_left, handler_left, tries_before, run_back, label_is, handler_is}
+use Rattle.dead_rules.proofs.Left.{IsMain, was_main, contains_left, place_left, handler_left, tries_before, run_back, label_is, handler_is, contains_back}
 use Rattle.dead_rules.proofs.Live.{used_there, was_register, joined_back, no_addr_back}
 use Rattle.dead_rules.proofs.Text.{pure_of, pure_on, mark_stays, Fate, falls, remains, fate, same_labels}
 
@@ -37,9 +36,6 @@ module _ (m : Mach) (drops : ℕ → Bool) (dead : AreDead m drops) where
   was r i = was_register m drops dead r i
 
   -- ---- what is in the code
-
-  contains_back : (i : Instr) → Contains q.code i → Contains m.code i
-  contains_back i c = let s = stands_in q.code i c in contains_of (main i s.0 s.1).stands
 
   -- ---- allocations
 
@@ -106,7 +102,7 @@ module _ (m : Mach) (drops : ℕ → Bool) (dead : AreDead m drops) where
       }
 
   still_seated : Seated m → Seated q
-  still_seated = places.still_seated m q.code contains_back
+  still_seated = places.still_seated m q.code (contains_back drops m.code)
 
   keeps_places : KeepsPlaces m q.code
   keeps_places =
@@ -115,7 +111,7 @@ module _ (m : Mach) (drops : ℕ → Bool) (dead : AreDead m drops) where
             let w = main i zs s in
             stood w.stands (tries_before drops w.next w.same) (λ l p. subst (HasPlace l) (sym w.same) (place_left drops p))
             (λ l p. subst (HasHandler l) (sym w.same) (handler_left drops p));
-        among = λ i c. inr (contains_back i c);
+        among = λ i c. inr (contains_back drops m.code i c);
         marks = λ i g e c. contains_left drops m.code i (mark_stays g i.op e) c;
         places = λ l p. place_left drops p;
         labels = same_labels drops m.code;
@@ -129,8 +125,8 @@ module _ (m : Mach) (drops : ℕ → Bool) (dead : AreDead m drops) where
     still_formed : WellFormed q
     still_formed =
         places.still_formed m q.code formed keeps_places
-        (places.all_still m q.code contains_back IsFormed formed.instrs)
-        (places.all_still m q.code contains_back (λ (i : Instr). AreDistinct i.results) formed.distinct)
+        (places.all_still m q.code (contains_back drops m.code) IsFormed formed.instrs)
+        (places.all_still m q.code (contains_back drops m.code) (λ (i : Instr). AreDistinct i.results) formed.distinct)
 
     still_placed : WellPlaced q
     still_placed = places.still_placed m q.code was (λ r k i j joined fixed e. joined_back m drops dead joined) placed
@@ -143,8 +139,8 @@ module _ (m : Mach) (drops : ℕ → Bool) (dead : AreDead m drops) where
           does = does_dropped m drops dead formed;
           origins = λ r i loose. record { register = r; among = was r i; loose = loose; same = refl };
           slots = λ r k i s. inl (record { register = r; among = was r i; stands = s; same = refl });
-          symbols = λ name. places.named_before m q.code contains_back (NamesSymbol name);
-          externals = λ row. places.named_before m q.code contains_back (NamesExternal row);
+          symbols = λ name. places.named_before m q.code (contains_back drops m.code) (NamesSymbol name);
+          externals = λ row. places.named_before m q.code (contains_back drops m.code) (NamesExternal row);
           addrs = no_addr_back m drops dead;
         }
 

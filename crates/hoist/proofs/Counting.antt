@@ -1,7 +1,6 @@
 -- How often registers are written, by what is noted of them.
-use Rattle.std.proofs.Common.{◌≡◌, ◌∙◌, ◌⊎◌, inl, inr, ⊎_elim, ℕ, zero, suc, ◌<◌, ◌≤◌, Bool, true, false, cond, List, [], ◌∷◌, length, drop, refl, sym, ap, subst, arith}
-use Rattle.std.specs.Prelude.{nat_eq, slice_index_or}
-use Rattle.std.proofs.Math.Seq.{drop-cons}
+use Rattle.std.proofs.Common.{◌≡◌, ◌∙◌, ◌⊎◌, ⊎_elim, ℕ, zero, suc, ◌≤◌, Bool, true, false, cond, List, [], ◌∷◌, length, drop, refl, sym, ap, subst, arith}
+use Rattle.std.specs.Prelude.{nat_eq}
 use Rattle.std.proofs.lemmas.Bool.Decides.{eqb_tells}
 use Rattle.mach_ir.specs.Walks.{Among, first, later, Stands, here, below}
 use Rattle.mach_ir.specs.declared.reg.Reg.{Reg}
@@ -9,25 +8,6 @@ use Rattle.mach_ir.specs.declared.mach.Instr.{Instr}
 use Rattle.hoist.specs.Written.{more, noted, noted_in}
 
 -- ---- one more
-
-pub noting_more : (n : ℕ) (regs : List Reg) (p : ℕ) (r : Reg) (old new : ℕ → ℕ) → p < length regs → r ≡ slice_index_or regs p r →
-    ((n : ℕ) → new n ≡ cond (nat_eq r.number n) (more (old r.number)) (old n)) →
-    noted n (drop (suc p) regs) (new n) ≡ noted n (drop p regs) (old n)
-noting_more n regs p r old new lt at put =
-    let head : drop p regs ≡ r ∷ drop (suc p) regs = drop-cons regs p r lt ∙ ap (λ x. x ∷ drop (suc p) regs) (sym at) in
-    ap (noted n (drop (suc p) regs)) (put n ∙ by (eqb_tells r.number n)) ∙ sym (ap (λ rs. noted n rs (old n)) head)
-  where
-    by : ((nat_eq r.number n ≡ true) × (r.number ≡ n)) ⊎ ((nat_eq r.number n ≡ false) × (r.number ≡ n → ⊥)) →
-        cond (nat_eq r.number n) (more (old r.number)) (old n) ≡ cond (nat_eq r.number n) (more (old n)) (old n)
-    by (inl t) = ap (λ k. cond (nat_eq r.number n) (more (old k)) (old n)) t.1
-    by (inr t) = ap (λ b. cond b (more (old r.number)) (old n)) t.0 ∙ sym (ap (λ b. cond b (more (old n)) (old n)) t.0)
-
-pub noting_code : (n : ℕ) (code : List Instr) (p : ℕ) (i : Instr) (old new : ℕ → ℕ) → p < length code → i ≡ slice_index_or code p i →
-    ((n : ℕ) → new n ≡ noted n i.results (old n)) →
-    noted_in n (drop (suc p) code) (new n) ≡ noted_in n (drop p code) (old n)
-noting_code n code p i old new lt at put =
-    let head : drop p code ≡ i ∷ drop (suc p) code = drop-cons code p i lt ∙ ap (λ x. x ∷ drop (suc p) code) (sym at) in
-    ap (noted_in n (drop (suc p) code)) (put n) ∙ sym (ap (λ is. noted_in n is (old n)) head)
 
 pub from_start : {X : Type 0} (xs : List X) → drop 0 xs ≡ xs
 from_start [] = refl

@@ -39,9 +39,6 @@ calls_more code p i at calm none q j lt there d =
 
 -- ---- greatest numbers
 
-pub above_none : (P : ℕ → Type 0) → ((k : ℕ) → P k → ⊥) → IsAbove P 0
-above_none P h = record { above = λ k p. absurd (h k p); least = inl refl }
-
 pub same_above : (P Q : ℕ → Type 0) (n : ℕ) → ((k : ℕ) → P k → Q k) → ((k : ℕ) → Q k → P k) → IsAbove P n → IsAbove Q n
 same_above P Q n f g a =
     record {
@@ -62,14 +59,6 @@ ExitBefore code p l e = (e < p) × IsExitTo code l e
 -- the last exit to each label, as far as the code is read
 pub record EndsBefore (code : List Instr) (p : ℕ) (ends : ℕ → ℕ) : Type 0 where
   pub each : (l : ℕ) → IsAbove (ExitBefore code p l) (ends l)
-
-pub ends_begun : (code : List Instr) (ends : ℕ → ℕ) → ((l : ℕ) → ends l ≡ 0) → EndsBefore code 0 ends
-ends_begun code ends none =
-    record {
-      each = λ l.
-          subst (IsAbove (ExitBefore code 0 l)) (sym (none l))
-          (above_none (ExitBefore code 0 l) (λ k w. let lt = w.0 in absurd (omega (arith, lt))));
-    }
 
 later : (p q : ℕ) → p < q → p < suc q
 later p q lt = omega (arith, lt)
@@ -131,9 +120,6 @@ ends_done code p ends past b =
     }
 
 -- ---- the reach
-
-pub reach_begun : (code : List Instr) → IsAbove (EndsFrom code 0) 0
-reach_begun code = above_none (EndsFrom code 0) (λ k w. let lt = w.before in absurd (omega (arith, lt)))
 
 module _ (code : List Instr) (p : ℕ) (i : Instr) (at : slice_get code p ≡ Some i) (ends : ℕ → ℕ) (are : AreEnds code ends) where
   earlier : (e : ℕ) → EndsFrom code p e → EndsFrom code (suc p) e
@@ -219,9 +205,6 @@ module _ (code : List Instr) (p : ℕ) (i : Instr) (at : slice_get code p ≡ So
       (subst (IsAbove (EndsFrom code (suc p))) (sym e) (reach_by r (label_of i.op) refl a))
 
 -- ---- flags
-
-pub flags_begun : (P : ℕ → Type 0) (flags : List Bool) → flags ≡ [] → AreFlags P 0 flags
-flags_begun P flags e = record { len = ap length e; each = λ p lt. absurd (omega (arith, lt)) }
 
 pub flags_more : (P : ℕ → Type 0) (n : ℕ) (old new : List Bool) (b : Bool) → new ≡ old ++ b ∷ [] → (b ≡ true) ↔ P n → AreFlags P n old →
     AreFlags P (n + 1) new

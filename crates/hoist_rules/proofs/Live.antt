@@ -3,6 +3,7 @@
 use Rattle.std.proofs.Common.{◌≡◌, ℕ, Bool, true, inl, inr, ◌⊎◌, ⊎_elim, List, [], ◌∷◌, ◌++◌, length, refl, sym, ◌∙◌, subst}
 use Rattle.std.specs.List.{Contains}
 use Rattle.std.proofs.lemmas.Bool.{both_ways}
+use Rattle.std.proofs.lemmas.List.Elements.{Contains-append_left, Contains-append_right, Contains-append_cases}
 use Rattle.mach_ir.specs.Acts.{Target, On}
 use Rattle.bs_words.specs.declared.types.Comp.TheVariants as comp
 use Rattle.bs_words.proofs.Lists.{none_in, head_same, tail_same}
@@ -20,7 +21,6 @@ use Rattle.dead_rules.proofs.Left.{IsMain, was_main, code_back, label_is, handle
 use Rattle.dead_rules.proofs.Text.{pure_of, pure_on, pure_only, pure_quiet, pure_no_frame}
 use Rattle.hoist_rules.specs.Hoisted.{MayMove, hoisted, MayAllMove}
 use Rattle.hoist_rules.proofs.Moved as at_entry_of
-use Rattle.hoist_rules.proofs.Moved.{first_part, second_part, in_part}
 
 module _ (m : Mach) (moves : ℕ → Bool) (may : MayAllMove m moves) where
   abbrev q : Mach
@@ -127,16 +127,16 @@ module _ (m : Mach) (moves : ℕ → Bool) (may : MayAllMove m moves) where
 
   results_code : {r : Reg} (xs : List Instr) → Contains (at_entry_of.results_in xs) r → InCode r xs
   results_code {r} [] c = absurd (none_in r c)
-  results_code (i ∷ is) c =
-      ⊎_elim (λ d. in_results d) (λ d. further (results_code is d)) (in_part i.results (at_entry_of.results_in is) c)
+  results_code {r} (i ∷ is) c =
+      ⊎_elim (λ d. in_results d) (λ d. further (results_code is d)) (Contains-append_cases i.results (at_entry_of.results_in is) r c)
 
   code_results : {r : Reg} {xs : List Instr} → at_entry_of.Front m moves may xs → InCode r xs → Contains (at_entry_of.results_in xs) r
   code_results at_entry_of.front_end c = elim c [ ]
   code_results {r} (at_entry_of.front_one {i = i} {next = next} s h k) (in_args a) =
       absurd (none_in r (subst (λ (i : Instr). Contains i.args r) (may i next s h).is a))
-  code_results (at_entry_of.front_one {i = i} {xs = xs} s h k) (in_results a) = first_part i.results (at_entry_of.results_in xs) a
-  code_results (at_entry_of.front_one {i = i} {xs = xs} s h k) (further c) =
-      second_part i.results (at_entry_of.results_in xs) (code_results k c)
+  code_results {r} (at_entry_of.front_one {i = i} {xs = xs} s h k) (in_results a) = Contains-append_left i.results (at_entry_of.results_in xs) r a
+  code_results {r} (at_entry_of.front_one {i = i} {xs = xs} s h k) (further c) =
+      Contains-append_right i.results (at_entry_of.results_in xs) r (code_results k c)
 
   abbrev made_there : List Reg
   made_there = at_entry_of.results_in (at_entry_of.front m moves may)
@@ -147,15 +147,15 @@ module _ (m : Mach) (moves : ℕ → Bool) (may : MayAllMove m moves) where
       (λ d.
       is_in_code
       (front_back (at_entry_of.whole_front m moves may) (results_code (at_entry_of.front m moves may) d)))
-      (in_part m.params made_there c)
+      (Contains-append_cases m.params made_there r c)
   rest_register r (is_colour c) = is_colour c
   rest_register r (is_in_code c) = is_in_code (code_back moves m.code c)
 
   pub to_rest : (r : Reg) → IsRegister q r → IsRegister rest_of r
-  to_rest r (is_param c) = is_param (first_part m.params made_there c)
+  to_rest r (is_param c) = is_param (Contains-append_left m.params made_there r c)
   to_rest r (is_colour c) = is_colour c
   to_rest r (is_in_code c) =
-      ⊎_elim (λ d. is_param (second_part m.params made_there (code_results (at_entry_of.whole_front m moves may) d)))
+      ⊎_elim (λ d. is_param (Contains-append_right m.params made_there r (code_results (at_entry_of.whole_front m moves may) d)))
       (λ d. is_in_code d)
       (either (at_entry_of.front m moves may) rest_of.code c)
 

@@ -14,7 +14,7 @@ use Rattle.mach_laws.proofs.Among.{none_among, left_among}
 use Rattle.places_rules.proofs.Files.{among_or_not}
 use Rattle.dead_rules.specs.Dropped.{may_go, without}
 use Rattle.dead_rules.proofs.Text.{pure_of, pure_kills}
-use Rattle.bs_words.proofs.Lists.{none_in, first_in, later_in, in_cons}
+use Rattle.bs_words.proofs.Lists.{first_in, later_in}
 use Rattle.hoist_rules.specs.Hoisted.{MayMove, moved, hoisted, MayAllMove}
 
 -- the register by which a number is among these
@@ -34,22 +34,6 @@ member [] a = elim a [ ]
 abbrev pub results_in : List Instr → List Reg
 results_in [] = []
 results_in (i ∷ is) = i.results ++ results_in is
-
-pub first_part : {r : Reg} (xs ys : List Reg) → Contains xs r → Contains (xs ++ ys) r
-first_part {r} [] ys c = absurd (none_in r c)
-first_part {r} (x ∷ xs) ys c =
-    ⊎_elim (λ e. subst (Contains (x ∷ (xs ++ ys))) e (first_in x (xs ++ ys)))
-    (λ d. later_in x r (xs ++ ys) (first_part xs ys d)) (in_cons x r xs c)
-
-pub second_part : {r : Reg} (xs ys : List Reg) → Contains ys r → Contains (xs ++ ys) r
-second_part [] ys c = c
-second_part {r} (x ∷ xs) ys c = later_in x r (xs ++ ys) (second_part xs ys c)
-
-pub in_part : {r : Reg} (xs ys : List Reg) → Contains (xs ++ ys) r → Contains xs r ⊎ Contains ys r
-in_part [] ys c = inr c
-in_part {r} (x ∷ xs) ys c =
-    ⊎_elim (λ e. inl (subst (Contains (x ∷ xs)) e (first_in x xs)))
-    (λ d. ⊎_elim (λ h. inl (later_in x r xs h)) inr (in_part xs ys d)) (in_cons x r (xs ++ ys) c)
 
 -- ---- places
 

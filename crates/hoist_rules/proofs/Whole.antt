@@ -2,11 +2,11 @@
 use Rattle.std.proofs.Common.{◌≡◌, ℕ, ◌+◌, ◌≤◌, Bool, true, false, cond, inl, inr, List, [], ◌∷◌, ◌++◌, length, refl, sym, ap, ◌∙◌, subst, arith}
 use Rattle.std.specs.List.{Contains}
 use Rattle.std.proofs.lemmas.Bool.{both_ways}
+use Rattle.std.proofs.lemmas.List.Elements.{Contains-append_right}
 use Rattle.bs_words.specs.declared.types.Comp.{Comp}
 use Rattle.bs_words.specs.declared.types.Comp.TheVariants as comp
 use Rattle.bs_words.specs.declared.types.Loc.TheVariants as loc
-use Rattle.bs_words.proofs.Lists.{later_in}
-use Rattle.mach_ir.specs.Formed.{IsFormed, AreDistinct, labels_in, HasPlace, place_below, HasHandler, WellFormed}
+use Rattle.mach_ir.specs.Formed.{IsFormed, AreDistinct, labels_in, HasPlace, HasHandler, WellFormed}
 use Rattle.mach_ir.specs.Keeps.{Keeps, NamesSymbol, NamesExternal}
 use Rattle.mach_ir.specs.Meaning.{is_addr, after_label, from_handler}
 use Rattle.mach_ir.specs.Placed.{WellPlaced, AllocatesFresh, IsFresh, AreStraight}
@@ -22,9 +22,10 @@ use Rattle.mach_ir.specs.declared.reg.Reg.{Reg}
 use Rattle.mach_ir.specs.declared.mach.Instr.{Instr}
 use Rattle.mach_ir.specs.declared.mach.Mach.{Mach}
 use Rattle.mach_laws.specs.Expand.{expand, Ending, all}
-use Rattle.mach_laws.proofs.Places.{ending_next, stands_of, stands_behind, stands_within, head_of, tail_of, straight_cons, contains_of, stands_in}
+use Rattle.mach_laws.proofs.Places.{ending_next, stands_of, stands_behind, stands_within, head_of, tail_of, straight_cons, contains_of, stands_in, place_behind}
 use Rattle.pass_rules.proofs.Formed.{ComesFrom, is_new, stood, KeepsPlaces}
 use Rattle.pass_rules.proofs.Formed as places
+use Rattle.pass_rules.proofs.Words.{both_sum}
 use Rattle.dead_rules.specs.Dropped.{may_go, without}
 use Rattle.dead_rules.proofs.Left.{IsMain, contains_left, place_left, handler_left, tries_before, run_back, label_is, handler_is}
 use Rattle.dead_rules.proofs.Text.{pure_of, pure_straight, mark_stays, Fate, falls, remains, fate, same_labels}
@@ -33,16 +34,6 @@ use Rattle.hoist_rules.proofs.Moved as at_entry_of
 use Rattle.hoist_rules.proofs.Live as live
 use Rattle.hoist_rules.proofs.Entry as entry
 use Rattle.hoist_rules.proofs.Kept.{does_hoisted}
-
--- ---- lists
-
-in_second : (i : Instr) (xs ys : List Instr) → Contains ys i → Contains (xs ++ ys) i
-in_second i [] ys c = c
-in_second i (x ∷ xs) ys c = later_in x i (xs ++ ys) (in_second i xs ys c)
-
-place_second : {l : ℕ} (xs ys : List Instr) → HasPlace l ys → HasPlace l (xs ++ ys)
-place_second [] ys p = p
-place_second (x ∷ xs) ys p = place_below (place_second xs ys p)
 
 is_one : (c : Comp) → c ≡ comp.Addr → is_addr c ≡ true
 is_one c e = ap is_addr e
@@ -82,7 +73,7 @@ module _ (m : Mach) (moves : ℕ → Bool) (may : MayAllMove m moves) where
       by (live.left o) = contains_of o.stands
 
   contains_there : (i : Instr) → may_go i.op ≡ false → Contains m.code i → Contains q.code i
-  contains_there i k c = in_second i front rest_of.code (contains_left moves m.code i k c)
+  contains_there i k c = Contains-append_right front rest_of.code i (contains_left moves m.code i k c)
 
   -- ---- labels
 
@@ -162,13 +153,6 @@ module _ (m : Mach) (moves : ℕ → Bool) (may : MayAllMove m moves) where
 
   -- what is a sum over instructions stays
   module _ (M : List Instr → ℕ) (one : Instr → ℕ) (none : M [] ≡ 0) (more : (i : Instr) (is : List Instr) → M (i ∷ is) ≡ one i + M is) where
-    both_sum : (xs ys : List Instr) → M (xs ++ ys) ≡ M xs + M ys
-    both_sum [] ys = let e = none in omega (arith, e)
-    both_sum (x ∷ xs) ys =
-        let e = more x (xs ++ ys) in
-        let h = more x xs in
-        let ih = both_sum xs ys in omega (arith, e, h, ih)
-
     parts_sum : (code : List Instr) → Ending code m.code → M (expand (moved moves) code) + M (expand f code) ≡ M code
     parts_sum [] ending = let e = none in omega (arith, e)
     parts_sum (i ∷ is) ending = by (divides i is ending) (parts_sum is (ending_next ending))
@@ -187,7 +171,7 @@ module _ (m : Mach) (moves : ℕ → Bool) (may : MayAllMove m moves) where
             let w = more i is in omega (arith, x, y, z, w, ih)
 
     pub sum_same : M q.code ≡ M m.code
-    sum_same = both_sum front rest_of.code ∙ parts_sum m.code all
+    sum_same = both_sum M one none more front rest_of.code ∙ parts_sum m.code all
 
   pub same_size : (s : Size) → HasSize m s → HasSize q s
   same_size s h =
@@ -211,7 +195,7 @@ module _ (m : Mach) (moves : ℕ → Bool) (may : MayAllMove m moves) where
         whence = λ i zs s. comes (whence s);
         among = λ i c. inr (contains_back i c);
         marks = λ i g e c. contains_there i (mark_stays g i.op e) c;
-        places = λ l p. place_second front rest_of.code (place_left moves p);
+        places = λ l p. place_behind front rest_of.code (place_left moves p);
         labels = labels_same;
         tries = at_entry_of.tries_past_front m moves may rest_of.code (at_entry_of.whole_front m moves may)
             ∙ tries_before moves m.code refl;

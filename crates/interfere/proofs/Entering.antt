@@ -5,12 +5,11 @@ use Rattle.std.specs.List.{All, Contains}
 use Rattle.std.specs.Prelude.{Option}
 use Rattle.std.proofs.lemmas.Bool.{cases_eq}
 use Rattle.std.proofs.lemmas.List.{length-set, get_or-set_same, get_or-set_other, take_more, take_all}
-use Rattle.std.proofs.lemmas.List.Elements.{Contains-get_or, Contains-append_left, Contains-append_right}
+use Rattle.std.proofs.lemmas.List.Elements.{Contains-get_or, Contains-append_left, Contains-append_right, Contains-append_cases}
 use Rattle.mach_ir.specs.Walks.{InCode, in_args, in_results, further, IsRegister, is_param, is_colour, is_in_code}
 use Rattle.mach_ir.specs.declared.reg.Reg.{Reg}
 use Rattle.mach_ir.specs.declared.mach.Instr.{Instr}
 use Rattle.mach_ir.specs.declared.mach.Mach.{Mach}
-use Rattle.liveness.proofs.Bounds.{split_in}
 use Rattle.bs_words.proofs.Lists.{none_in, first_in, in_cons}
 use Rattle.interfere.specs.Registers.{IsAt, HasOne, Enters, AreRegisters}
 
@@ -91,7 +90,7 @@ enter_more regs k d old now lt small before =
     let len = before.len in
     enters_then old now (set now r.number (Some r)) (Contains (take k regs)) (Contains (r ∷ [])) (Contains (take (k + 1) regs)) before
     (enter_one now r (subst (λ n. r.number < n) (sym len) small))
-    (λ q c. split_in (take k regs) (r ∷ []) q (subst (λ rs. Contains rs q) (take_more regs k d lt) c))
+    (λ q c. Contains-append_cases (take k regs) (r ∷ []) q (subst (λ rs. Contains rs q) (take_more regs k d lt) c))
     (λ q c. subst (λ rs. Contains rs q) (sym (take_more regs k d lt)) (Contains-append_left (take k regs) (r ∷ []) q c))
     (λ q c. subst (λ rs. Contains rs q) (sym (take_more regs k d lt)) (Contains-append_right (take k regs) (r ∷ []) q c))
 

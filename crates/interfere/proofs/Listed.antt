@@ -5,7 +5,7 @@ use Rattle.std.specs.List.{All, AllPairs, Contains}
 use Rattle.std.specs.Prelude.{Option}
 use Rattle.std.proofs.lemmas.Bool.{cases_lt}
 use Rattle.std.proofs.lemmas.List.{get_or_past}
-use Rattle.std.proofs.lemmas.List.Elements.{Contains-get_or, Contains-append_left, Contains-append_right}
+use Rattle.std.proofs.lemmas.List.Elements.{Contains-get_or, Contains-append_left, Contains-append_right, Contains-append_cases}
 use Rattle.std.proofs.lemmas.List.Quantifiers.{all_pairs_push}
 use Rattle.bs_bits.specs.Set.{has}
 use Rattle.mach_ir.specs.Formed.{WellFormed}
@@ -15,7 +15,6 @@ use Rattle.mach_ir.specs.declared.graph.Graph.{Graph}
 use Rattle.mach_ir.specs.declared.graph.Node.{Node}
 use Rattle.mach_ir.specs.declared.reg.Reg.{Reg}
 use Rattle.mach_ir.specs.declared.mach.Mach.{Mach}
-use Rattle.liveness.proofs.Bounds.{split_in}
 use Rattle.bs_words.proofs.Lists.{none_in, first_in, later_in, in_cons}
 use Rattle.interfere.specs.Registers.{IsAt}
 use Rattle.interfere.specs.Tables.{AreTables, AreByNumber, IsNode, IsNodeAt, HasNode, AreNodesBelow}
@@ -23,16 +22,6 @@ use Rattle.interfere.specs.declared.tables.Tables.{Tables}
 
 Rises : Node → Node → Type 0
 Rises x y = x.reg.number < y.reg.number
-
-pub nodes_none : (t : Tables) (nodes : List Node) → nodes ≡ [] → AreNodesBelow t 0 nodes
-nodes_none t nodes e =
-    subst (AreNodesBelow t 0) (sym e)
-    (record {
-      order = λ i j d lt le. absurd (omega (arith, le));
-      each = λ x c. absurd (none_in x c);
-      below = λ x c. absurd (none_in x c);
-      whole = λ n r lt h. absurd (omega (arith, lt));
-    })
 
 -- what was read at a number is there
 read_at : (xs : List (Option Reg)) (n : ℕ) (slot : Option Reg) (r : Reg) → n < length xs → slot ≡ get_or xs n slot →
@@ -66,8 +55,8 @@ nodes_more t n slot r x old new numbers lt read some node made before =
     (record {
       order = all_pairs_push (λ (x y : Node). x.reg.number < y.reg.number) old x before.order
           (λ k d l. let h = before.below (get_or old k d) (Contains-get_or old k d l) in subst (λ j. (get_or old k d).reg.number < j) (sym number) h);
-      each = λ y c. by (IsNodeAt t) (λ y d. before.each y d) here y (split_in old (x ∷ []) y c);
-      below = λ y c. by (λ (y : Node). y.reg.number < n + 1) (λ y d. let h = before.below y d in omega (arith, h)) last y (split_in old (x ∷ []) y c);
+      each = λ y c. by (IsNodeAt t) (λ y d. before.each y d) here y (Contains-append_cases old (x ∷ []) y c);
+      below = λ y c. by (λ (y : Node). y.reg.number < n + 1) (λ y d. let h = before.below y d in omega (arith, h)) last y (Contains-append_cases old (x ∷ []) y c);
       whole = λ k q l h. ⊎_elim (λ less. let y = before.whole k q less h in record { node = y.node; among = Contains-append_left old (x ∷ []) y.node y.among; reg = y.reg })
           (λ more. let e : k ≡ n = omega (arith, l, more) in
           record { node = x; among = Contains-append_right old (x ∷ []) x (first_in x []); reg = node.reg ∙ same q (subst (λ k. IsAt t.registers.items k q) e h) })
@@ -97,9 +86,6 @@ nodes_more t n slot r x old new numbers lt read some node made before =
     by : (P : Node → Type 0) → ((y : Node) → Contains old y → P y) → P x → (y : Node) → Contains old y ⊎ Contains (x ∷ []) y → P y
     by P all one y (inl c) = all y c
     by P all one y (inr c) = ⊎_elim (λ e. subst P e one) (λ z. absurd (none_in y z)) (in_cons x y [] c)
-
-pub nodes_all : (t : Tables) (count n : ℕ) (nodes : List Node) → n ≡ count → AreNodesBelow t n nodes → AreNodesBelow t count nodes
-nodes_all t count n nodes e h = subst (λ k. AreNodesBelow t k nodes) e h
 
 -- a register of the tables has a row
 pub has_row : (t : Tables) (n : ℕ) (slot : Option Reg) (r : Reg) → AreByNumber t → n < length t.registers.items →

@@ -4,10 +4,9 @@ use Rattle.std.proofs.Common.{length, get_or, sym, subst, arith}
 use Rattle.std.specs.List.{AllPairs, Contains}
 use Rattle.std.proofs.lemmas.Bool.{cases_lt}
 use Rattle.std.proofs.lemmas.List.{get_or_past}
-use Rattle.std.proofs.lemmas.List.Elements.{Contains-get_or, Contains-append_left, Contains-append_right}
+use Rattle.std.proofs.lemmas.List.Elements.{Contains-get_or, Contains-append_left, Contains-append_right, Contains-append_cases}
 use Rattle.std.proofs.lemmas.List.Quantifiers.{all_pairs_push}
 use Rattle.bs_bits.specs.Set.{has, IsNext, HasNoneFrom}
-use Rattle.liveness.proofs.Bounds.{split_in}
 use Rattle.bs_words.proofs.Lists.{none_in, first_in, in_cons}
 use Rattle.interfere.specs.Members.{AreMembers}
 
@@ -16,15 +15,6 @@ pub record AreMembersBelow (set : List Bool) (from : ℕ) (members : List ℕ) :
   pub sorted : AllPairs ◌<◌ members
   pub sound : (k : ℕ) → Contains members k → (k < from) × (has set k ≡ true)
   pub whole : (k : ℕ) → k < from → has set k ≡ true → Contains members k
-
-pub below_none : (set : List Bool) (members : List ℕ) → members ≡ [] → AreMembersBelow set 0 members
-below_none set members e =
-    subst (AreMembersBelow set 0) (sym e)
-    (record {
-      sorted = λ i j d lt le. absurd (omega (arith, le));
-      sound = λ k c. absurd (none_in k c);
-      whole = λ k lt h. absurd (omega (arith, lt));
-    })
 
 -- a number that is a member is below the size
 pub member_below : (set : List Bool) (k : ℕ) → has set k ≡ true → k < length set
@@ -38,7 +28,7 @@ below_more set from next old new made is before =
     (record {
       sorted = all_pairs_push ◌<◌ old next before.sorted
           (λ k d lt. let s = (before.sound (get_or old k d) (Contains-get_or old k d lt)).0 in let up = is.not_below in omega (arith, s, up));
-      sound = λ k c. by k (split_in old (next ∷ []) k c);
+      sound = λ k c. by k (Contains-append_cases old (next ∷ []) k c);
       whole = λ k lt h. ⊎_elim (λ l. Contains-append_left old (next ∷ []) k (before.whole k l h))
           (λ l. ⊎_elim (λ l2. absurd (let f : has set k ≡ false = is.least k l l2 in cc))
           (λ l2. let e : next ≡ k = omega (arith, lt, l2) in subst (Contains (old ++ next ∷ [])) e (Contains-append_right old (next ∷ []) next (first_in next [])))

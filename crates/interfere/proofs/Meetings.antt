@@ -4,7 +4,7 @@ use Rattle.std.proofs.Common.{⊎_elim, List, [], ◌∷◌, None, length, drop,
 use Rattle.std.specs.List.{All, Contains}
 use Rattle.std.specs.Prelude.{Option}
 use Rattle.std.proofs.lemmas.Bool.{cases_lt, eq-eqb, eqb-true}
-use Rattle.std.proofs.lemmas.List.Elements.{Contains-get_or}
+use Rattle.std.proofs.lemmas.List.Elements.{Contains-get_or, Contains-append_cases}
 use Rattle.bs_bits.specs.Set.{has}
 use Rattle.dataflow.specs.Rows.{row}
 use Rattle.mach_ir.specs.Graph.{IsLiveMap}
@@ -28,7 +28,7 @@ use Rattle.mach_laws.specs.Graph.{place_of, numbers, next_places}
 use Rattle.mach_laws.proofs.Places.{ending_from_handler, stands_of}
 use Rattle.mach_laws.proofs.Among.{among_of, number_among}
 use Rattle.mach_laws.proofs.Walking.{among_numbers, in_numbers, place_is, ending_at, ending_drop, ending_place, target_of, in_targets}
-use Rattle.liveness.proofs.Bounds.{split_in, killed_is_colour}
+use Rattle.liveness.proofs.Bounds.{killed_is_colour}
 use Rattle.bs_words.proofs.Lists.{drop_none}
 use Rattle.interfere.specs.Moves.{move_between, move_of, is_from_to}
 use Rattle.interfere.specs.Moves as moves
@@ -130,7 +130,7 @@ module _ (m : Mach) where
         writes ≡ numbers (written m i) → All (λ n. n < bound) writes
     writes_below p i next writes e same = λ j d lt.
         let n = get_or writes j d in
-        among_below (λ r c. by r (split_in i.results (killed m i) r c))
+        among_below (λ r c. by r (Contains-append_cases i.results (killed m i) r c))
         (among_numbers n (written m i) (subst (λ ns. Contains ns n) same (Contains-get_or writes j d lt)))
       where
         by : (r : Reg) → Contains i.results r ⊎ Contains (killed m i) r → IsRegister m r

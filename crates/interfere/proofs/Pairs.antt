@@ -4,14 +4,13 @@ use Rattle.std.proofs.Common.{length, take, get_or, refl, sym, ap, ◌∙◌, su
 use Rattle.std.specs.List.{All, Contains}
 use Rattle.std.specs.Prelude.{Option}
 use Rattle.std.proofs.lemmas.List.{take_more, take_all}
-use Rattle.std.proofs.lemmas.List.Elements.{Contains-get_or, Contains-append_left, Contains-append_right}
+use Rattle.std.proofs.lemmas.List.Elements.{Contains-get_or, Contains-append_left, Contains-append_right, Contains-append_cases}
 use Rattle.bs_bits.specs.Set.{has}
 use Rattle.dataflow.specs.Rows.{row}
-use Rattle.liveness.proofs.Bounds.{split_in}
 use Rattle.bs_words.proofs.Lists.{none_in, first_in, in_cons}
 use Rattle.interfere.specs.Members.{AreMembers}
 use Rattle.interfere.specs.Moves.{is_from_to}
-use Rattle.interfere.specs.Pairs.{Table, EitherWay, one_way, other_way, Adds, IsPair, ForOne, Meeting, MeetsSet}
+use Rattle.interfere.specs.Pairs.{Table, EitherWay, one_way, other_way, Adds, ForOne, Meeting, MeetsSet}
 use Rattle.interfere.specs.Pairs.{MeetsPlaces}
 use Rattle.interfere.specs.declared.moves.Move.{Move}
 
@@ -79,7 +78,7 @@ module _ {A : Type 0} (R : A → ℕ → ℕ → Type 0) where
       Adds y z (R (get_or xs i d)) → Adds x z (ForOne R (take (i + 1) xs))
   one_more xs i d x y z lt before here =
       adds_then x y z (ForOne R (take i xs)) (R new) (ForOne R (take (i + 1) xs)) before here
-      (λ n k h. by n k h (split_in (take i xs) (new ∷ []) h.item (subst (λ ys. Contains ys h.item) taken h.among)))
+      (λ n k h. by n k h (Contains-append_cases (take i xs) (new ∷ []) h.item (subst (λ ys. Contains ys h.item) taken h.among)))
       (λ n k h. record { item = h.item; among = subst (λ ys. Contains ys h.item) (sym taken) (Contains-append_left (take i xs) (new ∷ []) h.item h.among); there = h.there })
       (λ n k h. record { item = new; among = subst (λ ys. Contains ys new) (sym taken) (Contains-append_right (take i xs) (new ∷ []) new (first_in new [])); there = h })
     where
@@ -108,17 +107,6 @@ not_joined t moved number other e =
     let f : is_from_to moved other number ≡ false =
     subst (λ n. is_from_to moved other n ≡ false) (sym h.written) (subst (λ k. is_from_to moved k n ≡ false) (sym h.live) h.no_move) in
     cc)
-
-pub now_joined : (x y : Table) (moved : Option Move) (number other : ℕ) → is_from_to moved other number ≡ false →
-    Adds x y (IsPair number other) → Adds x y (Meeting moved number other)
-now_joined x y moved number other e h =
-    adds_same x y (IsPair number other) (Meeting moved number other) h
-    (λ n k p. record {
-      written = p.one;
-      live = p.two;
-      no_move = subst (λ n. is_from_to moved k n ≡ false) p.one (subst (λ k. is_from_to moved k number ≡ false) p.two e);
-    })
-    (λ n k p. record { one = p.written; two = p.live })
 
 -- with each of a list of members is with the set
 pub with_set : (x y : Table) (moved : Option Move) (set : List Bool) (members : List ℕ) (number : ℕ) → AreMembers set members →

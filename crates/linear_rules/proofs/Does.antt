@@ -29,7 +29,6 @@ use Rattle.mach_ir.specs.declared.mach.MachOp.{MachOp}
 use Rattle.mach_ir.specs.declared.mach.MachOp.TheVariants as mach
 use Rattle.mach_ir.specs.declared.mach.Instr.{Instr}
 use Rattle.mach_ir.specs.declared.mach.Mach.{Mach}
-use Rattle.mach_ir.proofs.Keeping.{level, level_trail}
 use Rattle.mach_laws.specs.Expand.{Ending, all}
 use Rattle.mach_laws.proofs.Places.{ending_next, ending_from_handler, stands_of}
 use Rattle.mach_laws.proofs.Simulate.{Agrees}
@@ -58,6 +57,7 @@ use Rattle.linear_rules.proofs.Standing.{same_targets, same_raises, same_destroy
 use Rattle.linear_rules.proofs.Meeting.{bare_writes, traps_to, traps_on, IsMetAcross, met_across}
 use Rattle.linear_rules.proofs.Simulate.{Arrives, both_continue, both_pay, both_deepen, both_wait, both_finish_by, both_finish, both_finish_raising, first_stuck, goes_alone, Closed, simulates}
 use Rattle.mach_laws.proofs.Turns.{Turns, goes_in, exits_in, jumps_in, unwinds_in, pushes_in, asks_in, tries_on, raised_on, IsTry, is_try, IsExit, turns}
+use Rattle.mach_laws.proofs.Level.{ahead_of, trails_of}
 
 -- no value is asked for where a line is no frame point
 calm_at : (c : Place) (m : Lin) (j : Line) (ys : List Line) (b : Locations) (around : Around) → lines.passes_frame j.op ≡ false →
@@ -795,12 +795,6 @@ module _ (c : Place) (number : ℕ → ℕ) (slots : ℕ) (p : Mach) (well : Wel
             (entered_at i next a b around is e tries (subst (λ ys. walks.Reached Q ys around.tries) same reached) typed (subst (λ ys. Rel (i ∷ next) ys a b around.tries) same rel) calm vals)
 
     -- ---- at the entry
-
-    ahead_of : (x y : Around) → x ≡ y → Ahead x y
-    ahead_of x y e = subst (Ahead x) e (level x)
-
-    trails_of : (x y : Around) → x ≡ y → Trails x y
-    trails_of x y e = subst (Trails x) e (level_trail x)
 
     begun_with : {rs : List Reg} {vs : List Value} {d : File} → PutAll end (λ n. None) rs vs d → (n : ℕ) (x : Held) → d n ≡ Some x → Among n rs
     begun_with nil n x e = absurd (none-some x e)

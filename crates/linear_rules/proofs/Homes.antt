@@ -1,5 +1,5 @@
 -- Writes and reads of registers, and of the places where they are.
-use Rattle.std.proofs.Common.{◌≡◌, ℕ, Bool, true, false, cond, not, ◌&&◌, ◌||◌, ⊎_elim, List, [], ◌∷◌, Option, Some, None, nat_eq, refl, sym, ap, ◌∙◌, subst, map}
+use Rattle.std.proofs.Common.{◌≡◌, ℕ, Bool, true, false, cond, not, ◌&&◌, ◌||◌, ◌⊎◌, inl, inr, ⊎_elim, List, [], ◌∷◌, ◌++◌, Option, Some, None, nat_eq, refl, sym, ap, ◌∙◌, subst, map}
 use Rattle.std.proofs.lemmas.Bool.{true≢false, eq-eqb, eqb-true, and_parts}
 use Rattle.std.specs.List.{Contains}
 use Rattle.std.proofs.lemmas.Option.{none-some, same_Some}
@@ -37,6 +37,19 @@ in_of x (y ∷ xs) c = ⊎_elim (λ e. subst (λ y. IsIn x (y ∷ xs)) (sym e) i
 pub contains_of : {A : Type 0} {x : A} {xs : List A} → IsIn x xs → Contains xs x
 contains_of {x = x} (is_first {xs = xs}) = first_in x xs
 contains_of {x = x} (is_later {y = y} {xs = xs} i) = later_in y x xs (contains_of i)
+
+pub split_in : {A : Type 0} {x : A} (xs ys : List A) → IsIn x (xs ++ ys) → IsIn x xs ⊎ IsIn x ys
+split_in [] ys z = inr z
+split_in (x ∷ xs) ys is_first = inl is_first
+split_in (x ∷ xs) ys (is_later z) = ⊎_elim (λ u. inl (is_later u)) inr (split_in xs ys z)
+
+pub in_left : {A : Type 0} {x : A} {xs : List A} (ys : List A) → IsIn x xs → IsIn x (xs ++ ys)
+in_left ys is_first = is_first
+in_left ys (is_later z) = is_later (in_left ys z)
+
+pub in_right : {A : Type 0} {x : A} (xs : List A) {ys : List A} → IsIn x ys → IsIn x (xs ++ ys)
+in_right [] z = z
+in_right (x ∷ xs) z = is_later (in_right xs z)
 
 pub in_among : {r : Reg} {rs : List Reg} → IsIn r rs → Among r.number rs
 in_among is_first = first refl

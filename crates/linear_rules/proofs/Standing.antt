@@ -141,9 +141,6 @@ module _ (number : ℕ → ℕ) (slots : ℕ) (p : Mach) (well : WellFormed p) w
   pub marked : {i : Instr} {next : List Instr} → Ending (i ∷ next) p.code → (l : ℕ) → OneOf (At l) (targets i.op) → tries_at (after_label l p.code) ≡ tries_left i.op (tries_at (i ∷ next))
   marked {i} {next} e l o = well.nested.at_label i next (stands_of e) l o
 
-  none_less : (k n : ℕ) → suc k ≤ suc n → k ≤ n
-  none_less k n le = omega (arith, le)
-
   minus_zero : (n : ℕ) → n - n ≡ 0
   minus_zero n = omega arith
 

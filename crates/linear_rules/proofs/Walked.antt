@@ -42,7 +42,7 @@ use Rattle.lin_laws.proofs.Forms.{same_machine}
 use Rattle.linear_rules.specs.Forward.{GoesForward}
 use Rattle.linear_rules.specs.Keeps.{NoAddrReached, OneTraps}
 use Rattle.linear_rules.specs.Lowered.{is_among, home, spots, is_idle, line_of, bare, pops, lines_of, lowered_code}
-use Rattle.linear_rules.proofs.Homes.{IsIn, is_first, is_later, in_of, contains_of, spot_of}
+use Rattle.linear_rules.proofs.Homes.{IsIn, is_first, is_later, in_of, contains_of, spot_of, split_in, in_right}
 use Rattle.linear_rules.proofs.Marks.{Differ, AsLine, op_line, if_line, switch_line, try_line, handler_line, idle_of, idle_handler, place_label, handler_label, handler_split}
 use Rattle.linear_rules.proofs.Standing.{q, handler_round, handler_ending, StandsFor, one_line, via, onto, idle_before, label_before, pop_before, exit_to, jump_to}
 use Rattle.linear_rules.proofs.Meeting.{as_targets, idle_on, comes, traps_same, met_across}
@@ -82,6 +82,11 @@ pub stands_tail : {j : Line} {ys zs : List Line} → Stands j ys zs → Tail (j 
 stands_tail here = tail_all
 stands_tail (below s) = tail_more (stands_tail s)
 
+-- a label after a line is one of the code
+pub later_label : {l : ℕ} {ys zs : List Line} → Tail ys zs → IsIn l (labels_in ys) → IsIn l (labels_in zs)
+later_label tail_all z = z
+later_label (tail_more {j = j} t) z = in_right (formed.label_of j.op) (later_label t z)
+
 module _ (m : Lin) where
   pub tail_target : {j : Line} {ys : List Line} → Tail (j ∷ ys) m.code → (t : Target) → Tail (lines.code_at m.code ys t) m.code
   tail_target t On = tail_next t
@@ -105,15 +110,6 @@ module _ (m : Lin) where
   live_read (walks.read {i = i} r) w = record { line = i; inside = tail_in w; reads = r }
   live_read (walks.on free (walks.goes t o) v) w = live_read v (tail_target w t)
   live_read (walks.aside (walks.raises {h = h} e) v) w = live_read v (tail_label h m.code)
-
-  -- a label after a line is one of the code
-  later_label : {l : ℕ} {ys zs : List Line} → Tail ys zs → IsIn l (labels_in ys) → IsIn l (labels_in zs)
-  later_label tail_all z = z
-  later_label (tail_more {j = j} t) z = past (formed.label_of j.op) (later_label t z)
-    where
-      past : {l : ℕ} {ls : List ℕ} (ks : List ℕ) → IsIn l ls → IsIn l (ks ++ ls)
-      past [] z = z
-      past (k ∷ ks) z = is_later (past ks z)
 
 in_is_among : {k : ℕ} {ks : List ℕ} → IsIn k ks → is_among k ks ≡ true
 in_is_among {k} (is_first {xs = xs}) = ap (λ t. t || is_among k xs) (eq-eqb k k refl)
@@ -356,9 +352,6 @@ module _ (number : ℕ → ℕ) (slots : ℕ) (p : Mach) (well : WellFormed p) (
   leaves_none (exit_to h same u) r = absurd (true≢false (sym r))
   leaves_none (jump_to h same u) r = absurd (true≢false (sym r))
 
-  flow_same : (f : Flow) → lin.Flow f ≡ lin.Flow flow.PopTrap → f ≡ flow.PopTrap
-  flow_same f e = cc
-
   line_not_pop : {g : MachOp} {f : LinOp} → AsLine g f → f ≡ lin.Flow flow.PopTrap → ⊥
   line_not_pop (op_line {f = h}) e = out h e
     where
@@ -486,11 +479,6 @@ module _ (number : ℕ → ℕ) (slots : ℕ) (p : Mach) (well : WellFormed p) (
     no_spare : (t : Comp) {j : Line} → IsIn j Q.code → IsIn (record { loc = formed.spare; comp = t }) j.args ⊎ IsIn (record { loc = formed.spare; comp = t }) j.results → ⊥
     no_spare t z at = not_spare {m = Q} (source_homes (source number p.code z) (record { loc = formed.spare; comp = t }) at) refl
 
-    split_in : {A : Type 0} {x : A} (xs ys : List A) → IsIn x (xs ++ ys) → IsIn x xs ⊎ IsIn x ys
-    split_in [] ys z = inr z
-    split_in (x ∷ xs) ys is_first = inl is_first
-    split_in (x ∷ xs) ys (is_later z) = ⊎_elim (λ u. inl (is_later u)) inr (split_in xs ys z)
-
     read_none : (t : Comp) → IsRead Q formed.spare t → ⊥
     read_none t y = no_spare t y.inside (inl (in_of (record { loc = formed.spare; comp = t }) y.line.args y.reads))
 
@@ -546,7 +534,7 @@ module _ (number : ℕ → ℕ) (slots : ℕ) (p : Mach) (well : WellFormed p) (
         by y = two (leading p.code all j y.0 l y.1 n)
           where
             two : Leading l j y.0 → Contains (labels_in Q.code) l
-            two (comes_later z) = contains_of (later_label Q (tail_next (stands_tail y.1)) z)
+            two (comes_later z) = contains_of (later_label (tail_next (stands_tail y.1)) z)
             two (by_exit e h) = contains_of (place_in_lines p.code h)
 
     push_line : {g : MachOp} {f : LinOp} (l : ℕ) → AsLine g f → f ≡ lin.Flow (flow.PushTrap l) → g ≡ mach.Mark (mark.Try l)

@@ -3,7 +3,7 @@ use Rattle.std.proofs.Common.{◌≡◌, ℕ, zero, suc, ◌+◌, ◌<◌, ◌�
 use Rattle.std.specs.List.{All, Contains}
 use Rattle.std.specs.Prelude.{slice_index_or}
 use Rattle.std.proofs.lemmas.List.{append-nil, map-append, take_more}
-use Rattle.std.proofs.lemmas.List.Elements.{Contains-get_or}
+use Rattle.std.proofs.lemmas.List.Elements.{Contains-get_or, Contains-append_cases, All-cons, All-nil, Contains-append_left, Contains-append_right}
 use Rattle.mach_ir.specs.Meaning.{Destroyed, Nothing, Temporaries, Everything, destroyed_by, is_destroyed, is_at_one_of, killed_among, killed_by, killed, written}
 use Rattle.mach_ir.specs.Walks.{InCode, in_args, in_results, further, IsRegister, is_param, is_colour, is_in_code}
 use Rattle.mach_ir.specs.declared.reg.Reg.{Reg}
@@ -15,27 +15,11 @@ use Rattle.liveness.specs.Numbers.{IsAbove, IsAboveCode}
 
 -- ---- lists
 
-pub no_items : {A : Type 0} (P : A → Type 0) → All P []
-no_items P = λ k d lt. absurd (omega (arith, lt))
-
-pub one_more : {A : Type 0} (P : A → Type 0) (x : A) (xs : List A) → P x → All P xs → All P (x ∷ xs)
-one_more {A} P x xs h hs = by
-  where
-    by : (k : ℕ) (d : A) → k < length (x ∷ xs) → P (slice_index_or (x ∷ xs) k d)
-    by zero d lt = h
-    by (suc k) d lt = hs k d (omega (arith, lt))
-
-pub split_in : {A : Type 0} (xs ys : List A) (y : A) → Contains (xs ++ ys) y → Contains xs y ⊎ Contains ys y
-split_in [] ys y c = inr c
-split_in (x ∷ xs) ys y c =
-    ⊎_elim (λ e. inl (subst (Contains (x ∷ xs)) e (first_in x xs)))
-    (λ d. ⊎_elim (λ h. inl (later_in x y xs h)) (λ h. inr h) (split_in xs ys y d)) (in_cons x y (xs ++ ys) c)
-
 pub numbers_below : (bound : ℕ) (rs : List Reg) → ((r : Reg) → Contains rs r → r.number < bound) →
     All (λ n. n < bound) (numbers rs)
-numbers_below bound [] h = no_items (λ n. n < bound)
+numbers_below bound [] h = All-nil (λ n. n < bound)
 numbers_below bound (r ∷ rs) h =
-    one_more (λ n. n < bound) r.number (numbers rs) (h r (first_in r rs)) (numbers_below bound rs (λ q c. h q (later_in r q rs c)))
+    All-cons (λ n. n < bound) r.number (numbers rs) (h r (first_in r rs)) (numbers_below bound rs (λ q c. h q (later_in r q rs c)))
 
 -- ---- what an operation destroys is at a colour
 
@@ -115,31 +99,21 @@ member P xs q all c = subst P c.2 (all c.0 q c.1)
 pub members : (P : Reg → Type 0) (xs : List Reg) → ((q : Reg) → Contains xs q → P q) → All P xs
 members P xs h = λ k d lt. h (slice_index_or xs k d) (Contains-get_or xs k d lt)
 
-left_in : (xs ys : List Reg) (y : Reg) → Contains xs y → Contains (xs ++ ys) y
-left_in [] ys y c = absurd (none_in y c)
-left_in (x ∷ xs) ys y c =
-    ⊎_elim (λ e. subst (Contains (x ∷ (xs ++ ys))) e (first_in x (xs ++ ys))) (λ d. later_in x y (xs ++ ys) (left_in xs ys y d))
-    (in_cons x y xs c)
-
-right_in : (xs ys : List Reg) (y : Reg) → Contains ys y → Contains (xs ++ ys) y
-right_in [] ys y c = c
-right_in (x ∷ xs) ys y c = later_in x y (xs ++ ys) (right_in xs ys y c)
-
 pub above_step : (bound old new next k : ℕ) (rs : List Reg) (d : Reg) → k < length rs → IsAbove bound (take k rs) old →
     next ≡ (slice_index_or rs k d).number + 1 → new ≡ max old next → IsAbove bound (take (k + 1) rs) new
 above_step bound old new next k rs d lt before e greatest =
     let low = before.above in
     record {
       above = omega (arith, low, greatest);
-      all = members (λ (r : Reg). r.number < new) (take (k + 1) rs) (λ q c. by q (split_in (take k rs) (x ∷ []) q (subst (λ xs. Contains xs q) taken c)));
+      all = members (λ (r : Reg). r.number < new) (take (k + 1) rs) (λ q c. by q (Contains-append_cases (take k rs) (x ∷ []) q (subst (λ xs. Contains xs q) taken c)));
       least = λ b le small.
           let here_less : x.number < b = member (λ (r : Reg). r.number < b) (take (k + 1) rs) x small
-          (subst (λ xs. Contains xs x) (sym taken) (right_in (take k rs) (x ∷ []) x (first_in x []))) in
+          (subst (λ xs. Contains xs x) (sym taken) (Contains-append_right (take k rs) (x ∷ []) x (first_in x []))) in
           let was = before.least b le
           (members (λ (r : Reg). r.number < b) (take k rs)
           (λ q c.
           member (λ (r : Reg). r.number < b) (take (k + 1) rs) q small
-          (subst (λ xs. Contains xs q) (sym taken) (left_in (take k rs) (x ∷ []) q c)))) in
+          (subst (λ xs. Contains xs q) (sym taken) (Contains-append_left (take k rs) (x ∷ []) q c)))) in
           smaller b here_less was;
     }
   where

@@ -2,6 +2,7 @@
 use Rattle.std.proofs.Common.{◌≡◌, ℕ, zero, suc, ◌-◌, ◌<◌, Bool, true, false, ⊎_elim, List, [], ◌∷◌, length, map, drop, refl, sym, ap, subst, arith}
 use Rattle.std.specs.List.{All}
 use Rattle.std.specs.Prelude.{slice_index_or}
+use Rattle.std.proofs.lemmas.List.Elements.{All-nil, All-cons, Contains-append_cases}
 use Rattle.bs_words.specs.Contents.{contents}
 use Rattle.dataflow.specs.Flow.{IsPlace, WellFormed}
 use Rattle.dataflow.specs.declared.flow.Flow as flow
@@ -14,7 +15,7 @@ use Rattle.mach_ir.specs.declared.mach.Instr.{Instr}
 use Rattle.mach_ir.specs.declared.mach.Mach.{Mach}
 use Rattle.mach_laws.specs.Graph.{place_of, handler_places, next_places, raise_places, numbers_read, numbers_written, IsFlowOf}
 use Rattle.liveness.specs.Nodes.{Uses, register_uses, IsNode, AreNodes, at_end, before}
-use Rattle.liveness.proofs.Bounds.{no_items, one_more, numbers_below, killed_is_colour, split_in}
+use Rattle.liveness.proofs.Bounds.{numbers_below, killed_is_colour}
 
 module _ (m : Mach) (uses : Uses) where
   pub count_is : {rest : List Instr} {nodes : List place.Place} → AreNodes m uses rest nodes → length nodes ≡ suc (length rest)
@@ -47,24 +48,24 @@ module _ (m : Mach) (uses : Uses) where
         by a b lt = omega (arith, lt)
 
     targets_within : (next : List Instr) (ts : List Target) → IsWithin (map (λ t. place_of m (code_at m.code next t)) ts)
-    targets_within next [] = no_items (λ q. q < count)
+    targets_within next [] = All-nil (λ q. q < count)
     targets_within next (t ∷ ts) =
-        one_more (λ q. q < count) (place_of m (code_at m.code next t)) (map (λ t. place_of m (code_at m.code next t)) ts)
+        All-cons (λ q. q < count) (place_of m (code_at m.code next t)) (map (λ t. place_of m (code_at m.code next t)) ts)
         (place_within (code_at m.code next t)) (targets_within next ts)
 
     next_within : (rest : List Instr) → IsWithin (next_places m rest)
-    next_within [] = no_items (λ q. q < count)
+    next_within [] = All-nil (λ q. q < count)
     next_within (i ∷ next) = targets_within next (targets i.op)
 
     handlers_within : (b : Bool) (tries : List ℕ) → IsWithin (handler_places m b tries)
-    handlers_within false tries = no_items (λ q. q < count)
-    handlers_within true [] = no_items (λ q. q < count)
+    handlers_within false tries = All-nil (λ q. q < count)
+    handlers_within true [] = All-nil (λ q. q < count)
     handlers_within true (l ∷ tries) =
-        one_more (λ q. q < count) (place_of m (from_handler l m.code)) [] (place_within (from_handler l m.code))
-        (no_items (λ q. q < count))
+        All-cons (λ q. q < count) (place_of m (from_handler l m.code)) [] (place_within (from_handler l m.code))
+        (All-nil (λ q. q < count))
 
     aside_within : (rest : List Instr) → IsWithin (raise_places m rest)
-    aside_within [] = no_items (λ q. q < count)
+    aside_within [] = All-nil (λ q. q < count)
     aside_within (i ∷ next) = handlers_within (may_raise i.op) (tries_at (i ∷ next))
 
     -- what is read and written in this code is below the bound
@@ -84,25 +85,25 @@ module _ (m : Mach) (uses : Uses) where
     pub nodes_within : {rest : List Instr} {nodes : List place.Place} → AreNodes m uses rest nodes → AreSmall rest →
         All (IsPlace count bound) nodes
     nodes_within (at_end {node = node} n) small =
-        one_more (IsPlace count bound) node [] (node_within [] n (small 0).0 (small 0).1) (no_items (IsPlace count bound))
+        All-cons (IsPlace count bound) node [] (node_within [] n (small 0).0 (small 0).1) (All-nil (IsPlace count bound))
     nodes_within (before {i = i} {next = next} {node = node} {nodes = nodes} n ns) small =
-        one_more (IsPlace count bound) node nodes (node_within (i ∷ next) n (small 0).0 (small 0).1) (nodes_within ns (λ p. small (suc p)))
+        All-cons (IsPlace count bound) node nodes (node_within (i ∷ next) n (small 0).0 (small 0).1) (nodes_within ns (λ p. small (suc p)))
 
 -- ---- the registers that are read and written
 
 module _ (m : Mach) (bound : ℕ) (above : (r : Reg) → IsRegister m r → r.number < bound) where
   reads_below : (rest : List Instr) → ((r : Reg) → InCode r rest → IsRegister m r) → All (λ n. n < bound) (numbers_read rest)
-  reads_below [] in_code = no_items (λ n. n < bound)
+  reads_below [] in_code = All-nil (λ n. n < bound)
   reads_below (i ∷ next) in_code = numbers_below bound i.args (λ r c. above r (in_code r (in_args c)))
 
   writes_below : (rest : List Instr) → ((r : Reg) → InCode r rest → IsRegister m r) →
       All (λ n. n < bound) (numbers_written m rest)
-  writes_below [] in_code = no_items (λ n. n < bound)
+  writes_below [] in_code = All-nil (λ n. n < bound)
   writes_below (i ∷ next) in_code =
       numbers_below bound (written m i)
       (λ r c.
       ⊎_elim (λ h. above r (in_code r (in_results h))) (λ h. above r (is_colour (killed_is_colour m i r h)))
-      (split_in i.results (killed m i) r c))
+      (Contains-append_cases i.results (killed m i) r c))
 
   drop_in : (p : ℕ) (code : List Instr) (r : Reg) → InCode r (drop p code) → InCode r code
   drop_in zero [] r c = c

@@ -1,6 +1,6 @@
 -- Places of a function and where they lead, as lists of numbers.
 use Rattle.std.proofs.Common.{◌≡◌, ℕ, zero, suc, ◌-◌, ◌<◌, ◌≤◌, Bool, true, false, List, [], ◌∷◌, map, length, drop, refl, subst, arith}
-use Rattle.std.proofs.lemmas.List.Elements.{All-contains, Contains-get_or}
+use Rattle.std.proofs.lemmas.List.Elements.{All-contains, Contains-get_or, All-nil}
 use Rattle.std.specs.List.{All, Contains}
 use Rattle.std.specs.Prelude.{slice_index_or}
 use Rattle.bs_words.specs.Contents.{contents}
@@ -20,8 +20,7 @@ use Rattle.mach_ir.specs.declared.mach.Mach.{Mach}
 use Rattle.mach_laws.specs.Expand.{Ending}
 use Rattle.mach_laws.specs.Graph.{place_of, numbers, next_places, raise_places, numbers_read, numbers_written, IsFlowOf}
 use Rattle.mach_laws.proofs.Places.{ending_from_handler}
-use Rattle.mach_laws.proofs.Walking.{in_numbers, ending_at, place_is, place_at, place_within, ending_place, target_of, in_targets, handler_of, in_handlers}
-use Rattle.liveness.proofs.Bounds.{no_items}
+use Rattle.mach_laws.proofs.Walking.{in_numbers, ending_at, place_is, place_at, place_within, ending_place, target_of, in_targets, handler_of, in_handlers, ending_leads, ending_raises}
 
 pub each : {A : Type 0} (P : A → Type 0) (xs : List A) → ((y : A) → Contains xs y → P y) → All P xs
 each P xs h = λ k d lt. h (slice_index_or xs k d) (Contains-get_or xs k d lt)
@@ -106,12 +105,6 @@ module _ (m : Mach) where
   pub raises_to : {i : Instr} {next to : List Instr} → Raises m i next to → Contains (raise_places m (i ∷ next)) (place_of m to)
   raises_to {i} {next} (raises {l = l} {tries = tries} b e) = in_handlers m (may_raise i.op) (tries_at (i ∷ next)) l tries b e
 
-  pub leads_ending : {i : Instr} {next to : List Instr} → Ending (i ∷ next) m.code → Leads m i next to → Ending to m.code
-  leads_ending e (goes t o) = ending_at t e
-
-  pub raise_ending : {i : Instr} {next to : List Instr} → Raises m i next to → Ending to m.code
-  raise_ending (raises {l = l} b e) = ending_from_handler l m.code
-
   -- ---- the graph of liveness
 
   module _ (f : flow.Flow) (is : IsFlowOf m f) (formed : flows.WellFormed f) where
@@ -131,27 +124,27 @@ module _ (m : Mach) where
     pub next_within : (p : ℕ) → IsWithin (next_places m (drop p m.code))
     next_within p =
         subst IsWithin (is.next p)
-        (of_part IsWithin (λ x. contents x.next) (no_items (λ q. q < length (contents f.places))) (λ x h. h.next) (contents f.places) formed p)
+        (of_part IsWithin (λ x. contents x.next) (All-nil (λ q. q < length (contents f.places))) (λ x h. h.next) (contents f.places) formed p)
 
     pub aside_within : (p : ℕ) → IsWithin (raise_places m (drop p m.code))
     aside_within p =
         subst IsWithin (is.aside p)
-        (of_part IsWithin (λ x. contents x.aside) (no_items (λ q. q < length (contents f.places))) (λ x h. h.aside) (contents f.places) formed p)
+        (of_part IsWithin (λ x. contents x.aside) (All-nil (λ q. q < length (contents f.places))) (λ x h. h.aside) (contents f.places) formed p)
 
     pub reads_small : (p : ℕ) → IsSmall (numbers_read (drop p m.code))
     reads_small p =
         subst IsSmall (is.reads p)
-        (of_part IsSmall (λ x. contents x.reads) (no_items (λ n. n < f.bound)) (λ x h. h.reads) (contents f.places) formed p)
+        (of_part IsSmall (λ x. contents x.reads) (All-nil (λ n. n < f.bound)) (λ x h. h.reads) (contents f.places) formed p)
 
     pub writes_small : (p : ℕ) → IsSmall (numbers_written m (drop p m.code))
     writes_small p =
         subst IsSmall (is.writes p)
-        (of_part IsSmall (λ x. contents x.writes) (no_items (λ n. n < f.bound)) (λ x h. h.writes) (contents f.places) formed p)
+        (of_part IsSmall (λ x. contents x.writes) (All-nil (λ n. n < f.bound)) (λ x h. h.writes) (contents f.places) formed p)
 
     -- what is live is below the bound
     pub live_small : {n : ℕ} {rest : List Instr} → Live m n rest → Ending rest m.code → n < f.bound
     live_small {n} (read {i = i} {next = next} a) e =
         let p = place_of m (i ∷ next) in
         All-contains (λ n. n < f.bound) (numbers i.args) n (subst (λ rest. IsSmall (numbers_read rest)) (place_is m e) (reads_small p)) (in_numbers a)
-    live_small (on w l v) e = live_small v (leads_ending e l)
-    live_small (aside r v) e = live_small v (raise_ending r)
+    live_small (on w l v) e = live_small v (ending_leads l e)
+    live_small (aside r v) e = live_small v (ending_raises r)

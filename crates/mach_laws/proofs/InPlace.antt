@@ -72,6 +72,10 @@ labels_from i is = by i.op i.args i.results
     by (mach.Op g) args results = refl
     by (mach.Mark g) args results = refl
 
+-- code with the same labels has them behind any instruction
+pub same_head : (i : Instr) (xs ys : List Instr) → labels_in xs ≡ labels_in ys → labels_in (i ∷ xs) ≡ labels_in (i ∷ ys)
+same_head i xs ys e = labels_from i xs ∙ ap (λ ls. labels_here i.op ++ ls) e ∙ sym (labels_from i ys)
+
 abbrev pub one_each : (ℕ → Instr → Instr) → ℕ → Instr → List Instr
 one_each again k i = again k i ∷ []
 

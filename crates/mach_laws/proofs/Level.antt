@@ -56,17 +56,18 @@ module _ (c : Place) (p q : Mach) where
       start c p arguments memory ≡ Some s → Begins c p q arguments memory doings s
   begins_at same = begins_by (λ vs. ap (λ ps. put_all c.setting.end ps vs (λ n. None)) same)
 
+-- what is round both stays level, where it is the same
+pub ahead_of : (x y : Around) → x ≡ y → Ahead x y
+ahead_of x y e = subst (Ahead x) e (level x)
+
+pub trails_of : (x y : Around) → x ≡ y → Trails x y
+trails_of x y e = subst (Trails x) e (level_trail x)
+
 module _ (c : Place) (p q : Mach) (f : ℕ → Instr → List Instr) (keeps : KeepsMarks f) (is_code : q.code ≡ expand f p.code)
     (Rel : List Instr → File → File → Type 0) where
   -- what is round both is the same
   abbrev pub Level : List Instr → Around → Around → File → File → Type 0
   Level rest x y a b = (x ≡ y) × Rel rest a b
-
-  ahead_of : (x y : Around) → x ≡ y → Ahead x y
-  ahead_of x y e = subst (Ahead x) e (level x)
-
-  trails_of : (x y : Around) → x ≡ y → Trails x y
-  trails_of x y e = subst (Trails x) e (level_trail x)
 
   -- what such a pass owes for each instruction, whatever is said of what is round
   abbrev pub Serves : (Around → Around → Type 0) → Type 0

@@ -1,16 +1,18 @@
 -- The places of code that is replaced instruction by instruction.
 use Rattle.std.proofs.Common.{◌≡◌, ℕ, Bool, true, false, cond, ⊎_elim, List, [], ◌∷◌, ◌++◌, length, refl, sym, ap, ◌∙◌, subst, ◌≤◌, arith, ◌<◌}
 use Rattle.std.proofs.lemmas.Bool.{cases_Bool, true≢false}
-use Rattle.std.proofs.lemmas.List.Elements.{All-head, All-tail, All-cons, All-nil}
+use Rattle.std.proofs.lemmas.List.Elements.{All-head, All-tail, All-cons, All-nil, All-contains}
 use Rattle.std.specs.List.{Contains}
 use Rattle.bs_words.specs.declared.types.Loc.{Loc}
 use Rattle.bs_words.specs.declared.types.Loc.TheVariants as loc
 use Rattle.mach_ir.specs.Acts.{Landing, AtLabel, AtHandler}
+use Rattle.mach_ir.specs.Formed.{IsFormed, WellFormed, HasPlace, place_below, HasHandler, handler_below}
 use Rattle.mach_ir.specs.Meaning.{has_label, is_handler_of, after_label, from_handler, at_handler, landing_code, tries_at, tries_past}
 use Rattle.mach_ir.specs.declared.mach.Mark.TheVariants as mark
 use Rattle.mach_ir.specs.declared.mach.MachOp.{MachOp}
 use Rattle.mach_ir.specs.declared.mach.MachOp.TheVariants as mach
 use Rattle.mach_ir.specs.declared.mach.Instr.{Instr}
+use Rattle.mach_ir.specs.declared.mach.Mach.{Mach}
 use Rattle.mach_ir.specs.Walks.{Stands, here, below, InCode, in_args, further, in_results}
 use Rattle.mach_ir.specs.Places.{is_open}
 use Rattle.mach_ir.specs.Placed.{is_straight, AreStraight}
@@ -158,11 +160,25 @@ pub contains_of : {i : Instr} {next code : List Instr} → Stands i next code �
 contains_of {i} {next = next} here = first_in i next
 contains_of {i} (below {j = j} {is = xs} s) = later_in j i xs (contains_of s)
 
+-- where a function is formed, each of its instructions is
+pub form_of : {m : Mach} {i : Instr} {next : List Instr} → WellFormed m → Ending (i ∷ next) m.code → IsFormed i
+form_of {m} {i} formed e = All-contains IsFormed m.code i formed.instrs (contains_of (stands_of e))
+
 pub stands_in : (code : List Instr) (i : Instr) → Contains code i → (next : List Instr) × Stands i next code
 stands_in [] i c = absurd (none_in i c)
 stands_in (j ∷ is) i c =
     ⊎_elim (λ e. (is, subst (λ (i : Instr). Stands i is (j ∷ is)) e here)) (λ d. let s = stands_in is i d in (s.0, below s.1))
     (in_cons j i is c)
+
+-- ---- what stands behind other code
+
+pub place_behind : {l : ℕ} (xs ys : List Instr) → HasPlace l ys → HasPlace l (xs ++ ys)
+place_behind [] ys h = h
+place_behind (x ∷ xs) ys h = place_below (place_behind xs ys h)
+
+pub handler_behind : {l : ℕ} (xs ys : List Instr) → HasHandler l ys → HasHandler l (xs ++ ys)
+handler_behind [] ys h = h
+handler_behind (x ∷ xs) ys h = handler_below (handler_behind xs ys h)
 
 -- ---- straight code
 

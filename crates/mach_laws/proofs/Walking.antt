@@ -4,14 +4,14 @@ use Rattle.std.proofs.lemmas.List.{length-drop}
 use Rattle.std.specs.List.{Contains}
 use Rattle.mach_ir.specs.Acts.{Target, On, At}
 use Rattle.mach_ir.specs.Meaning.{code_at, from_handler}
-use Rattle.mach_ir.specs.Walks.{Among, first, later, OneOf, this, other}
+use Rattle.mach_ir.specs.Walks.{Among, first, later, OneOf, this, other, Leads, goes, Raises, raises, Live, on, aside, LiveAcross, across_step, across_raise}
 use Rattle.mach_ir.specs.declared.reg.Reg.{Reg}
 use Rattle.mach_ir.specs.declared.mach.Instr.{Instr}
 use Rattle.mach_ir.specs.declared.mach.Mach.{Mach}
 use Rattle.bs_words.proofs.Lists.{none_in, first_in, later_in, in_cons, drop_none}
 use Rattle.mach_laws.specs.Expand.{Ending, all, more}
 use Rattle.mach_laws.specs.Graph.{place_of, numbers, handler_places}
-use Rattle.mach_laws.proofs.Places.{ending_next, ending_label, ending_short}
+use Rattle.mach_laws.proofs.Places.{ending_next, ending_label, ending_short, ending_from_handler}
 
 -- ---- numbers of places
 
@@ -39,6 +39,23 @@ ending_drop (suc p) (i ∷ is) = more (ending_drop p is)
 pub ending_at : {i : Instr} {next code : List Instr} (t : Target) → Ending (i ∷ next) code → Ending (code_at code next t) code
 ending_at On e = ending_next e
 ending_at {code = code} (At l) e = ending_label l code
+
+pub ending_leads : {m : Mach} {i : Instr} {next to : List Instr} → Leads m i next to → Ending (i ∷ next) m.code → Ending to m.code
+ending_leads (goes t o) e = ending_at t e
+
+pub ending_raises : {m : Mach} {i : Instr} {next to : List Instr} → Raises m i next to → Ending to m.code
+ending_raises {m} (raises {l = l} b e) = ending_from_handler l m.code
+
+-- what only goes on
+pub only_on : (t : Target) → OneOf t (On ∷ []) → t ≡ On
+only_on t this = refl
+only_on t (other o) = elim o [ ]
+
+-- ---- what is live
+
+pub across_live : {m : Mach} {n : ℕ} {i : Instr} {next : List Instr} → LiveAcross m n i next → Live m n (i ∷ next)
+across_live (across_step w l v) = on w l v
+across_live (across_raise r v) = aside r v
 
 -- ---- numbers of registers
 

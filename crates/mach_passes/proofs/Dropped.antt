@@ -4,12 +4,11 @@ use Rattle.std.specs.List.{Contains}
 use Rattle.std.specs.Prelude.{slice_index_or}
 use Rattle.std.proofs.lemmas.List.Elements.{Contains-get_or, All-contains}
 use Rattle.hoist_rules.specs.Known.{without, dropped, AreDead, IsDropped, OffsetFits, IsCarried, code_words, code_points, exits, other_operands}
-use Rattle.hoist_rules.proofs.Known.{was_main, still_ends, tries_here, was_register, Fate, falls, remains, fate, exits_both}
+use Rattle.hoist_rules.proofs.Known.{was_main, still_ends, tries_here, was_register, Fate, falls, remains, fate, exits_both, contains_back}
 use Rattle.mach_ir.specs.Formed.{is_exit, WellFormed}
 use Rattle.mach_ir.specs.declared.mach.Instr.{Instr}
 use Rattle.mach_ir.specs.declared.mach.Mach.{Mach}
 use Rattle.mach_laws.specs.Expand.{expand}
-use Rattle.mach_laws.proofs.Places.{contains_of, stands_in}
 
 exits_later : (b : Bool) (n : ℕ) → n ≤ cond b (suc n) n
 exits_later true n = omega arith
@@ -69,10 +68,6 @@ module _ (m : Mach) (drops : ℕ → Bool) (dead : AreDead m drops) where
 
   -- ---- the rest
 
-  contains_back : (i : Instr) → Contains q.code i → Contains m.code i
-  contains_back i c =
-      let s = stands_in q.code i c in contains_of (was_main drops m.code i s.0 s.1).stands
-
   carried : IsCarried 0 m (dropped drops m)
   carried =
       record {
@@ -85,7 +80,7 @@ module _ (m : Mach) (drops : ℕ → Bool) (dead : AreDead m drops) where
             subst (λ ts. length ts ≤ most) (sym (tries_here drops i w.next w.same)) (known i w.next w.stands);
         offsets = λ fit k d lt.
             All-contains (λ (i : Instr). OffsetFits i.op) m.code (slice_index_or q.code k d) fit
-            (contains_back (slice_index_or q.code k d) (Contains-get_or q.code k d lt));
+            (contains_back drops m.code (slice_index_or q.code k d) (Contains-get_or q.code k d lt));
         ends = still_ends drops;
         colours_low = λ low r k c i e. low r k c (was_register m drops dead k i) e;
       }

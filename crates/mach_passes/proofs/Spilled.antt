@@ -7,7 +7,6 @@ use Rattle.std.proofs.Math.Nat.{le_of_eq, zero-add}
 use Rattle.hoist_rules.specs.Known.{same_spot, OffsetFits, EndsInReturn, at_return, further, IsCarried, copy_words, instr_words, code_words, one_if, code_points, exits, operands_with, other_operands}
 use Rattle.mach_ir.specs.Formed.{is_exit, IsFormed, WellFormed}
 use Rattle.mach_ir.specs.Meaning.{passes_frame, tries_at, tries_past}
-use Rattle.mach_ir.specs.Placed.{WellPlaced}
 use Rattle.mach_ir.specs.Sizes.{operand_count}
 use Rattle.mach_ir.specs.Walks.{Stands, here, below}
 use Rattle.mach_ir.specs.declared.op.CopyKind.{CopyKind}
@@ -24,8 +23,8 @@ use Rattle.mach_laws.proofs.Instructions.{return_results}
 use Rattle.hoist_rules.proofs.Known.{at_most_copy, ends_second}
 use Rattle.places_rules.proofs.Open.{slot_open}
 use Rattle.places_rules.specs.Places.{ColoursLow}
-use Rattle.sink_rules.specs.Known.{IsSpilled, ParamsPlaced, IsNeededSlot, IsChosenKept, Plan, in_slot, copied, reload, spill, reloads_of, spills_of, operands_of, results_of, spilled_instr, spilled}
-use Rattle.sink_rules.proofs.Known.{spilled_kept, IsCopy, is_reload, is_spill, IsMain, was_main, keeps_marks}
+use Rattle.sink_rules.specs.Known.{IsSpilled, IsNeededSlot, IsChosenKept, Plan, in_slot, copied, reload, spill, reloads_of, spills_of, operands_of, results_of, spilled_instr, spilled}
+use Rattle.sink_rules.proofs.Known.{IsCopy, is_reload, is_spill, IsMain, was_main, keeps_marks}
 
 -- ---- copies alone
 
@@ -258,7 +257,3 @@ pub spill_carried : (m q : Mach) → WellFormed m → (s : IsSpilled m q) → Is
 spill_carried m q formed s kept =
     subst (λ q. IsCarried (copy_words * operand_count m.code) m q) (sym s.is)
     (planned_carried m s.plan formed (subst (λ q. IsChosenKept m q s.plan) s.is kept))
-
-pub spilled_carried : {m q : Mach} → WellFormed m → WellPlaced m → ParamsPlaced m → IsSpilled m q →
-    IsCarried (copy_words * operand_count m.code) m q
-spilled_carried {m} {q} formed placed params s = spill_carried m q formed s (spilled_kept m q formed placed params s)

@@ -12,6 +12,15 @@ pub words_append : (xs ys : List Instr) → code_words (xs ++ ys) ≡ code_words
 words_append [] ys = omega arith
 words_append (x ∷ xs) ys = let e : code_words (xs ++ ys) ≡ code_words xs + code_words ys = words_append xs ys in omega (arith, e)
 
+-- what is a sum over instructions
+pub both_sum : (M : List Instr → ℕ) (one : Instr → ℕ) → M [] ≡ 0 → ((i : Instr) (is : List Instr) → M (i ∷ is) ≡ one i + M is) →
+    (xs ys : List Instr) → M (xs ++ ys) ≡ M xs + M ys
+both_sum M one none more [] ys = let e = none in omega (arith, e)
+both_sum M one none more (x ∷ xs) ys =
+    let e = more x (xs ++ ys) in
+    let h = more x xs in
+    let ih = both_sum M one none more xs ys in omega (arith, e, h, ih)
+
 pub exits_both : (b : Bool) (n k : ℕ) → n ≤ k → cond b (suc n) n ≤ cond b (suc k) k
 exits_both true n k le = omega (arith, le)
 exits_both false n k le = le

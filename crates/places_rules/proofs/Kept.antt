@@ -1,17 +1,16 @@
 -- A function whose open registers have been given places, joined ones apart, does what it did: what is live holds the same.
 use Rattle.std.proofs.Common.{◌≡◌, ℕ, true, inl, inr, ◌⊎◌, ⊎_elim, List, [], ◌∷◌, Option, Some, None, refl, sym, ap, ◌∙◌, subst}
 use Rattle.std.proofs.lemmas.Option.{none-some}
-use Rattle.std.proofs.lemmas.List.Elements.{All-contains}
 use Rattle.bs_words.specs.Memory.{Memory}
 use Rattle.bs_words.specs.declared.values.Value.{Value}
 use Rattle.bs_words.proofs.Lists.{head_same, tail_same}
 use Rattle.mach_ir.specs.Known.{Doing}
 use Rattle.mach_ir.specs.Acts.{Around, Target, On, At, Landing, AtLabel, AtHandler, Replaces}
-use Rattle.mach_ir.specs.Formed.{IsFormed, WellFormed}
+use Rattle.mach_ir.specs.Formed.{WellFormed}
 use Rattle.mach_ir.specs.Runs.{Place, entered}
 use Rattle.mach_ir.specs.Meaning.{Held, State, File, clear, killed, written, values, past_frame, passes_frame, after_label, at_handler, code_at, tries_at, landing_code, start}
 use Rattle.mach_ir.specs.Placed.{WellPlaced}
-use Rattle.mach_ir.specs.Walks.{Among, OneOf, targets, may_raise, goes, raises, Live, read, on, aside, after_step, LiveAcross, across_step, across_raise}
+use Rattle.mach_ir.specs.Walks.{Among, OneOf, targets, may_raise, goes, raises, Live, read, on, aside, after_step, LiveAcross}
 use Rattle.mach_ir.specs.Keeps.{ValsWritten, wrote_unless, Begins, Does}
 use Rattle.mach_ir.specs.declared.reg.Reg.{Reg}
 use Rattle.mach_ir.specs.declared.mach.Instr.{Instr}
@@ -21,10 +20,11 @@ use Rattle.mach_laws.proofs.General as general
 use Rattle.mach_laws.proofs.General.{at}
 use Rattle.mach_laws.proofs.Leads.{IsTry, MayLand, lands_at_label, lands_at_handler, try_on}
 use Rattle.mach_laws.proofs.Level as level
-use Rattle.mach_laws.proofs.Places.{ending_next, ending_label, ending_land, stands_of, contains_of, land_expand}
+use Rattle.mach_laws.proofs.Places.{ending_next, ending_label, ending_land, stands_of, land_expand, form_of}
 use Rattle.mach_laws.proofs.Simulate.{Agrees}
 use Rattle.mach_laws.proofs.Among.{left_among, right_among, split_among}
 use Rattle.mach_laws.proofs.Raised.{IsRaised, IsSilent, label_silent, try_silent, told}
+use Rattle.mach_laws.proofs.Walking.{across_live}
 use Rattle.places_rules.specs.Places.{Placing, IsPlacing, placed, all_placed, placed_instr, placed_code, with_places}
 use Rattle.places_rules.proofs.Files.{values_same, past_same, cleared, not_cleared, among_or_not, PutsBoth, put_both}
 use Rattle.places_rules.proofs.Walked.{fewer_killed, fewer_written, still_written, live_before, across_back}
@@ -38,9 +38,6 @@ module _ (m : Mach) (place : Placing) (formed : WellFormed m) (well : WellPlaced
   -- what is live holds the same
   abbrev Same : List Instr → File → File → Type 0
   Same rest a b = (n : ℕ) → Live m n rest → a n ≡ b n
-
-  form_of : {i : Instr} {next : List Instr} → Ending (i ∷ next) m.code → IsFormed i
-  form_of {i} e = All-contains IsFormed m.code i formed.instrs (contains_of (stands_of e))
 
   -- ---- where registers of one origin agree
 
@@ -79,10 +76,6 @@ module _ (m : Mach) (place : Placing) (formed : WellFormed m) (well : WellPlaced
   silent_wrote e (Some v) a b s n u z h = elim z [ ]
 
   -- ---- values that are read
-
-  across_live : {n : ℕ} {i : Instr} {next : List Instr} → LiveAcross m n i next → Live m n (i ∷ next)
-  across_live (across_step w l v) = on w l v
-  across_live (across_raise r v) = aside r v
 
   vals_before : (i : Instr) (next : List Instr) (a b : File) (x : Around) → Ending (i ∷ next) m.code → Same (i ∷ next) a b →
       ValsWritten m (at (i ∷ next) a x) → ValsWritten q (at (placed_code place (i ∷ next)) b x)
@@ -203,7 +196,7 @@ module _ (m : Mach) (place : Placing) (formed : WellFormed m) (well : WellPlaced
 
     landed : (to : Landing) → MayLand i.op to → Same (landing_code m.code (i ∷ next) to) a' b'
     landed (AtLabel l) (lands_at_label o) n v =
-        still n (on (label_silent m (form_of ending) l o n) (goes (At l) o) v)
+        still n (on (label_silent m (form_of formed ending) l o n) (goes (At l) o) v)
     landed AtHandler (lands_at_handler r) n v = still n (caught r (tries_at (i ∷ next)) refl v)
 
     lands : (to : Landing) → MayLand i.op to → (x : Around) → IsSilent m i ⊎ IsRaised x.raised →
@@ -217,7 +210,7 @@ module _ (m : Mach) (place : Placing) (formed : WellFormed m) (well : WellPlaced
     )
 
     pushed : IsTry i.op → Same next a' b'
-    pushed t n v = still n (on (try_silent m (form_of ending) t n) (goes On (try_on i.op t)) v)
+    pushed t n v = still n (on (try_silent m (form_of formed ending) t n) (goes On (try_on i.op t)) v)
 
     same_operation : level.SameOperation c m q (alone place) (keeps_marks place) is_code Suit Same (IsSilent m i) i main next [] a' b'
     same_operation =
@@ -236,7 +229,7 @@ module _ (m : Mach) (place : Placing) (formed : WellFormed m) (well : WellPlaced
               (refl, pushed t),
               moved (λ code. Agrees q (written q main) (at code b' x)) next
                   (agrees_by next (ending_next ending) a' b' x (written m i) (written q main) (pushed t)
-                  (silent_wrote ending x.raised a' b' (inl (try_silent m (form_of ending) t))) w),
+                  (silent_wrote ending x.raised a' b' (inl (try_silent m (form_of formed ending) t))) w),
             ),
           );
         }
@@ -255,7 +248,7 @@ module _ (m : Mach) (place : Placing) (formed : WellFormed m) (well : WellPlaced
           passing = general.passed;
           vals = λ known. moved (λ code. ValsWritten q (at (main ∷ code) b x)) next (vals_before i next a b x ending same known);
           reads = same_values place b i.args ∙ sym (values_same a b i.args (λ n z. same n (read z))) ∙ e;
-          told = told m (form_of ending) c.setting vs x;
+          told = told m (form_of formed ending) c.setting vs x;
           same = same_operation;
         })
 

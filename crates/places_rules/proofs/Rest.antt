@@ -90,7 +90,7 @@ module _ (m : Mach) (formed : WellFormed m) (well : WellPlaced m) where
   rest_placed =
       placed_fully m last_resort formed well (rest_placing m well) (λ r i. is_at m well r i (rested r))
       (λ r k c i e.
-      let at = colour_place m last_resort well (rest_placing m well) r c in
+      let at = colour_place well r c in
       (well.colours).least r k c i (same_colour_place m well k at.0 (e ∙ at.1) ∙ sym at.1))
 
   pub rest_formed : WellFormed (rest_in_slots m)

@@ -156,22 +156,23 @@ killed_by_has r rs Everything results c e h = killed_has r rs Everything results
 
 -- ---- members of the code
 
+-- where a function is well placed, its colours are in machine registers
+pub colour_place : {m : Mach} → WellPlaced m → (r : Reg) → Contains m.colours r → (n : ℕ) × (r.loc ≡ loc.Machine n)
+colour_place {m} well r c =
+    let l = mapped (λ (r : Reg). r.loc) m.colours r c in
+    let w = was loc.Machine colours r.loc (subst (λ ls. Contains ls r.loc) ((well.colours).each) l) in (w.what, sym w.same)
+
 module _ (m : Mach) (place : Placing) (well : WellPlaced m) (is : IsPlacing m place) where
   abbrev q : Mach
   q = with_places place m
 
   -- ---- fixed places
 
-  pub colour_place : (r : Reg) → Contains m.colours r → (n : ℕ) × (r.loc ≡ loc.Machine n)
-  colour_place r c =
-      let l = mapped (λ (r : Reg). r.loc) m.colours r c in
-      let w = was loc.Machine colours r.loc (subst (λ ls. Contains ls r.loc) ((well.colours).each) l) in (w.what, sym w.same)
-
   pub machine_stays : (r : Reg) → IsRegister m r → (n : ℕ) → r.loc ≡ loc.Machine n → place r ≡ loc.Machine n
   machine_stays r i n e = ⊎_elim (λ h. absurd (machine_open e h)) (λ h. h ∙ e) (is.fixed r i)
 
   pub colour_stays : (r : Reg) → Contains m.colours r → place r ≡ r.loc
-  colour_stays r c = let p = colour_place r c in machine_stays r (is_colour c) p.0 p.1 ∙ sym p.1
+  colour_stays r c = let p = colour_place well r c in machine_stays r (is_colour c) p.0 p.1 ∙ sym p.1
 
   -- ---- an operation destroys no more than it did
 

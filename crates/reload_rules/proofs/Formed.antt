@@ -21,6 +21,7 @@ use Rattle.mach_ir.specs.declared.mach.Mach.{Mach}
 use Rattle.mach_laws.proofs.Places.{label_expand, handler_expand, tries_expand, results_in, contains_of}
 use Rattle.spill_rules.specs.Spilled.{copied}
 use Rattle.spill_rules.proofs.Formed.{one_distinct}
+use Rattle.spill_rules.proofs.Text.{copy_formed, copy_no_mark}
 use Rattle.bs_words.proofs.Lists.{first_in, later_in}
 use Rattle.reload_rules.specs.Reloaded.{reads_registers, writes_registers, is_renewed, fresh, number_after, renewed}
 use Rattle.reload_rules.proofs.Files.{Apart, apart_more, apart_of}
@@ -110,11 +111,8 @@ module _ (m : Mach) (s : ℕ → ℕ) (free top : ℕ) (formed : WellFormed m) (
       by : OneOf (At l) (On ∷ []) → ⊥
       by (other o) = elim o [ ]
 
-  op_mark : (kind : CopyKind) (from to : Reg) (k : _) → (copied kind from to).op ≡ mach.Mark k → ⊥
-  op_mark kind from to k e = cc
-
   no_mark : (i : Instr) (k : _) → i.op ≡ mach.Mark k → Copy i → ⊥
-  no_mark i k e (is_copy kind from to h) = op_mark kind from to k (ap (λ (i : Instr). i.op) h ∙ e)
+  no_mark i k e (is_copy kind from to h) = copy_no_mark kind from to k (ap (λ (i : Instr). i.op) h ∙ e)
 
   no_raise : (i : Instr) → may_raise i.op ≡ true → Copy i → ⊥
   no_raise i r (is_copy kind from to h) = both_ways false refl (ap (λ (i : Instr). may_raise i.op) h ∙ r)
@@ -219,9 +217,6 @@ module _ (m : Mach) (s : ℕ → ℕ) (free top : ℕ) (formed : WellFormed m) (
       let lt = is.above r (is_in_code (results_in t c)) in
       let from = is.from i next t in
       let rises = past_rises (reads_registers i.op) (s (length next)) i.args in omega (arith, lt, from, rises))
-
-  copy_formed : (kind : CopyKind) (from to : Reg) → IsFormed (copied kind from to)
-  copy_formed kind from to = formed_op form.copies
 
   -- A well-formed function is so with its reloads and spills.
   pub reloaded_formed : WellFormed (reloaded_by s m)

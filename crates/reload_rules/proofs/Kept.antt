@@ -11,11 +11,11 @@ use Rattle.bs_words.specs.Memory.{Memory}
 use Rattle.bs_words.specs.declared.values.Value.{Value}
 use Rattle.bs_words.proofs.Lists.{none_in, in_cons, head_same, tail_same}
 use Rattle.mach_ir.specs.Acts.{Around, Target, On, At, Landing, AtLabel, AtHandler, Act, Goes, Pushes, Jumps, Unwinds, Asks, Replaces, Ends, EndsRaising, Stuck}
-use Rattle.mach_ir.specs.Formed.{IsFormed, WellFormed, AreDistinct}
+use Rattle.mach_ir.specs.Formed.{WellFormed, AreDistinct}
 use Rattle.mach_ir.specs.Placed.{WellPlaced}
 use Rattle.mach_ir.specs.Runs.{Place, Tally, entered}
 use Rattle.mach_ir.specs.Meaning.{Held, File, put, put_all, clear, killed, written, values, past_frame, passes_frame, is_handler_of, mach_act, after_label, from_handler, at_handler, code_at, tries_at, landing_code, run}
-use Rattle.mach_ir.specs.Walks.{Among, first, later, OneOf, targets, may_raise, goes, raises, Live, read, on, aside, LiveAcross, across_step, across_raise, IsRegister, is_colour, is_in_code, Stands}
+use Rattle.mach_ir.specs.Walks.{Among, first, later, OneOf, targets, may_raise, goes, raises, Live, read, on, aside, LiveAcross, IsRegister, is_colour, is_in_code, Stands}
 use Rattle.mach_ir.specs.Keeps.{ValsWritten, OriginsAgree, wrote_unless, Ahead, Trails, Proper, Comes, Does}
 use Rattle.mach_ir.proofs.Keeping.{level, level_trail}
 use Rattle.mach_ir.specs.declared.op.CopyKind.TheVariants as copy
@@ -30,11 +30,12 @@ use Rattle.mach_laws.proofs.General as general
 use Rattle.mach_laws.proofs.General.{at}
 use Rattle.mach_laws.proofs.Leads.{IsTry, MayLand, lands_at_label, lands_at_handler, Within, goes_in, pushes_in, jumps_in, unwinds_in, asks_in, within, try_on}
 use Rattle.mach_laws.proofs.Level.{begins_at}
-use Rattle.mach_laws.proofs.Places.{ending_next, ending_label, ending_land, label_expand, stands_of, results_in, contains_of, land_expand}
+use Rattle.mach_laws.proofs.Places.{ending_next, ending_label, ending_land, label_expand, stands_of, results_in, contains_of, land_expand, form_of}
 use Rattle.mach_laws.proofs.Simulate.{Agrees}
 use Rattle.mach_laws.proofs.Among.{left_among, right_among, split_among, number_among, among_of, unless_among}
 use Rattle.mach_laws.proofs.Files.{put_other}
 use Rattle.mach_laws.proofs.Raised.{IsRaised, Told, told_jump, told_unwind, told_ask, IsSilent, told, label_silent, try_silent}
+use Rattle.mach_laws.proofs.Walking.{across_live}
 use Rattle.places_rules.proofs.Files.{past_same, cleared, not_cleared, among_or_not, put_here}
 use Rattle.liveness.proofs.Bounds.{killed_is_colour}
 use Rattle.spill_rules.specs.Spilled.{copied}
@@ -117,9 +118,6 @@ module _ (m : Mach) (s : ℕ → ℕ) (free top : ℕ) (formed : WellFormed m) (
 
   abbrev Unspilled : Instr → ℕ → List Reg → Type 0
   Unspilled = NotSpilled m s free top formed placed is
-
-  form_of : {i : Instr} {next : List Instr} → Ending (i ∷ next) m.code → IsFormed i
-  form_of {i} e = All-contains IsFormed m.code i formed.instrs (contains_of (stands_of e))
 
   pub laid_after : (i : Instr) (next : List Instr) → Ending (i ∷ next) m.code →
       Lay (Storing i next (first_result i next) i.results) (spills (writes_registers i.op) (first_result i next) i.results ++ expand f next)
@@ -693,7 +691,7 @@ module _ (m : Mach) (s : ℕ → ℕ) (free top : ℕ) (formed : WellFormed m) (
               holds = record { itself = done.holds; fit = fit_after vs d e; agree = agree_there next (written m i) d y agreed };
             })
         past_to vs d e p y quiet (At l) o =
-            let silent = label_silent m (form_of ending) l o in
+            let silent = label_silent m (form_of formed ending) l o in
             let unspilled = λ (x : ℕ) (r : Reg) (z : Contains i.results r) (t : is_renewed (writes_registers i.op) r ≡ true) (g : r.number ≡ x).
             silent r.number (left_among i.results (killed m i) (among_of r i.results z)) in
             let rel : Agrees m (written m i) (at (after_label l m.code) d y) → Linked (after_label l m.code) y y d p.file =
@@ -719,7 +717,7 @@ module _ (m : Mach) (s : ℕ → ℕ) (free top : ℕ) (formed : WellFormed m) (
         landed : (to : Landing) → MayLand i.op to → (y : Around) → Agrees m (written m i) (at (landing_code m.code (i ∷ next) to) a' y) →
             Holds (landing_code m.code (i ∷ next) to) a' b'
         landed (AtLabel l) (lands_at_label o) y agreed =
-            let silent = label_silent m (form_of ending) l o in
+            let silent = label_silent m (form_of formed ending) l o in
             record {
               itself = λ n v. still n (on (silent n) (goes (At l) o) v);
               fit = fit_still;
@@ -748,7 +746,7 @@ module _ (m : Mach) (s : ℕ → ℕ) (free top : ℕ) (formed : WellFormed m) (
 
         pushed : IsTry i.op → (y : Around) → Agrees m (written m i) (at next a' y) → Holds next a' b'
         pushed t y agreed =
-            let silent = try_silent m (form_of ending) t in
+            let silent = try_silent m (form_of formed ending) t in
             record {
               itself = λ n v. still n (on (silent n) (goes On (try_on i.op t)) v);
               fit = fit_still;
@@ -786,11 +784,11 @@ module _ (m : Mach) (s : ℕ → ℕ) (free top : ℕ) (formed : WellFormed m) (
             general.both_unwind tries_so
             (lands AtHandler (lands_at_handler r) y' silent (caught (caught_at m.code (tries_at (i ∷ next)))))
         acts_same y (Pushes y') (pushes_in t) u (calm_push quiet) =
-            general.both_push (no_post (try_silent m (form_of ending) t)) refl
+            general.both_push (no_post (try_silent m (form_of formed ending) t)) refl
             (λ agreed. (
               record { same = refl; quiet = none_raised quiet; holds = pushed t y' agreed },
               agree_begins next (written q (main_for i next)) a' b' y' (ending_next ending) (pushed t y' agreed)
-                  (silent_none (try_silent m (form_of ending) t) y'.raised),
+                  (silent_none (try_silent m (form_of formed ending) t) y'.raised),
             ))
         acts_same y (Asks whom vs go) (asks_in w) (told_ask t) (calm_ask k) =
             general.both_ask (record { memory = refl; tries = refl }) (λ d. acts_same y (go d) (w d) (t d) (k d))
@@ -801,10 +799,6 @@ module _ (m : Mach) (s : ℕ → ℕ) (free top : ℕ) (formed : WellFormed m) (
 
         -- ---- vals that are live over it
 
-        live_of : {n : ℕ} → LiveAcross m n i next → Live m n (i ∷ next)
-        live_of (across_step w l v) = on w l v
-        live_of (across_raise r v) = aside r v
-
         vals_main : (y : Around) → ValsWritten m (at (i ∷ next) a y) → ValsWritten q (at (main_for i next ∷ (post ++ expand f next)) b y)
         vals_main y known =
             record {
@@ -814,10 +808,10 @@ module _ (m : Mach) (s : ℕ → ℕ) (free top : ℕ) (formed : WellFormed m) (
                   subst (λ xs. LiveAcross q r.number (main_for i next) xs) (sym (tail_same e))
                   (subst (λ j. LiveAcross q r.number j ys) (sym head) v) in
                   let x = across_back m s free top formed placed is i next ending laid_main there in
-                  let u = live_register m (live_of x) ending in
+                  let u = live_register m (across_live x) ending in
                   known.written i next refl (subst (λ (j : Instr). passes_frame j.op ≡ true) (sym head) frame) r
                   (old_register m s free top formed placed is r u.0 one u.1 u.2) val x
-                  ((reading.holds).itself r.number (live_of x) ∙ none);
+                  ((reading.holds).itself r.number (across_live x) ∙ none);
             }
 
       one : (i : Instr) (next : List Instr) (a b : File) (ending : Ending (i ∷ next) m.code) → Holds (i ∷ next) a b → (y : Around) →
@@ -850,7 +844,7 @@ module _ (m : Mach) (s : ℕ → ℕ) (free top : ℕ) (formed : WellFormed m) (
                 (λ x w g. (gone.holds).made x w g (for_below (reads_registers i.op) g)))
                 ∙ e;
             alike = acts_same i next a gone.file ending gone.holds y (mach_act c.setting i.op vs y) (within c.setting i.op vs y)
-                (told m (form_of ending) c.setting vs y) (calm_here i next y quiet c.setting vs);
+                (told m (form_of formed ending) c.setting vs y) (calm_here i next y quiet c.setting vs);
           }
 
     serves : (Suit : Around → Around → Type 0) → ((x y : Around) → x ≡ y → Suit x y) →

@@ -4,20 +4,20 @@ use Rattle.std.proofs.Common.{◌≡◌, ℕ, suc, ◌<◌, ◌≤◌, Bool, tru
 use Rattle.std.proofs.lemmas.Bool.{cases_Bool, eq-eqb, eqb-true, both_ways}
 use Rattle.std.specs.List.{Contains}
 use Rattle.std.specs.Prelude.{nat_eq}
-use Rattle.std.proofs.lemmas.List.Elements.{All-contains}
 use Rattle.mach_ir.specs.Acts.{Target, On, At}
-use Rattle.mach_ir.specs.Formed.{IsFormed, WellFormed}
+use Rattle.mach_ir.specs.Formed.{WellFormed}
 use Rattle.mach_ir.specs.Meaning.{after_label, from_handler, code_at, tries_at, tries_past, destroyed_by, killed}
 use Rattle.mach_ir.specs.Placed.{WellPlaced}
-use Rattle.mach_ir.specs.Walks.{Among, first, later, OneOf, this, other, targets, may_raise, goes, raises, Writes, Live, read, on, aside, LiveAcross, across_step, across_raise, Stands, IsRegister}
+use Rattle.mach_ir.specs.Walks.{Among, first, later, OneOf, targets, may_raise, goes, raises, Writes, Live, read, on, aside, LiveAcross, across_step, across_raise, Stands, IsRegister}
 use Rattle.mach_ir.specs.declared.op.CopyKind.TheVariants as copy
 use Rattle.mach_ir.specs.declared.reg.Reg.{Reg}
 use Rattle.mach_ir.specs.declared.mach.Instr.{Instr}
 use Rattle.mach_ir.specs.declared.mach.Mach.{Mach}
 use Rattle.mach_laws.specs.Expand.{expand, Ending}
-use Rattle.mach_laws.proofs.Places.{label_expand, handler_expand, ending_next, ending_label, ending_from_handler, stands_of, contains_of}
+use Rattle.mach_laws.proofs.Places.{label_expand, handler_expand, ending_next, ending_label, ending_from_handler, form_of}
 use Rattle.mach_laws.proofs.Among.{left_among, right_among, split_among, number_among, among_of}
 use Rattle.mach_laws.proofs.Raised.{label_silent}
+use Rattle.mach_laws.proofs.Walking.{only_on}
 use Rattle.spill_rules.specs.Spilled.{copied}
 use Rattle.bs_words.proofs.Lists.{none_in, in_cons}
 use Rattle.reload_rules.specs.Reloaded.{reads_registers, writes_registers, is_renewed, fresh, number_after, number_past, reloads, spills, results_from, past_instr, renewed_instr}
@@ -188,9 +188,6 @@ module _ (m : Mach) (s : ℕ → ℕ) (free top : ℕ) (formed : WellFormed m) (
 
   -- ---- what an instruction writes
 
-  form_of : {i : Instr} {next : List Instr} → Ending (i ∷ next) m.code → IsFormed i
-  form_of {i} e = All-contains IsFormed m.code i formed.instrs (contains_of (stands_of e))
-
   pub killed_same : (i : Instr) (next : List Instr) → killed q (main_of i next) ≡ killed m i
   killed_same i next = same_killed m.colours (destroyed_by i.op) (writes_registers i.op) (results_at i next) i.results
 
@@ -257,10 +254,6 @@ module _ (m : Mach) (s : ℕ → ℕ) (free top : ℕ) (formed : WellFormed m) (
   abbrev Onward : ℕ → List Instr → Target → Type 0
   Onward x ys t = (z : Stage) → Laid z (code_at q.code ys t) → Says x z
 
-  only_on : (t : Target) → OneOf t (On ∷ []) → t ≡ On
-  only_on t this = refl
-  only_on t (other o) = elim o [ ]
-
   at_label : (l : ℕ) → Laid (Before (after_label l m.code)) (after_label l q.code)
   at_label l =
       subst (Laid (Before (after_label l m.code))) (sym (label_expand f (keeps_marks s) l m.code))
@@ -302,7 +295,7 @@ module _ (m : Mach) (s : ℕ → ℕ) (free top : ℕ) (formed : WellFormed m) (
               Live m x (i ∷ next) ⊎ FreshOperand i next (results_at i next) x
           of (inl (is_result k g le)) = absurd (w (writes_fresh x i next k g))
           of (inr g) = inl (on (unwritten x i next w g.1) (goes On o) g.0)
-      by (At l) o ih = inl (on (label_silent m (form_of ending) l o x) (goes (At l) o) (ih (Before (after_label l m.code)) (at_label l)))
+      by (At l) o ih = inl (on (label_silent m (form_of formed ending) l o x) (goes (At l) o) (ih (Before (after_label l m.code)) (at_label l)))
   on_case {x} {ys = ys} z t (spill {i = i} {next = next} {n = n} {rs = rs} r ending g h) w o ih =
       by (subst (Onward x ys) (only_on t o) ih (Storing i next (suc n) rs) h)
     where
@@ -369,6 +362,6 @@ module _ (m : Mach) (s : ℕ → ℕ) (free top : ℕ) (formed : WellFormed m) (
           of (inl (is_result k g le)) = absurd (w (writes_fresh x i next k g))
           of (inr g) = across_step (unwritten x i next w g.1) (goes On o) g.0
       by (At l) o ih =
-          across_step (label_silent m (form_of ending) l o x) (goes (At l) o) (ih (Before (after_label l m.code)) (at_label l))
+          across_step (label_silent m (form_of formed ending) l o x) (goes (At l) o) (ih (Before (after_label l m.code)) (at_label l))
   across_back {x} {ys} i next ending h (across_raise (raises {l = l} {tries = tries} b r) v) =
       across_raise (raises b (sym (laid_tries (main ending h)) ∙ r)) (live_back v (Before (from_handler l m.code)) (at_handler l))

@@ -2,7 +2,7 @@
 use Rattle.std.proofs.Common.{◌≡◌, ℕ, suc, Bool, true, false, cond, ◌⊎◌, inl, inr, ⊎_elim, List, [], ◌∷◌, ◌++◌, length, refl, sym, ap, ◌∙◌, subst, append_assoc}
 use Rattle.std.specs.List.{All, Contains}
 use Rattle.std.specs.Prelude.{slice_index_or}
-use Rattle.std.proofs.lemmas.List.Elements.{Contains-get_or}
+use Rattle.std.proofs.lemmas.List.Elements.{Contains-get_or, Contains-append_right}
 use Rattle.mach_ir.specs.Formed.{labels_of, labels_in, HasPlace, place_here, place_below, HasHandler, handler_here, handler_below, WellFormed}
 use Rattle.mach_ir.specs.Meaning.{tries_at, tries_past}
 use Rattle.mach_ir.specs.Placed.{WellPlaced}
@@ -15,9 +15,9 @@ use Rattle.mach_ir.specs.declared.mach.MachOp.TheVariants as mach
 use Rattle.mach_ir.specs.declared.mach.Instr.{Instr}
 use Rattle.mach_ir.specs.declared.mach.Mach.{Mach}
 use Rattle.mach_laws.specs.Expand.{expand}
-use Rattle.mach_laws.proofs.Places.{ending_next, tries_expand, ending_of, stands_in}
+use Rattle.mach_laws.proofs.Places.{ending_next, tries_expand, ending_of, stands_in, place_behind, handler_behind}
 use Rattle.spill_rules.specs.Spilled.{copied}
-use Rattle.bs_words.proofs.Lists.{none_in, first_in, later_in, in_cons}
+use Rattle.bs_words.proofs.Lists.{none_in, first_in, in_cons}
 use Rattle.reload_rules.specs.Reloaded.{reads_registers, writes_registers, is_renewed, fresh, number_after, reloads, spills}
 use Rattle.reload_rules.proofs.Live.{IsNumbering, reloaded_by, operands_at, results_at, main_of, ForOperand, ForResult, Storing, Laid, LastOperands, LastResults, fewer_operands, fewer_results, all_operands, all_results, laid_results, laid_of}
 use Rattle.reload_rules.proofs.Numbers.{for_this, after_true, after_false}
@@ -201,42 +201,30 @@ module _ (m : Mach) (s : ℕ → ℕ) (free top : ℕ) (formed : WellFormed m) (
       rest : List Instr
       rest = main_for i is ∷ (spills_for i is ++ expand f is)
 
-  place_left : {l : ℕ} (xs ys : List Instr) → HasPlace l ys → HasPlace l (xs ++ ys)
-  place_left [] ys h = h
-  place_left (x ∷ xs) ys h = place_below (place_left xs ys h)
-
-  handler_left : {l : ℕ} (xs ys : List Instr) → HasHandler l ys → HasHandler l (xs ++ ys)
-  handler_left [] ys h = h
-  handler_left (x ∷ xs) ys h = handler_below (handler_left xs ys h)
-
   pub place_there : {l : ℕ} {code : List Instr} → HasPlace l code → HasPlace l (expand f code)
   place_there {l} (place_here {i = i} {is = is} e) =
       subst (HasPlace l) (sym (laid_out i is (expand f is)))
-      (place_left (reloads_for i is) (main_for i is ∷ (spills_for i is ++ expand f is)) (place_here e))
-  place_there {l} (place_below {i = i} {is = is} h) = place_left (f (length is) i) (expand f is) (place_there h)
+      (place_behind (reloads_for i is) (main_for i is ∷ (spills_for i is ++ expand f is)) (place_here e))
+  place_there {l} (place_below {i = i} {is = is} h) = place_behind (f (length is) i) (expand f is) (place_there h)
 
   handler_there : {l : ℕ} {code : List Instr} → HasHandler l code → HasHandler l (expand f code)
   handler_there {l} (handler_here {i = i} {is = is} e) =
       subst (HasHandler l) (sym (laid_out i is (expand f is)))
-      (handler_left (reloads_for i is) (main_for i is ∷ (spills_for i is ++ expand f is)) (handler_here e))
-  handler_there {l} (handler_below {i = i} {is = is} h) = handler_left (f (length is) i) (expand f is) (handler_there h)
+      (handler_behind (reloads_for i is) (main_for i is ∷ (spills_for i is ++ expand f is)) (handler_here e))
+  handler_there {l} (handler_below {i = i} {is = is} h) = handler_behind (f (length is) i) (expand f is) (handler_there h)
 
   pub next_place : {l : ℕ} {j : Instr} {ys : List Instr} (w : IsMain j ys) → HasPlace l w.next → HasPlace l ys
   next_place {l} w h =
-      subst (HasPlace l) w.same_next (place_left (spills_for w.instr w.next) (expand f w.next) (place_there h))
+      subst (HasPlace l) w.same_next (place_behind (spills_for w.instr w.next) (expand f w.next) (place_there h))
 
   pub next_handler : {l : ℕ} {j : Instr} {ys : List Instr} (w : IsMain j ys) → HasHandler l w.next → HasHandler l ys
   next_handler {l} w h =
-      subst (HasHandler l) w.same_next (handler_left (spills_for w.instr w.next) (expand f w.next) (handler_there h))
+      subst (HasHandler l) w.same_next (handler_behind (spills_for w.instr w.next) (expand f w.next) (handler_there h))
 
   -- ---- what is in the code
 
   pub part_in : (j : Instr) → Contains q.code j → (ys : List Instr) × (IsCopy j ⊎ IsMain j ys)
   part_in j c = let z = stands_in q.code j c in (z.0, copy_or_main j z.0 z.1)
-
-  right_of : (xs ys : List Instr) (y : Instr) → Contains ys y → Contains (xs ++ ys) y
-  right_of [] ys y c = c
-  right_of (x ∷ xs) ys y c = later_in x y (xs ++ ys) (right_of xs ys y c)
 
   -- an instruction of the first is in the second, over fresh registers
   main_in : (code : List Instr) (i : Instr) → Contains code i → (j : Instr) × Contains (expand f code) j × (j.op ≡ i.op)
@@ -246,11 +234,11 @@ module _ (m : Mach) (s : ℕ → ℕ) (free top : ℕ) (formed : WellFormed m) (
       (λ e. (
         main_for k is,
         subst (λ xs. Contains xs (main_for k is)) (sym (laid_out k is (expand f is)))
-            (right_of (reloads_for k is) (main_for k is ∷ (spills_for k is ++ expand f is)) (main_for k is)
+            (Contains-append_right (reloads_for k is) (main_for k is ∷ (spills_for k is ++ expand f is)) (main_for k is)
             (first_in (main_for k is) (spills_for k is ++ expand f is))),
         ap (λ (i : Instr). i.op) e,
       ))
-      (λ d. let h = main_in is i d in (h.0, right_of (f (length is) k) (expand f is) h.0 h.1, h.2)) (in_cons k i is c)
+      (λ d. let h = main_in is i d in (h.0, Contains-append_right (f (length is) k) (expand f is) h.0 h.1, h.2)) (in_cons k i is c)
 
   pub main_there : (i : Instr) → Contains m.code i → (j : Instr) × Contains q.code j × (j.op ≡ i.op)
   main_there i c = main_in m.code i c

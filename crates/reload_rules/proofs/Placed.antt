@@ -6,7 +6,6 @@ use Rattle.std.proofs.lemmas.Bool.{false≢true}
 use Rattle.bs_words.specs.declared.types.Comp.{Comp}
 use Rattle.bs_words.specs.declared.types.Loc.{Loc}
 use Rattle.bs_words.specs.declared.types.Loc.TheVariants as loc
-use Rattle.bs_words.proofs.Lists.{mapped}
 use Rattle.mach_ir.specs.Acts.{Target, On, At}
 use Rattle.mach_ir.specs.Forms.{HasForm, copies, constant, symbol, operates, loads, stores, allocates, calls, tail_calls, calls_out, checks, raises, returns}
 use Rattle.mach_ir.specs.Formed.{comps, MarkHasForm, exit_form, if_form, else_form, switch_form, case_form, catch_form, with_form, try_form, leave_form, handler_form, end_form, IsFormed, formed_op, formed_mark, WellFormed}
@@ -26,8 +25,8 @@ use Rattle.mach_laws.proofs.Places.{label_expand, ending_label, ending_of, conta
 use Rattle.mach_laws.proofs.Among.{left_among, right_among, split_among, number_among, among_of}
 use Rattle.places_rules.specs.Places.{ColoursLow}
 use Rattle.places_rules.proofs.Open.{machine_open}
-use Rattle.places_rules.proofs.Lists.{was}
 use Rattle.places_rules.proofs.Whole.{AreRegisters, FixedSeats, fixed_in_order, fixed_after_first, fixed_operands, fixed_results, tail_fixed, head_fixed}
+use Rattle.places_rules.proofs.Walked.{colour_place}
 use Rattle.spill_rules.specs.Spilled.{copied}
 use Rattle.spill_rules.proofs.Chosen.{no_result}
 use Rattle.reload_rules.specs.Reloaded.{reads_registers, writes_registers, is_in_slot, is_renewed, fresh, number_after, renewed}
@@ -215,18 +214,13 @@ module _ (m : Mach) (s : ℕ → ℕ) (free top : ℕ) (formed : WellFormed m) (
       let b = old_if_placed k (old k j) (λ u. fixed (e ∙ u)) in
       (placed.agree).apart r k a b (joined_back r.number k.number (is.above r a) (is.above k b) joined) fixed e
 
-  colour_place : (r : Reg) → Contains m.colours r → (n : ℕ) × (r.loc ≡ loc.Machine n)
-  colour_place r c =
-      let l = mapped (λ (r : Reg). r.loc) m.colours r c in
-      let w = was loc.Machine colours r.loc (subst (λ ls. Contains ls r.loc) ((placed.colours).each) l) in (w.what, sym w.same)
-
   pub reloaded_placed : WellPlaced (reloaded_by s m)
   reloaded_placed =
       record {
         colours = record {
           each = (placed.colours).each;
           least = λ r k c i e.
-              let p = colour_place r c in
+              let p = colour_place placed r c in
               (placed.colours).least r k c (old_if_placed k (old k i) (λ u. machine_open (e ∙ p.1) u)) e;
         };
         agree = record { places = λ r i. place_of r (old r i); apart = apart };

@@ -4,7 +4,7 @@ use Rattle.std.specs.List.{Contains}
 use Rattle.std.specs.Prelude.{◌||◌}
 use Rattle.bs_words.specs.declared.types.Loc.{Loc}
 use Rattle.bs_words.specs.declared.types.Loc.TheVariants as loc
-use Rattle.bs_words.proofs.Lists.{first_in, later_in, mapped}
+use Rattle.bs_words.proofs.Lists.{first_in, later_in}
 use Rattle.mach_ir.specs.Formed.{WellFormed}
 use Rattle.mach_ir.specs.Placed.{Colouring, IsColouring, IsPlaced, in_colour, in_slot, MayShare, WellPlaced, colours}
 use Rattle.mach_ir.specs.Walks.{InCode, in_args, in_results, further, IsRegister, is_in_code, Joined}
@@ -15,6 +15,7 @@ use Rattle.places_rules.specs.Places.{Placing, IsPlacing, ColoursLow, placed, al
 use Rattle.places_rules.proofs.Open.{slot_open, machine_slot}
 use Rattle.places_rules.proofs.Lists.{was}
 use Rattle.places_rules.proofs.Text.{was_register}
+use Rattle.places_rules.proofs.Walked.{colour_place}
 use Rattle.reload_rules.specs.Reloaded.{reads_registers, writes_registers, is_in_slot, is_renewed, any_renewed, any_needs, slot_or, to_slots, in_slots}
 
 -- what becomes of a register's place
@@ -73,16 +74,11 @@ module _ (m : Mach) (place : Colouring) (formed : WellFormed m) (well : WellPlac
   pub slots_placing : IsPlacing m (to_slots place)
   slots_placing = record { fixed = fixed; places = places; apart = apart }
 
-  colour_place : (r : Reg) → Contains m.colours r → (n : ℕ) × (r.loc ≡ loc.Machine n)
-  colour_place r c =
-      let l = mapped (λ (r : Reg). r.loc) m.colours r c in
-      let w = was loc.Machine colours r.loc (subst (λ ls. Contains ls r.loc) ((well.colours).each) l) in (w.what, sym w.same)
-
   pub slots_least : (r k : Reg) → Contains m.colours r → IsRegister m k → to_slots place k ≡ r.loc → r.number ≤ k.number
   slots_least r k c i e = by (put_of place k)
     where
       by : Put place k → r.number ≤ k.number
-      by (to_slot n a h) = let p = colour_place r c in absurd (machine_slot p.1 (sym e ∙ h))
+      by (to_slot n a h) = let p = colour_place well r c in absurd (machine_slot p.1 (sym e ∙ h))
       by (as_was t h) = (well.colours).least r k c i (sym h ∙ e)
 
   pub slots_low : ColoursLow m → ColoursLow (in_slots place m)

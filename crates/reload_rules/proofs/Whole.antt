@@ -10,7 +10,7 @@ use Rattle.mach_ir.specs.Keeps.{Keeps, IsLoose, is_slot, HasOrigin, NamesSymbol,
 use Rattle.mach_ir.specs.Meaning.{after_label, from_handler, code_at, passes_frame, tries_at}
 use Rattle.mach_ir.specs.Placed.{WellPlaced}
 use Rattle.mach_ir.specs.Sizes.{Size, HasSize}
-use Rattle.mach_ir.specs.Walks.{OneOf, this, other, targets, may_raise, goes, raises, Reached, at_entry, by_step, by_raise, LiveAcross, across_step, across_raise, Live, on, aside, IsRegister, NoAddrLive}
+use Rattle.mach_ir.specs.Walks.{OneOf, this, other, targets, may_raise, goes, raises, Reached, at_entry, by_step, by_raise, LiveAcross, IsRegister, NoAddrLive}
 use Rattle.mach_ir.specs.declared.op.CopyKind.{CopyKind}
 use Rattle.mach_ir.specs.declared.reg.Reg.{Reg}
 use Rattle.mach_ir.specs.declared.mach.MachOp.{MachOp}
@@ -18,11 +18,13 @@ use Rattle.mach_ir.specs.declared.mach.Instr.{Instr}
 use Rattle.mach_ir.specs.declared.mach.Mach.{Mach}
 use Rattle.mach_laws.specs.Expand.{expand, Ending, all}
 use Rattle.mach_laws.proofs.Places.{label_expand, handler_expand, ending_label, ending_from_handler, contains_of}
+use Rattle.mach_laws.proofs.Walking.{across_live}
 use Rattle.pass_rules.specs.Measures.{other_operands}
 use Rattle.places_rules.specs.Places.{IsSlot}
 use Rattle.places_rules.proofs.Open.{slot_open}
 use Rattle.spill_rules.specs.Spilled.{copied}
 use Rattle.spill_rules.proofs.Holding.{live_register}
+use Rattle.spill_rules.proofs.Text.{copy_no_symbol, copy_no_external}
 use Rattle.reload_rules.specs.Kept.{with_copies}
 use Rattle.reload_rules.specs.Reloaded.{reads_registers, writes_registers, is_in_slot, is_renewed, fresh, number_after, renewed, any_renewed, needs_registers, any_needs}
 use Rattle.reload_rules.proofs.Copies.{code_instrs, code_operands}
@@ -89,12 +91,6 @@ module _ (m : Mach) (s : ℕ → ℕ) (free top : ℕ) (formed : WellFormed m) (
     where
       of_copy : IsCopy m s free top formed placed is n.instr → ⊥
       of_copy (is_copy kind from to e) = none kind from to (subst (λ (i : Instr). Named i.op) (sym e) n.named)
-
-  no_symbol : (name : List ℕ) (kind : CopyKind) (from to : Reg) → NamesSymbol name (copied kind from to).op → ⊥
-  no_symbol name kind from to n = elim n [ ]
-
-  no_external : (row : _) (kind : CopyKind) (from to : Reg) → NamesExternal row (copied kind from to).op → ⊥
-  no_external row kind from to n = elim n [ ]
 
   -- ---- places that are reached
 
@@ -188,10 +184,6 @@ module _ (m : Mach) (s : ℕ → ℕ) (free top : ℕ) (formed : WellFormed m) (
   frame_main z (passes_result {i = i} {next = next} {n = n} {rs = rs} k e h) r t = frame_main (Storing i next n rs) h r t
   frame_main z (ends {i = i} {next = next} h) r t = frame_main (Before next) h r t
 
-  live_of : {n : ℕ} {i : Instr} {next : List Instr} → LiveAcross m n i next → Live m n (i ∷ next)
-  live_of (across_step w l v) = on w l v
-  live_of (across_raise r v) = aside r v
-
   pub reloaded_no_addr : NoAddrLive m → NoAddrLive (reloaded_by s m)
   reloaded_no_addr none =
       record {
@@ -200,7 +192,7 @@ module _ (m : Mach) (s : ℕ → ℕ) (free top : ℕ) (formed : WellFormed m) (
             let p = frame_main k.stage k.laid k.reached frame in
             let x = across_back m s free top formed placed is p.instr p.next p.ending p.laid
             (subst (λ j. LiveAcross q r.number j ys) (sym p.same) v) in
-            let u = live_register m (live_of x) p.ending in
+            let u = live_register m (across_live x) p.ending in
             none.none p.instr p.next p.reached (subst (λ (j : Instr). passes_frame j.op ≡ true) (sym p.same) frame) r
             (old_register m s free top formed placed is r u.0 one u.1 u.2) addr x;
       }
@@ -219,8 +211,8 @@ module _ (m : Mach) (s : ℕ → ℕ) (free top : ℕ) (formed : WellFormed m) (
         does = does_reloaded m s free top formed placed is;
         origins = λ r i l. origin r l (old r i);
         slots = λ r k i e. inl (record { register = r; among = slot_before r k e (old r i); stands = e; same = refl });
-        symbols = λ name n. named_before (NamesSymbol name) (no_symbol name) n;
-        externals = λ row n. named_before (NamesExternal row) (no_external row) n;
+        symbols = λ name n. named_before (NamesSymbol name) (copy_no_symbol name) n;
+        externals = λ row n. named_before (NamesExternal row) (copy_no_external row) n;
         addrs = reloaded_no_addr;
       }
     where

@@ -2,7 +2,7 @@
 use Rattle.std.proofs.Common.{◌≡◌, ◌≢◌, ℕ, ◌≤◌, Bool, true, false, cond, ◌⊎◌, inl, inr, ⊎_elim, List, [], ◌∷◌, ◌++◌, length, Option, Some, None, refl, sym, ap, ◌∙◌, subst, arith}
 use Rattle.std.specs.List.{All, Contains}
 use Rattle.std.proofs.lemmas.Bool.{both_ways}
-use Rattle.std.proofs.lemmas.List.Elements.{All-contains}
+use Rattle.std.proofs.lemmas.List.Elements.{All-contains, Contains-append_left}
 use Rattle.bs_words.specs.declared.types.Comp.{Comp}
 use Rattle.bs_words.proofs.Lists.{none_in, first_in, later_in, in_cons, head_same, tail_same, none_there}
 use Rattle.mach_ir.specs.Forms as form
@@ -25,7 +25,7 @@ use Rattle.mach_laws.proofs.Places.{args_in, results_in, contains_of, stands_in}
 use Rattle.repeat_rules.specs.Repeated.{is_operator, Repeats, from_earlier, again, in_place, IsBefore, IsRepeated, IsFormKept}
 use Rattle.mach_laws.proofs.InPlace as text
 use Rattle.mach_laws.proofs.InPlace.{AreAlike, IsPure, is_pure, same_op, both_pure, IsMain, was_main, each_in}
-use Rattle.repeat_rules.proofs.OneForOne.{in_append, in_front, in_code_stands, StandsFor, before_of}
+use Rattle.repeat_rules.proofs.OneForOne.{in_append, in_code_stands, StandsFor, before_of}
 use Rattle.repeat_rules.proofs.OneForOne as one
 
 -- ---- operators
@@ -163,7 +163,7 @@ module _ (m : Mach) (plan : ℕ → Option Reg) where
         let t = w.stands in
         operator_result w.earlier r
         (subst (λ xs. Contains xs w.earlier) (sym b.made_so)
-        (in_front b.made (again plan (length next) i ∷ expand g next) w.earlier
+        (Contains-append_left b.made (again plan (length next) i ∷ expand g next) w.earlier
         (subst (λ xs. Contains xs w.earlier) (sym t.within) (in_append t.others w.earlier t.run))))
         t.operates (subst (λ rs. Contains rs r) (sym t.result) (first_in r []))
 

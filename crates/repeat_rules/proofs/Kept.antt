@@ -16,7 +16,6 @@ use Rattle.mach_ir.specs.Walks.{IsRegister, LiveAcross}
 use Rattle.mach_ir.specs.declared.reg.Reg.{Reg}
 use Rattle.mach_ir.specs.declared.mach.Instr.{Instr}
 use Rattle.mach_ir.specs.declared.mach.Mach.{Mach}
-use Rattle.mach_ir.proofs.Keeping.{level, level_trail}
 use Rattle.mach_laws.specs.Expand.{Ending, expand}
 use Rattle.mach_laws.proofs.General as general
 use Rattle.mach_laws.proofs.General.{at}
@@ -28,6 +27,7 @@ use Rattle.repeat_rules.specs.Kept.{OwnOrigins}
 use Rattle.repeat_rules.specs.Repeated.{is_operator, allocates, Repeats, from_earlier, again, in_place, with_moves, IsBefore}
 use Rattle.repeat_rules.proofs.OneForOne as one
 use Rattle.mach_laws.proofs.InPlace.{frame_same}
+use Rattle.mach_laws.proofs.Level.{ahead_of, trails_of}
 use Rattle.repeat_rules.proofs.Form.{Fate, unchanged, moved, fate, alike, same_ops, keeps_marks, was_register}
 use Rattle.repeat_rules.proofs.Acting.{Grown, GoesOn, is_stuck, goes_on, straight_on, as_it_was}
 use Rattle.repeat_rules.proofs.Held.{Holding, Holds, holds_next, calm}
@@ -228,12 +228,6 @@ module _ (m : Mach) (plan : ℕ → Option Reg) (own : OwnOrigins m)
                 (subst (λ b. general.Replaces c m q f (keeps_marks plan) refl Suit InStep i next x x a b vs) s.file
                 (replaced i next x a ending s.holds vs e)));
           }
-
-    ahead_of : (x y : Around) → x ≡ y → Ahead x y
-    ahead_of x y e = subst (Ahead x) e (level x)
-
-    trails_of : (x y : Around) → x ≡ y → Trails x y
-    trails_of x y e = subst (Trails x) e (level_trail x)
 
     begun : (x : Around) (a : File) → InStep m.code x x a a
     begun x a = record { around = refl; file = refl; holds = λ j r s. absurd (not_at_entry m plan j r s) }

@@ -2,6 +2,7 @@
 use Rattle.std.proofs.Common.{◌≡◌, ◌≢◌, ℕ, true, false, ◌⊎◌, inl, inr, ⊎_elim, List, [], ◌∷◌, length, Option, Some, refl, sym, ap, ◌∙◌, subst}
 use Rattle.std.specs.List.{Contains}
 use Rattle.std.proofs.lemmas.Bool.{both_ways}
+use Rattle.std.proofs.lemmas.List.Elements.{Contains-append_left}
 use Rattle.bs_words.specs.declared.types.Comp.TheVariants as comp
 use Rattle.bs_words.proofs.Lists.{first_in}
 use Rattle.mach_ir.specs.Meaning.{killed, written, passes_frame}
@@ -16,7 +17,7 @@ use Rattle.mach_laws.proofs.Among.{none_among, left_among, split_among, number_a
 use Rattle.repeat_rules.specs.Repeated.{is_operator, allocates, Ends, Repeats, again, in_place, with_moves, IsBefore}
 use Rattle.repeat_rules.proofs.OneForOne as one
 use Rattle.mach_laws.proofs.InPlace.{was_main}
-use Rattle.repeat_rules.proofs.OneForOne.{in_append, in_front, written_same}
+use Rattle.repeat_rules.proofs.OneForOne.{in_append, written_same}
 use Rattle.repeat_rules.proofs.Form.{Fate, unchanged, moved, fate, alike, operator_result, was_register}
 use Rattle.repeat_rules.proofs.Standing.{operator_straight, straight_kills, straight_frame, Standing, Earlier, just_now, earlier, earlier_of, not_at_entry, not_at_label, not_at_handler, repeated}
 
@@ -39,7 +40,7 @@ module _ (m : Mach) (plan : ℕ → Option Reg)
       let t = w.stands in
       operator_result m plan moves j r
       (subst (λ xs. Contains xs j) (sym w.whole)
-      (in_front w.made (expand f rest) j
+      (Contains-append_left w.made (expand f rest) j
       (subst (λ xs. Contains xs j) (sym t.within) (in_append t.others j t.run))))
       t.operates (subst (λ rs. Contains rs r) (sym t.result) (first_in r []))
 

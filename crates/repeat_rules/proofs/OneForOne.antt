@@ -8,12 +8,12 @@ use Rattle.std.proofs.Math.Nat.{le_trans}
 use Rattle.std.proofs.lemmas.Option.{same_Some}
 use Rattle.bs_words.specs.declared.types.Comp.TheVariants as comp
 use Rattle.bs_words.specs.declared.types.Loc.TheVariants as loc
-use Rattle.bs_words.proofs.Lists.{none_in, first_in, later_in, in_cons}
+use Rattle.bs_words.proofs.Lists.{first_in, later_in}
 use Rattle.mach_ir.specs.Acts.{Target, On, At}
 use Rattle.mach_ir.specs.Placed.{MayShare, WellPlaced}
 use Rattle.mach_ir.specs.Meaning.{Held, State, Nothing, after_label, from_handler, code_at, destroyed_by, killed_by, written, passes_frame}
 use Rattle.mach_ir.specs.Walks.{Among, goes, Writes, Live, on, aside, LiveAfter, after_step, LiveAcross, across_step, across_raise, InCode, in_args, in_results, further, IsRegister, NoAddrLive, Stands, here, below, Meets, Joined, one_way, other_way}
-use Rattle.mach_ir.specs.Formed.{comps, IsFormed, AreDistinct, leaves, WellFormed}
+use Rattle.mach_ir.specs.Formed.{comps, IsFormed, AreDistinct, WellFormed}
 use Rattle.mach_ir.specs.Forms.{results_of}
 use Rattle.mach_ir.specs.Sizes.{operand_count, Size, HasSize}
 use Rattle.mach_ir.specs.declared.op.Leaving.TheVariants as leaving
@@ -34,12 +34,6 @@ use Rattle.repeat_rules.specs.Kept.{OwnOrigins}
 pub in_append : (xs : List Instr) (y : Instr) (ys : List Instr) → Contains (xs ++ y ∷ ys) y
 in_append [] y ys = first_in y ys
 in_append (x ∷ xs) y ys = later_in x y (xs ++ y ∷ ys) (in_append xs y ys)
-
-pub in_front : (xs ys : List Instr) (y : Instr) → Contains xs y → Contains (xs ++ ys) y
-in_front [] ys y c = absurd (none_in y c)
-in_front (x ∷ xs) ys y c =
-    ⊎_elim (λ e. subst (Contains (x ∷ (xs ++ ys))) e (first_in x (xs ++ ys)))
-    (λ d. later_in x y (xs ++ ys) (in_front xs ys y d)) (in_cons x y xs c)
 
 -- ---- what is in code
 

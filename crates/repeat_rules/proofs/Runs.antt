@@ -2,7 +2,7 @@
 -- comes to from elsewhere.
 use Rattle.std.proofs.Common.{◌≡◌, ℕ, Bool, true, false, cond, List, [], ◌∷◌, ◌++◌, refl, sym, ap, ◌∙◌, subst, append_assoc}
 use Rattle.std.proofs.lemmas.List.{same_from_push}
-use Rattle.std.proofs.lemmas.List.Elements.{Contains-get_or, All-contains}
+use Rattle.std.proofs.lemmas.List.Elements.{Contains-get_or, All-contains, Contains-append_left}
 use Rattle.std.specs.List.{Contains}
 use Rattle.std.specs.Prelude.{slice_index_or}
 use Rattle.std.proofs.lemmas.Bool.{both_ways}
@@ -14,7 +14,6 @@ use Rattle.mach_ir.specs.declared.mach.MachOp.TheVariants as mach
 use Rattle.mach_ir.specs.declared.mach.Instr.{Instr}
 use Rattle.mach_ir.specs.declared.mach.Mach.{Mach}
 use Rattle.mach_laws.specs.Expand.{Ending, all, more}
-use Rattle.repeat_rules.proofs.OneForOne.{in_front}
 use Rattle.bs_words.proofs.Lists.{head_same, tail_same, none_there}
 
 -- ---- the code before a place
@@ -52,7 +51,7 @@ pub straight_front : (run ys zs : List Instr) → run ≡ ys ++ zs → AreStraig
 straight_front run ys zs e straight = λ k d lt.
     All-contains (λ (i : Instr). is_straight i.op ≡ true) run (slice_index_or ys k d) straight
     (subst (λ xs. Contains xs (slice_index_or ys k d)) (sym e)
-    (in_front ys zs (slice_index_or ys k d) (Contains-get_or ys k d lt)))
+    (Contains-append_left ys zs (slice_index_or ys k d) (Contains-get_or ys k d lt)))
 
 pub none_before : (others : List Instr) (j : Instr) (run : List Instr) → [] ≡ others ++ j ∷ run → ⊥
 none_before [] j run e = none_there e

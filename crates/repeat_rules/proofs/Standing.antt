@@ -1,7 +1,7 @@
 -- Which results still stand where a code is left, and what an instruction leaves of them.
 use Rattle.std.proofs.Common.{◌≡◌, ◌≢◌, ℕ, true, false, ⊎_elim, List, [], ◌∷◌, ◌++◌, length, Option, Some, refl, sym, ap, ◌∙◌, subst}
 use Rattle.std.proofs.lemmas.List.{append_cancel_right}
-use Rattle.std.proofs.lemmas.List.Elements.{All-contains}
+use Rattle.std.proofs.lemmas.List.Elements.{All-contains, Contains-append_left}
 use Rattle.std.specs.List.{Contains}
 use Rattle.std.proofs.lemmas.Bool.{both_ways}
 use Rattle.bs_words.specs.declared.types.Comp.TheVariants as comp
@@ -21,7 +21,7 @@ use Rattle.mach_ir.specs.declared.mach.Mach.{Mach}
 use Rattle.mach_laws.specs.Expand.{Ending, expand}
 use Rattle.repeat_rules.specs.Repeated.{is_operator, allocates, Ends, StillStands, Repeats, again, in_place, with_moves, IsBefore}
 use Rattle.mach_laws.proofs.InPlace.{of_pure, op_same}
-use Rattle.repeat_rules.proofs.OneForOne.{in_append, in_front, Made, before_of, made_past}
+use Rattle.repeat_rules.proofs.OneForOne.{in_append, Made, before_of, made_past}
 use Rattle.repeat_rules.proofs.Form.{operator_pure, Fate, unchanged, moved, fate, alike, same_ops}
 use Rattle.repeat_rules.proofs.Runs as run
 use Rattle.repeat_rules.proofs.Runs.{straight_front, Last, it_is, in_run, last_of, none_before, IsWithin}
@@ -85,7 +85,7 @@ restricted j r s ys zs e =
     }
   where
     to_run : (i : Instr) → Contains ys i → Contains s.run i
-    to_run i c = subst (λ xs. Contains xs i) (sym e) (in_front ys zs i c)
+    to_run i c = subst (λ xs. Contains xs i) (sym e) (Contains-append_left ys zs i c)
 
     to_all : (i : Instr) → Contains (j ∷ ys) i → Contains (j ∷ s.run) i
     to_all i c =

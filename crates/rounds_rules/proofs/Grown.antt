@@ -69,9 +69,6 @@ pub data Grown : List Instr → List Instr → Type 0 where
 -- ---- placed
 
 module _ (place : Placing) (sound : IsSound place) where
-  no_results : (rs : List Reg) {behind : List Instr} → length (all_placed place rs) ≡ length rs → (rs ≡ [] → behind ≡ []) → rs ≡ [] → placed_code place behind ≡ []
-  no_results rs e h none = ap (placed_code place) (h none)
-
   pub grown_placed : {p q : List Instr} → Grown p q → Grown p (placed_code place q)
   grown_placed grown_none = grown_none
   grown_placed (grown_copy {i = i} {j = j} c e words g) =

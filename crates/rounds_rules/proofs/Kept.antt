@@ -6,8 +6,6 @@ use Rattle.std.proofs.lemmas.List.Elements.{All-nil, All-cons, All-head, All-tai
 use Rattle.bs_words.specs.declared.types.Loc.{Loc}
 use Rattle.bs_words.specs.declared.types.Loc.TheVariants as loc
 use Rattle.mach_ir.specs.Formed.{WellFormed, IsFormed}
-use Rattle.mach_ir.specs.Forms as forms
-use Rattle.mach_ir.specs.Forms.{HasForm, constant, symbol, operates, loads, stores, allocates, calls, tail_calls, calls_out, checks, raises, returns}
 use Rattle.mach_ir.specs.Graph.{place_in}
 use Rattle.mach_ir.specs.Keeps.{Keeps}
 use Rattle.mach_ir.specs.Meaning.{tries_at}
@@ -16,10 +14,6 @@ use Rattle.mach_ir.specs.Placed as placings
 use Rattle.mach_ir.specs.Seats.{Seated}
 use Rattle.mach_ir.specs.Sizes.{Size, HasSize, HasRoom}
 use Rattle.mach_ir.specs.Walks.{InCode, in_args, in_results, further, IsRegister, is_in_code, Joined, Stands, here, below}
-use Rattle.mach_ir.specs.declared.op.Leaving.TheVariants as leaving
-use Rattle.mach_ir.specs.declared.op.Op.{Op}
-use Rattle.mach_ir.specs.declared.op.Op.TheVariants as op
-use Rattle.bs_words.specs.declared.types.Comp.{Comp}
 use Rattle.bs_words.proofs.Lists.{first_in, later_in}
 use Rattle.mach_ir.specs.declared.reg.Reg.{Reg}
 use Rattle.mach_ir.specs.declared.mach.Instr.{Instr}
@@ -192,22 +186,6 @@ all_fit (i ∷ is) f = All-cons (λ (i : Instr). OffsetFits i.op) i is f.0 (all_
 none_of : (rs : List Reg) → length rs ≡ 0 → rs ≡ []
 none_of [] e = refl
 none_of (r ∷ rs) e = absurd (omega (arith, e))
-
--- a return has no results
-form_of_return : {f : Op} {xs ys : List Comp} → HasForm f xs ys → f ≡ op.Leaving leaving.Return → ys ≡ []
-form_of_return forms.copies e = cc
-form_of_return (constant w) e = cc
-form_of_return symbol e = cc
-form_of_return (operates r) e = cc
-form_of_return loads e = cc
-form_of_return stores e = cc
-form_of_return (allocates some all most same) e = cc
-form_of_return (calls arguments c) e = cc
-form_of_return (tail_calls arguments c) e = cc
-form_of_return calls_out e = cc
-form_of_return (checks r) e = cc
-form_of_return raises e = cc
-form_of_return (returns result) e = refl
 
 nothing_returned : (code : List Instr) → All IsFormed code → ReturnsNothing code
 nothing_returned [] all = tt

@@ -18,11 +18,11 @@ use Rattle.mach_ir.specs.declared.mach.Mark.TheVariants as mark
 use Rattle.mach_ir.specs.declared.mach.Test.{Test}
 use Rattle.mach_ir.specs.declared.op.Callee.{Callee}
 use Rattle.mach_ir.specs.declared.op.Right.{Right}
-use Rattle.mach_ir.specs.declared.op.Right.TheVariants as right
 use Rattle.mach_ir.specs.declared.reg.Reg.{Reg}
 use Rattle.selection_rules.specs.Instructions.{bare}
 use Rattle.selection_rules.specs.Instructions as emit
 use Rattle.selection_rules.specs.Select.{Code, Shape, InRegisters, ConstantRight, ConstantLeft, PowerRight, rounded, power_code, operator_code, shape_of, shape_op, shape_right, unless_left, unless_right, Named, Label, scopes, reg_of, label_of, move_from, move_to, moves_all, exit_to, ordered, only_when, from_seat, symbol_of, unless_symbol, right_of, unless_constant, bound_test, comparison, tested, select_test, is_based, select_base, call_of, regs_of, select, select_waiting, select_filled, select_bound, select_seq, select_cases, select_handlers, deeper, cell_stores, to_seat, selected, first, params_from, with_params, is_no_value, fresh, seats, result_seat}
+use Rattle.selection_rules.proofs.Choices.{kept_when, kept_unless, kept_constant, kept_left, kept_right, kept_ordered, kept_if}
 
 -- what selection makes
 pub data Made : Instr → Type 0 where
@@ -81,40 +81,30 @@ made_exit None from next z = z
 made_exit (Some t) from next z = made_moves from t.params _ (one an_exit z)
 
 made_ordered : (b : Bool) (left right : Code) → Makes left → Makes right → Makes (ordered b left right)
-made_ordered true left right l r next z = l (right next) (r next z)
-made_ordered false left right l r next z = r (left next) (l next z)
+made_ordered b left right l r = kept_ordered Makes (λ x y l r next z. l (y next) (r next z)) {x = left} {y = right} b l r
 
 made_when : (b : Bool) (code : Code) → Makes code → Makes (only_when b code)
-made_when true code e next z = e next z
-made_when false code e next z = z
+made_when b code e = kept_when Makes (λ next z. z) {x = code} b e
 
 made_cells : (k : Chunk) (p : Reg) (i : ℕ) (rs : List Reg) → Makes (cell_stores k p i rs)
 made_cells k p i [] next z = z
 made_cells k p i (r ∷ rs) next z = one a_store (made_cells k p (suc i) rs next z)
 
 made_constant : (r : Right) (code : Code) → Makes code → Makes (unless_constant r code)
-made_constant right.Register code e next z = e next z
-made_constant (right.Constant w) code e next z = z
+made_constant r code e = kept_constant Makes (λ next z. z) {x = code} r e
 
 made_tested : (o : Option Test) (fused : Test → List Instr) (value : List Instr) → ((t : Test) → AllMade (fused t)) → AllMade value → AllMade (tested o fused value)
 made_tested (Some t) fused value f v = f t
 made_tested None fused value f v = v
 
 made_if : (q : Bool) (a b : Code) → Makes a → Makes b → (next : List Instr) → AllMade next → AllMade (cond q (a next) (b next))
-made_if true a b f g next z = f next z
-made_if false a b f g next z = g next z
+made_if q a b f g = kept_if Makes {x = a} {y = b} q f g
 
 made_left : (s : Shape) (code : Code) → Makes code → Makes (unless_left s code)
-made_left InRegisters code e next z = e next z
-made_left (ConstantRight i) code e next z = e next z
-made_left (ConstantLeft i) code e next z = z
-made_left (PowerRight k) code e next z = e next z
+made_left s code e = kept_left Makes (λ next z. z) {x = code} s e
 
 made_right : (s : Shape) (code : Code) → Makes code → Makes (unless_right s code)
-made_right InRegisters code e next z = e next z
-made_right (ConstantRight i) code e next z = z
-made_right (ConstantLeft i) code e next z = e next z
-made_right (PowerRight k) code e next z = z
+made_right s code e = kept_right Makes (λ next z. z) {x = code} s e
 
 made_rounded : (k : ℕ) (x y : Reg) → Makes (rounded k x y)
 made_rounded k x y next z = one an_operator (one an_operator (one an_operator z))
@@ -130,8 +120,7 @@ made_operator (ConstantLeft i) op x y d next z = one an_operator z
 made_operator (PowerRight k) op x y d next z = made_power op k x y d next z
 
 made_unless : (o : Option (List ℕ)) (code : Code) → Makes code → Makes (unless_symbol o code)
-made_unless (Some name) code e next z = z
-made_unless None code e next z = e next z
+made_unless o code e = kept_unless Makes (λ next z. z) {x = code} o e
 
 made_from_seat : (n : ℕ) (result : Ret) (d : Reg) → Makes (from_seat n result d)
 made_from_seat n ret.Unit d next z = z

@@ -24,7 +24,6 @@ use Rattle.mach_ir.specs.declared.mach.Test.{Test}
 use Rattle.mach_ir.specs.declared.op.Leaving.TheVariants as leaving
 use Rattle.mach_ir.specs.declared.op.Op.TheVariants as op
 use Rattle.mach_ir.specs.declared.op.Right.{Right}
-use Rattle.mach_ir.specs.declared.op.Right.TheVariants as right
 use Rattle.mach_ir.specs.declared.reg.Reg.{Reg}
 use Rattle.selection_rules.specs.Instructions as emit
 use Rattle.selection_rules.specs.Select.{Code, Shape, InRegisters, ConstantRight, ConstantLeft, PowerRight, rounded, power_code, operator_code, shape_of, shape_op, shape_right, shape_args, unless_left, unless_right, Named, Label, scopes, reg_of, label_of, move_from, move_to, moves_all, exit_to, ordered, only_when, from_seat, symbol_of, unless_symbol, right_of, unless_constant, bound_test, comparison, tested, select_test, is_based, select_base, call_of, tail_result, bound_name, regs_of, select, select_waiting, select_filled, select_bound, select_seq, select_cases, select_handlers, deeper, cell_stores, to_seat, selected, first, params_from, with_params, is_no_value, fresh, seats}
@@ -34,6 +33,7 @@ use Rattle.selection_rules.specs.Bounded.{BoundedCode}
 use Rattle.selection_laws.proofs.Constants.{formed_bounded}
 use Rattle.selection_laws.proofs.Forms.{is_return, IsProper, p_move, p_constant, p_symbol, ShortPower, short_power, short_shape, p_operator, p_shift, p_registers, p_branch, p_load, p_store, p_alloc, p_call, p_tail_call, p_external, p_checkbound, p_raise, p_handler, p_holds, p_choice, p_bare, p_return, seats_in_order}
 use Rattle.selection_rules.proofs.Rows.{few_regs}
+use Rattle.selection_rules.proofs.Choices.{kept_when, kept_unless, kept_constant, kept_left, kept_right, kept_ordered, kept_if}
 
 pub data AllProper (given : Ret) : List Instr → Type 0 where
   none : AllProper given []
@@ -68,40 +68,30 @@ module _ (given : Ret) where
   proper_exit (Some t) from next z = proper_moves from t.params _ (one (p_bare (mark.Exit t.number t.tries) exit_form anywhere) z)
 
   proper_ordered : (b : Bool) (left right : Code) → Makes left → Makes right → Makes (ordered b left right)
-  proper_ordered true left right l r next z = l (right next) (r next z)
-  proper_ordered false left right l r next z = r (left next) (l next z)
+  proper_ordered b left right l r = kept_ordered Makes (λ x y l r next z. l (y next) (r next z)) {x = left} {y = right} b l r
 
   proper_when : (b : Bool) (code : Code) → Makes code → Makes (only_when b code)
-  proper_when true code e next z = e next z
-  proper_when false code e next z = z
+  proper_when b code e = kept_when Makes (λ next z. z) {x = code} b e
 
   proper_cells : (k : Chunk) (p : Reg) (i : ℕ) (rs : List Reg) → Makes (cell_stores k p i rs)
   proper_cells k p i [] next z = z
   proper_cells k p i (r ∷ rs) next z = one (p_store k _ p r) (proper_cells k p (suc i) rs next z)
 
   proper_constant : (r : Right) (code : Code) → Makes code → Makes (unless_constant r code)
-  proper_constant right.Register code e next z = e next z
-  proper_constant (right.Constant w) code e next z = z
+  proper_constant r code e = kept_constant Makes (λ next z. z) {x = code} r e
 
   proper_tested : (o : Option Test) (fused : Test → List Instr) (value : List Instr) → ((t : Test) → o ≡ Some t → Proper (fused t)) → Proper value → Proper (tested o fused value)
   proper_tested (Some t) fused value f v = f t refl
   proper_tested None fused value f v = v
 
   proper_if : (q : Bool) (a b : Code) → Makes a → Makes b → (next : List Instr) → Proper next → Proper (cond q (a next) (b next))
-  proper_if true a b f g next z = f next z
-  proper_if false a b f g next z = g next z
+  proper_if q a b f g = kept_if Makes {x = a} {y = b} q f g
 
   proper_left : (s : Shape) (code : Code) → Makes code → Makes (unless_left s code)
-  proper_left InRegisters code e next z = e next z
-  proper_left (ConstantRight i) code e next z = e next z
-  proper_left (ConstantLeft i) code e next z = z
-  proper_left (PowerRight k) code e next z = e next z
+  proper_left s code e = kept_left Makes (λ next z. z) {x = code} s e
 
   proper_right : (s : Shape) (code : Code) → Makes code → Makes (unless_right s code)
-  proper_right InRegisters code e next z = e next z
-  proper_right (ConstantRight i) code e next z = z
-  proper_right (ConstantLeft i) code e next z = e next z
-  proper_right (PowerRight k) code e next z = z
+  proper_right s code e = kept_right Makes (λ next z. z) {x = code} s e
 
   -- an amount of a shift
   short_amount : (k : ℕ) → k < 64 → nat_lt k 64 ≡ true
@@ -126,8 +116,7 @@ module _ (given : Ret) where
   proper_operator op left e x y d = proper_short (shape_of op left e) op x y d (short_shape op left e) (p_operator op left e x y d)
 
   proper_unless : (o : Option (List ℕ)) (code : Code) → Makes code → Makes (unless_symbol o code)
-  proper_unless (Some name) code e next z = z
-  proper_unless None code e next z = e next z
+  proper_unless o code e = kept_unless Makes (λ next z. z) {x = code} o e
 
   proper_from_seat : (n : ℕ) (result : Ret) (d : Reg) → Makes (from_seat n result d)
   proper_from_seat n ret.Unit d next z = z

@@ -12,13 +12,14 @@ use Rattle.mach_ir.specs.Acts.{Around, Target, On, At, Landing, AtLabel, AtHandl
 use Rattle.mach_ir.specs.Keeps.{ValsWritten, OriginsAgree, Proper}
 use Rattle.mach_ir.specs.Runs.{Place, Step, Continues, Pays, Deepens, Waits, FinishesBy, Finishes, FinishesRaising, IsStuck, Tally, Run, Running, Asking, Ended, Wrong, paid, came_back, kept_of, handed, onward, first_tally, entered}
 use Rattle.mach_ir.specs.Meaning.{State, File, Held, put_if, put_all, clear, killed, killed_by, killed_among, Destroyed, Nothing, Temporaries, Everything, destroyed_by, values, is_addr, unless_addr, past_frame, passes_frame, code_at, tries_at, at_handler, landing_code, mach_act, wrote, on_act, on_values, at_code, run, begun, start}
-use Rattle.mach_ir.specs.Walks.{Among, first, later, OneOf, targets, may_raise, Leads, Raises, goes, raises, Reached, at_entry, by_step, by_raise, Live, read, on, aside, LiveAcross, across_step, across_raise, InCode, is_param, is_in_code}
+use Rattle.mach_ir.specs.Walks.{Among, first, later, OneOf, targets, may_raise, goes, raises, Reached, at_entry, by_step, by_raise, Live, read, on, aside, LiveAcross, across_step, across_raise, InCode, is_param, is_in_code}
 use Rattle.mach_ir.specs.declared.mach.Instr.{Instr}
 use Rattle.mach_ir.specs.declared.mach.Mach.{Mach}
 use Rattle.mach_ir.specs.declared.reg.Reg.{Reg}
 use Rattle.mach_laws.specs.Expand.{Ending, all}
-use Rattle.mach_laws.proofs.Places.{ending_next, ending_label, ending_from_handler, stands_of, results_in, args_in, ending_land}
+use Rattle.mach_laws.proofs.Places.{ending_next, ending_label, stands_of, results_in, args_in, ending_land}
 use Rattle.mach_laws.proofs.Leads.{IsTry, MayLand, lands_at_label, lands_at_handler, Within, goes_in, pushes_in, jumps_in, unwinds_in, asks_in, within}
+use Rattle.mach_laws.proofs.Walking.{ending_leads, ending_raises}
 use Rattle.selection_laws.proofs.Losing.{not_first, frame_keeps, not_addr, none_not, bare_at, bare_try, next_try, Steady, Known, AllKnown, Stood, comes, at_end, free_both, live_in, clear_known, put_all_known, known_of, bare_free}
 
 pub data Holding : Option Held → Type 0 where
@@ -93,13 +94,6 @@ module _ (c : Place) (m : Mach) where
     pub steady : Steady c m
     pub entry : (n : ℕ) → Live m n m.code → Among n m.params
     pub colours : (r : Reg) → InCode r m.code → Among r.number m.colours → ⊥
-
-  ending_leads : {i : Instr} {next to : List Instr} → Leads m i next to → Ending (i ∷ next) m.code → Ending to m.code
-  ending_leads (goes On o) e = ending_next e
-  ending_leads (goes (At l) o) e = ending_label l m.code
-
-  ending_raises : {i : Instr} {next to : List Instr} → Raises m i next to → Ending to m.code
-  ending_raises (raises {l = l} mr t) = ending_from_handler l m.code
 
   no_colour : Assigned → {n : ℕ} {code : List Instr} → Ending code m.code → Live m n code → Among n m.colours → ⊥
   no_colour z {n} e (read {i = i} a) k =

@@ -14,13 +14,13 @@ use Rattle.cmm_types.specs.Light.{is_light_address}
 use Rattle.cmm_types.specs.Types.{type_of}
 use Rattle.cmm_meaning.specs.Evaluation.{is_left_first}
 use Rattle.mach_ir.specs.declared.mach.Instr.{Instr}
-use Rattle.mach_ir.specs.declared.mach.Mark.{Mark}
 use Rattle.mach_ir.specs.declared.mach.Test.{Test}
 use Rattle.mach_ir.specs.declared.op.Right.{Right}
 use Rattle.mach_ir.specs.declared.op.Right.TheVariants as right
 use Rattle.mach_ir.specs.declared.reg.Reg.{Reg}
-use Rattle.selection_rules.specs.Instructions.{bare, right_regs}
+use Rattle.selection_rules.specs.Instructions.{right_regs}
 use Rattle.selection_rules.specs.Select.{Code, Shape, InRegisters, ConstantRight, ConstantLeft, PowerRight, shape_of, shape_op, shape_right, shape_args, unless_left, unless_right, power_code, operator_code, Named, Label, scopes, reg_of, label_of, move_from, move_to, moves_all, exit_to, ordered, only_when, seat, result_seat, from_seat, symbol_of, unless_symbol, right_of, unless_constant, bound_test, comparison, tested, select_test, is_based, base_of, select_base, call_of, callee_regs, inner_dest, inner_valued, regs_of, count_of, count_cases, width, width_bound, width_labels, bound_name, env_after, raised_name, select, select_waiting, select_filled, select_bound, select_seq, select_cases, select_handlers, deeper, unless_bare, in_handlers, labels_from, cell_stores, params_from, with_params, fresh, seats, returns}
+use Rattle.selection_rules.proofs.Choices.{kept_when, kept_unless, kept_constant, kept_left, kept_right, kept_ordered}
 use Rattle.selection_places.proofs.Sets.{Role, Plain, New, Seated, left, right as in_right, it, Listed}
 use Rattle.selection_places.proofs.Owned.{dropped, kept, kept_of, Either, LabelsOwn, Own, BaseOwn, RowOwn, BoundOwn, SeqOwn, CasesOwn, HandlersOwn}
 use Rattle.selection_places.proofs.Coded as coded
@@ -144,10 +144,6 @@ module _ (Q : Role → Reg → Type 0) where
       bound_env (bound_name env b name declared e ∷ env) (suc (b + width e)) rest (λ t r i. own t r (in_right (in_right i)))
       (named (own Plain _ (left (it refl refl))) fine)
 
-  handler_params : (b : ℕ) (at : ℕ) (label : LabelTree) (params : List Parameter) (body : Expression) (rest : Handlers) → Within
-      (LabelsOwn b (Handle at label params body rest)) → Each (Q Plain) (params_from (suc b) params)
-  handler_params b at label params body rest own = listed Plain (params_from (suc b) params) (λ t r i. own t r (left i))
-
   -- ---- pieces
 
   codes_from : {o : Option Reg} {d : Reg} → RegFine o → Q Plain d → Codes (move_from o d)
@@ -157,9 +153,6 @@ module _ (Q : Role → Reg → Type 0) where
   codes_to : {o : Option Reg} {a : Reg} → Q Plain a → RegFine o → Codes (move_to a o)
   codes_to q no_reg P next z = z
   codes_to q (a_reg d) P next z = plain (a_plain q) (one d none) refl z
-
-  codes_bare : (f : Mark) → Codes (λ next. bare f ∷ next)
-  codes_bare f P next z = plain none none refl z
 
   codes_moves : {from to : List Reg} → Each (Q Plain) from → Each (Q Plain) to → Codes (moves_all from to)
   codes_moves none to P next z = z
@@ -176,16 +169,13 @@ module _ (Q : Role → Reg → Type 0) where
   codes_cells k p i (one r rs) P next q z = plain (one q (one (reads_plain r) none)) none refl (codes_cells k p (suc i) rs P next q z)
 
   codes_ordered : (b : Bool) (x y : Code) → Codes x → Codes y → Codes (ordered b x y)
-  codes_ordered true x y l r P next z = l P (y next) (r P next z)
-  codes_ordered false x y l r P next z = r P (x next) (l P next z)
+  codes_ordered b x y l r = kept_ordered Codes (λ x y l r P next z. l P (y next) (r P next z)) {x = x} {y = y} b l r
 
   codes_when : (b : Bool) (code : Code) → Codes code → Codes (only_when b code)
-  codes_when true code e P next z = e P next z
-  codes_when false code e P next z = z
+  codes_when b code e = kept_when Codes (λ P next z. z) {x = code} b e
 
   codes_constant : (r : Right) (code : Code) → Codes code → Codes (unless_constant r code)
-  codes_constant right.Register code e P next z = e P next z
-  codes_constant (right.Constant w) code e P next z = z
+  codes_constant r code e = kept_constant Codes (λ P next z. z) {x = code} r e
 
   codes_tested : {P : List Reg} (o : Option Test) (fused : Test → List Instr) (value : List Instr) → ((t : Test) → Coded Q [] P (fused t)) →
       Coded Q [] P value → Coded Q [] P (tested o fused value)
@@ -193,20 +183,13 @@ module _ (Q : Role → Reg → Type 0) where
   codes_tested None fused value f v = v
 
   codes_left : (s : Shape) (code : Code) → Codes code → Codes (unless_left s code)
-  codes_left InRegisters code e P next z = e P next z
-  codes_left (ConstantRight i) code e P next z = e P next z
-  codes_left (ConstantLeft i) code e P next z = z
-  codes_left (PowerRight k) code e P next z = e P next z
+  codes_left s code e = kept_left Codes (λ P next z. z) {x = code} s e
 
   codes_right : (s : Shape) (code : Code) → Codes code → Codes (unless_right s code)
-  codes_right InRegisters code e P next z = e P next z
-  codes_right (ConstantRight i) code e P next z = z
-  codes_right (ConstantLeft i) code e P next z = e P next z
-  codes_right (PowerRight k) code e P next z = z
+  codes_right s code e = kept_right Codes (λ P next z. z) {x = code} s e
 
   codes_unless : (o : Option (List ℕ)) (code : Code) → Codes code → Codes (unless_symbol o code)
-  codes_unless (Some name) code e P next z = z
-  codes_unless None code e P next z = e P next z
+  codes_unless o code e = kept_unless Codes (λ P next z. z) {x = code} o e
 
   shape_plain : {P : List Reg} {x y : Reg} (s : Shape) → Q Plain x → Q Plain y → Each (Reads Q P) (shape_args s x y)
   shape_plain InRegisters x y = two_plain x y

@@ -21,6 +21,7 @@ use Rattle.selection_places.proofs.Coded as coded
 use Rattle.selection_places.proofs.Coded.{Member, Each, each_of, is_heavy, Apart, Reads, reads_plain, reads_new, ReadsSeats, reads, reads_seat, Gives, gives_none, gives_one, Coded, ends, plain, fills, empties, asks, handles, allocs}
 use Rattle.mach_laws.specs.Expand.{Ending, all, more}
 use Rattle.mach_laws.proofs.Places.{ending_next, ending_of, ending_handler, stands_of, args_in, results_in}
+use Rattle.mach_laws.proofs.Walking.{ending_leads}
 
 -- ---- where labels and handlers are
 
@@ -302,10 +303,6 @@ module _ (Q : Role → Reg → Type 0) (open_plain : (r : Reg) → Q Plain r →
   goes_on (goes On o) s = s
   goes_on (goes (At l) o) s = absurd (not_labelled l (labelled l m.code) s)
 
-  leads_ending : {i : Instr} {next to : List Instr} → Ending (i ∷ next) m.code → Leads m i next to → Ending to m.code
-  leads_ending w (goes On o) = ending_next w
-  leads_ending w (goes (At l) o) = label_ending (labelled l m.code)
-
   colour_same : {l k : Loc} → IsColour l → k ≡ l → same_colour k l ≡ true
   colour_same {l} {k} c e = subst (λ z. same_colour k z ≡ true) e (subst (λ z. same_colour z z ≡ true) (sym (e ∙ c.is)) (eq-eqb c.colour c.colour refl))
 
@@ -337,5 +334,5 @@ module _ (Q : Role → Reg → Type 0) (open_plain : (r : Reg) → Q Plain r →
     pub written_fine : (i : Instr) (next : List Instr) → Stands i next m.code → Writes m i r.number → LiveAfter m q.number i next → ⊥
     written_fine i next stands w (after_step leads live) =
         let there = ending_of stands in
-        let f = fine there (goes_on leads (live_soon refl live (leads_ending there leads))) in
+        let f = fine there (goes_on leads (live_soon refl live (ending_leads leads there))) in
         ⊎_elim (λ a. result_fine there f a) (λ a. killed_fine f a) (among_cases i.results (killed m i) w)

@@ -13,7 +13,7 @@ use Rattle.mach_ir.specs.declared.reg.Reg.{Reg}
 use Rattle.selection_rules.specs.Instructions as emit
 use Rattle.selection_rules.specs.Select.{Label, moves_all}
 use Rattle.selection_rules.proofs.Parts.{Placed, placed_next}
-use Rattle.selection_walks.proofs.Phases.{Phase, Early, Bound, Passed, Off, off_less, Flies, Written, here, there, written_among, Addresses, Ahead, Past, read_here, kept_on, wrote_it, Onward, simply, crossed, flew, onward, straight, Leaving, read_last, flew_off, leaves, Told, Kept, grown, bound_none, none_passed}
+use Rattle.selection_walks.proofs.Phases.{Phase, Early, Bound, Passed, Off, off_less, Flies, Written, here, there, written_among, Addresses, Ahead, Past, read_here, kept_on, wrote_it, Onward, simply, crossed, flew, onward, straight, Leaving, read_last, flew_off, leaves, Told, Kept, grown, bound_none}
 use Rattle.selection_walks.proofs.Situations.{raised_at, OutsOf, outs_kept, Sit, sit, go, no_written, one_number, out, ApartFrom, finish, through_takes, taken}
 use Rattle.selection_walks.proofs.Operands.{Stood, outs_over}
 
@@ -31,9 +31,6 @@ pub record IsPlain (i : Instr) : Type 0 where
   pub calm : may_raise i.op ≡ false
   pub inside : passes_frame i.op ≡ false
   pub tries : (next : List Instr) → tries_at (i ∷ next) ≡ tries_at next
-
-pub empty_passed : (w : Option ℕ) {tasks : List Task} → w ≡ None → Told Passed w tasks → ⊥
-empty_passed w {tasks} e t = none_passed (subst (λ x. Told Passed x tasks) e t)
 
 module _ (m : Mach) (n : ℕ) where
   pub outs_takes : {k : ℕ} {w : Option ℕ} {ts : List ℕ} {labels : List Label} (tasks : List Task) (at slot count : ℕ) → OutsOf m n k w ts labels tasks →

@@ -13,9 +13,8 @@ use Rattle.cmm_types.specs.Gathered.{faults_in, function_faults}
 use Rattle.cmm_types.specs.Types.{body_type, result_of, type_without_float, with_parameters}
 use Rattle.walk_tables.specs.AddrLive.{IsLiveIn}
 use Rattle.walk_tables.specs.Walks.{Evaluates, with_slots, walk_tasks}
-use Rattle.mach_ir.specs.Acts.{Target, On, At}
-use Rattle.mach_ir.specs.Meaning.{passes_frame, code_at, tries_at}
-use Rattle.mach_ir.specs.Walks.{Among, first, later, Leads, goes, Raises, raises, Reached, at_entry, by_step, by_raise, Live, read, on, aside, LiveAcross, across_step, across_raise, IsRegister, is_in_code, NoAddrLive}
+use Rattle.mach_ir.specs.Meaning.{passes_frame, tries_at}
+use Rattle.mach_ir.specs.Walks.{Among, first, later, Reached, at_entry, by_step, by_raise, Live, read, on, aside, LiveAcross, across_step, across_raise, IsRegister, is_in_code, NoAddrLive}
 use Rattle.mach_ir.specs.declared.mach.Instr.{Instr}
 use Rattle.mach_ir.specs.declared.mach.Mach.{Mach}
 use Rattle.mach_ir.specs.declared.reg.Reg.{Reg}
@@ -23,7 +22,8 @@ use Rattle.selection_rules.specs.Instructions as emit
 use Rattle.selection_rules.specs.Select.{Named, Label, scopes, fresh, moves_all, params_from, with_params, seat, seats, returns, is_no_value, selected, select}
 use Rattle.selection_rules.specs.Select as select
 use Rattle.mach_laws.specs.Expand.{Ending, all}
-use Rattle.mach_laws.proofs.Places.{ending_next, ending_label, ending_from_handler, stands_of, results_in}
+use Rattle.mach_laws.proofs.Places.{stands_of, results_in}
+use Rattle.mach_laws.proofs.Walking.{ending_leads, ending_raises}
 use Rattle.selection_rules.proofs.Parts.{Placed, placed_in}
 use Rattle.selection_rules.proofs.Endings.{ending_select, ending_moves}
 use Rattle.selection_rules.proofs.Labels.{selected_labelled}
@@ -40,10 +40,6 @@ use Rattle.selection_walks.proofs.Claims.{claim}
 use Rattle.selection_rules.proofs.Rows.{seats_length}
 
 -- ---- places
-
-ending_to : {i : Instr} {next code : List Instr} (t : Target) → Ending (i ∷ next) code → Ending (code_at code next t) code
-ending_to On e = ending_next e
-ending_to {code = code} (At l) e = ending_label l code
 
 among_either : (n : ℕ) (rs : List Reg) → Among n rs ⊎ (Among n rs → ⊥)
 among_either n [] = inr (λ a. elim a [ ])
@@ -76,12 +72,6 @@ module _ (m : Mach) (tells : NumbersTell m) (r : Reg) (is : IsRegister m r) (add
   record SomeAhead (p : Phase) (code : List Instr) : Type 0 where
     count : ℕ
     ahead : Ahead m r.number count p code
-
-  ending_leads : {i : Instr} {next to : List Instr} → Leads m i next to → Ending (i ∷ next) m.code → Ending to m.code
-  ending_leads (goes t o) e = ending_to t e
-
-  ending_raises : {i : Instr} {next to : List Instr} → Raises m i next to → Ending to m.code
-  ending_raises (raises {l = l} mr t) = ending_from_handler l m.code
 
   live_ahead : {code : List Instr} → Live m r.number code → Ending code m.code → SomeAhead Passed code
   live_ahead (read a) e = record { count = 0; ahead = ends a }
@@ -180,12 +170,6 @@ end_bound : {m : Mach} {n k : ℕ} {next : List Instr} (rs : List Reg) → Ahead
 end_bound {m} {n} {k} {next} rs y = by (leaves refl refl y)
   where
     by : Leaving m n k (emit.give_back rs) next Bound → ⊥
-    by (flew_off mr t z) = true≢false (sym mr)
-
-end_early : {m : Mach} {n k : ℕ} {next : List Instr} (rs : List Reg) → Ahead m n k Early (emit.give_back rs ∷ next) → ⊥
-end_early {m} {n} {k} {next} rs y = by (leaves refl refl y)
-  where
-    by : Leaving m n k (emit.give_back rs) next Early → ⊥
     by (flew_off mr t z) = true≢false (sym mr)
 
 module _ (m : Mach) (n : ℕ) where

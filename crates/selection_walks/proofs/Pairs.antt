@@ -103,12 +103,6 @@ pub power_int : (op : IntOp) (l r : Expression) (sc : List Scoped) (k : ℕ) →
 power_int op l r sc k q = ⊎_elim (λ e. power_type r sc k (sym e ∙ q)) (λ e. absurd (shape_not_power (right_immediate op r) (left_immediate op l) k (sym e ∙ q)))
     (by_shape op l r)
 
-no_int_address : (c : Rattle.bs_words.specs.declared.types.Comp.Comp) → c ≡ comp.Int → c ≡ comp.Addr → ⊥
-no_int_address c e q = no (sym e ∙ q)
-  where
-    no : comp.Int ≡ comp.Addr → ⊥
-    no e = cc
-
 module _ (m : Mach) (n : ℕ) (defined : List ℕ → Option DefinedSymbol) where
   -- ---- an operand in its place
 

@@ -1,6 +1,6 @@
 -- What the table of registers shows.
 use Rattle.std.proofs.Common.{◌≡◌, ℕ, zero, suc, ◌<◌, Bool, true, false, cond, ◌⊎◌, inl, inr, ⊎_elim, List, [], ◌∷◌, ◌++◌, Some, None, length, replicate, refl, sym, ap, ◌∙◌, subst}
-use Rattle.std.proofs.lemmas.List.Elements.{Contains-append_left, Contains-append_right}
+use Rattle.std.proofs.lemmas.List.Elements.{Contains-append_left, Contains-append_right, Contains-append_cases}
 use Rattle.std.proofs.lemmas.Bool.{cases_Bool, lt-ltb, ltb-true}
 use Rattle.std.specs.List.{Contains}
 use Rattle.std.specs.Prelude.{Option, nat_lt, slice_index_or, slice_set}
@@ -9,11 +9,10 @@ use Rattle.mach_ir.specs.declared.reg.Reg.{Reg}
 use Rattle.mach_ir.specs.declared.mach.Instr.{Instr}
 use Rattle.mach_ir.specs.declared.mach.Mach.{Mach}
 use Rattle.mach_laws.specs.Expand.{Ending, all, more}
-use Rattle.liveness.proofs.Bounds.{split_in}
+use Rattle.mach_laws.proofs.Walking.{ending_leads, ending_raises}
 use Rattle.bs_words.proofs.Lists.{none_in, first_in, later_in, in_cons}
 use Rattle.sink.specs.Registers.{entered, entered_code}
 use Rattle.sink.proofs.Seeing.{length_set, at_set, off_set, same_or}
-use Rattle.liveness.proofs.Steps.{leads_ending, raise_ending}
 
 abbrev at : List (Option Reg) → ℕ → Option Reg
 at t n = slice_index_or t n None
@@ -105,7 +104,7 @@ entered_reads (i ∷ is) t = entered_reads is (entered i.args t) ∙ sym (entere
 
 reads_in : (code : List Instr) (r : Reg) → Contains (reads code) r → InCode r code
 reads_in [] r c = absurd (none_in r c)
-reads_in (i ∷ is) r c = ⊎_elim (λ a. in_args a) (λ d. further (reads_in is r d)) (split_in i.args (reads is) r c)
+reads_in (i ∷ is) r c = ⊎_elim (λ a. in_args a) (λ d. further (reads_in is r d)) (Contains-append_cases i.args (reads is) r c)
 
 in_reads : {i : Instr} {next code : List Instr} (r : Reg) → Ending (i ∷ next) code → Contains i.args r → Contains (reads code) r
 in_reads {i} {next} r all c = Contains-append_left i.args (reads next) r c
@@ -120,8 +119,8 @@ module _ (m : Mach) where
   -- what is live is read
   is_read : {n : ℕ} {rest : List Instr} → Live m n rest → Ending rest m.code → (r : Reg) × Contains (reads m.code) r × (r.number ≡ n)
   is_read {n} (read {i = i} {next = next} a) e = let x = one_of n i.args a in (x.0, in_reads x.0 e x.1, x.2)
-  is_read (on w l v) e = is_read v (leads_ending m e l)
-  is_read (aside r v) e = is_read v (raise_ending m r)
+  is_read (on w l v) e = is_read v (ending_leads l e)
+  is_read (aside r v) e = is_read v (ending_raises r)
 
   module _ (unique : (r q : Reg) → InCode r m.code → InCode q m.code → r.number ≡ q.number → r ≡ q) (size : ℕ) where
     empty_at : (size n : ℕ) (r : Reg) → at (replicate size None) n ≡ Some r → ⊥

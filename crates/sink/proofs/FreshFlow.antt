@@ -1,6 +1,7 @@
 -- What reaches a place in the graph of what is fresh is what is fresh there.
 use Rattle.std.proofs.Common.{◌≡◌, ℕ, ◌<◌, ◌≤◌, Bool, ◌⊎◌, ⊎_elim, List, ◌∷◌, length, drop, refl, sym, ◌∙◌, subst}
 use Rattle.std.specs.List.{All, Contains}
+use Rattle.std.proofs.lemmas.List.Elements.{All-nil}
 use Rattle.bs_words.specs.Contents.{contents}
 use Rattle.dataflow.specs.Flow.{Graph, graph, IsPlace, IsBare}
 use Rattle.dataflow.specs.Flow as flows
@@ -17,8 +18,7 @@ use Rattle.mach_ir.specs.declared.mach.Mach.{Mach}
 use Rattle.mach_laws.specs.Expand.{Ending}
 use Rattle.mach_laws.specs.Graph.{place_of, numbers, next_places, raise_places, IsFlowOf}
 use Rattle.mach_laws.proofs.Places.{ending_next, stands_of, ending_of}
-use Rattle.mach_laws.proofs.Walking.{place_is, among_numbers, in_numbers, ending_place}
-use Rattle.liveness.proofs.Bounds.{no_items}
+use Rattle.mach_laws.proofs.Walking.{place_is, among_numbers, in_numbers, ending_place, ending_leads, ending_raises}
 use Rattle.sink_rules.specs.Walks.{Fresh, written, on, aside}
 use Rattle.sink.specs.Graphs.{LivesAt, IsFreshNode, AreFreshNodes}
 use Rattle.sink.specs.Tables.{AreFresh}
@@ -28,7 +28,7 @@ use Rattle.sink.proofs.Reaching as reaching
 use Rattle.sink.proofs.Reaching.{next_live, is_held}
 use Rattle.sink.proofs.Living.{decide_in}
 use Rattle.sink.proofs.Nodes.{At, AtEnd}
-use Rattle.liveness.proofs.Steps.{each, leads_ending, raise_ending}
+use Rattle.liveness.proofs.Steps.{each}
 
 module _ (m : Mach) (live : LiveMap) (exact : IsLiveMap m live) where
   abbrev rows : List (List Bool)
@@ -111,9 +111,9 @@ module _ (m : Mach) (live : LiveMap) (exact : IsLiveMap m live) where
     -- ---- and back
 
     fresh_ends : {n : ℕ} {rest : List Instr} → Fresh m n rest → Ending rest m.code
-    fresh_ends (written s w l) = leads_ending m (ending_of s) l
-    fresh_ends (on h d l) = leads_ending m (fresh_ends h) l
-    fresh_ends (aside h r) = raise_ending m r
+    fresh_ends (written s w l) = ending_leads l (ending_of s)
+    fresh_ends (on h d l) = ending_leads l (fresh_ends h)
+    fresh_ends (aside h r) = ending_raises r
 
     comes_to : {n : ℕ} {rest : List Instr} → Fresh m n rest → (p : ℕ) → p ≤ length m.code → drop p m.code ≡ rest → ComesTo g p n
     comes_to {n} (written {i = i} {next = next} s w l) p le e =
@@ -164,10 +164,10 @@ module _ (m : Mach) (live : LiveMap) (exact : IsLiveMap m live) where
       fits_end =
           let n = last.is_end in
           record {
-            next = subst (All (λ q. q < length (contents f.places))) (sym n.next) (no_items (λ q. q < length (contents f.places)));
-            aside = subst (All (λ q. q < length (contents f.places))) (sym n.aside) (no_items (λ q. q < length (contents f.places)));
-            reads = subst (All (λ r. r < f.bound)) (sym n.reads) (no_items (λ r. r < f.bound));
-            writes = subst (All (λ r. r < f.bound)) (sym n.writes) (no_items (λ r. r < f.bound));
+            next = subst (All (λ q. q < length (contents f.places))) (sym n.next) (All-nil (λ q. q < length (contents f.places)));
+            aside = subst (All (λ q. q < length (contents f.places))) (sym n.aside) (All-nil (λ q. q < length (contents f.places)));
+            reads = subst (All (λ r. r < f.bound)) (sym n.reads) (All-nil (λ r. r < f.bound));
+            writes = subst (All (λ r. r < f.bound)) (sym n.writes) (All-nil (λ r. r < f.bound));
           }
 
       pub fresh_formed : flows.WellFormed f

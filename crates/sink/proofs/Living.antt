@@ -1,12 +1,11 @@
 -- The numbers that are live at a place, one after the other.
 use Rattle.std.proofs.Common.{◌≡◌, ◌↔◌, ℕ, zero, suc, ◌+◌, ◌<◌, ◌≤◌, Bool, true, false, ◌⊎◌, inl, inr, ⊎_elim, List, [], ◌∷◌, ◌++◌, length, sym, ◌∙◌, ap, subst, arith}
-use Rattle.std.proofs.lemmas.List.Elements.{Contains-append_left, Contains-append_right}
+use Rattle.std.proofs.lemmas.List.Elements.{Contains-append_left, Contains-append_right, Contains-append_cases}
 use Rattle.std.proofs.lemmas.Bool.{cases_lt, eq-eqb, eqb-true, cases_Bool}
 use Rattle.std.specs.List.{Contains}
 use Rattle.std.specs.Prelude.{nat_eq}
 use Rattle.bs_bits.specs.Set.{has, HasNoneFrom, IsNext}
 use Rattle.dataflow.specs.Rows.{row}
-use Rattle.liveness.proofs.Bounds.{split_in}
 use Rattle.bs_words.proofs.Lists.{none_in, first_in, later_in, in_cons}
 use Rattle.sink.specs.Graphs.{held, LivesAt, AreLiving, AreOver}
 use Rattle.mach_ir.specs.declared.mach.MachOp.{MachOp}
@@ -75,7 +74,7 @@ module _ (rows : List (List Bool)) (p : ℕ) (except : List ℕ) where
         (λ h.
         ⊎_elim (λ s. (last n k s, subst (LivesAt rows p except) s (record { live = sym (ap (λ s. has s k) e) ∙ next.member; other = other })))
         (λ d. absurd (none_in n d)) (in_cons k n [] h))
-        (split_in found (k ∷ []) n (subst (λ xs. Contains xs n) same c)),
+        (Contains-append_cases found (k ∷ []) n (subst (λ xs. Contains xs n) same c)),
     λ h.
         subst (λ xs. Contains xs n) (sym same)
         (⊎_elim (λ lt. Contains-append_left found (k ∷ []) n ((old n).1 (lt, h.1)))

@@ -53,10 +53,6 @@ turning_more all items rest old made x y e t m before_it =
       turned = subst (AreTurned (x ∷ before_it.done)) (sym m) (turned_before t before_it.turned);
     }
 
-pub turning_done : (all items old made : List place.Place) → items ≡ [] → Turning all items old → made ≡ old → AreTurned all made
-turning_done all items old made none t e =
-    subst (AreTurned all) (sym e) (subst (λ xs. AreTurned xs old) (ap (λ xs. xs ++ t.done) (sym none) ∙ t.whole) t.turned)
-
 -- ---- the graph of what is stale
 
 part_at : (part : place.Place → List ℕ) (xs ys : List place.Place) (x : place.Place) → slice_index_or (map part (xs ++ x ∷ ys)) (length xs) [] ≡ part x

@@ -1,10 +1,10 @@
 -- Straight runs of a function by its places.
 use Rattle.std.proofs.Common.{◌≡◌, ℕ, zero, suc, ◌+◌, ◌-◌, ◌<◌, ◌≤◌, Bool, true, false, cond, not, ◌||◌, ◌⊎◌, inl, inr, ⊎_elim, List, [], ◌∷◌, ◌++◌, Some, None, length, drop, refl, sym, ap, ◌∙◌, subst, arith}
-use Rattle.std.proofs.lemmas.List.Elements.{All-contains}
 use Rattle.std.proofs.lemmas.Bool.{cases_Bool, eq-eqb, eqb-true}
 use Rattle.std.proofs.lemmas.List.{length-append}
 use Rattle.std.specs.List.{All}
 use Rattle.std.specs.Prelude.{Option, nat_eq, slice_get}
+use Rattle.std.proofs.lemmas.List.Elements.{All-cons, All-head, All-tail, All-nil}
 use Rattle.mach_ir.specs.Meaning.{killed, written}
 use Rattle.mach_ir.specs.Placed.{is_straight, AreStraight}
 use Rattle.mach_ir.specs.Walks.{Among, first, later, Writes, Stands}
@@ -18,9 +18,7 @@ use Rattle.mach_laws.specs.Expand.{Ending, all, more}
 use Rattle.mach_laws.specs.Graph.{place_of}
 use Rattle.mach_laws.proofs.Walking.{place_is, place_back, ending_place}
 use Rattle.sink_rules.specs.Chosen.{IsRunTo}
-use Rattle.bs_words.proofs.Lists.{in_cons}
 use Rattle.sink.specs.Runs.{some_straight, begins_at, is_among, some_result, run_start}
-use Rattle.liveness.proofs.Steps.{each}
 use Rattle.mach_laws.proofs.Places.{stands_of, ending_of}
 use Rattle.bs_words.proofs.Truths.{not_both}
 
@@ -76,19 +74,6 @@ begins_inside code zero e = absurd (not_both true refl e)
 begins_inside code (suc p) e = omega arith
 
 -- ---- all of a list
-
-all_cons : {A : Type 0} (P : A → Type 0) (x : A) (xs : List A) → P x → All P xs → All P (x ∷ xs)
-all_cons P x xs h others =
-    each P (x ∷ xs) (λ y c. ⊎_elim (λ e. subst P e h) (λ d. All-contains P xs y others d) (in_cons x y xs c))
-
-all_first : {A : Type 0} (P : A → Type 0) (x : A) (xs : List A) → All P (x ∷ xs) → P x
-all_first P x xs h = h 0 x (omega arith)
-
-all_rest : {A : Type 0} (P : A → Type 0) (x : A) (xs : List A) → All P (x ∷ xs) → All P xs
-all_rest P x xs h = λ k d lt. h (suc k) d (omega (arith, lt))
-
-all_none : {A : Type 0} (P : A → Type 0) → All P []
-all_none P = λ k d lt. absurd (omega (arith, lt))
 
 -- ---- what a straight instruction writes
 
@@ -198,8 +183,8 @@ module _ (m : Mach) (n : ℕ) where
           further (inl w) = absurd (none_some q (ap (next false) (sym w) ∙ opened false g))
           further (inr w) =
               go (i ∷ run) (there.1 ∙ ap (λ xs. i ∷ xs) e)
-              (all_cons (λ (i : Instr). is_straight i.op ≡ true) i run straight s)
-              (all_cons (λ (j : Instr). Writes m j n → ⊥) i run
+              (All-cons (λ (i : Instr). is_straight i.op ≡ true) i run straight s)
+              (All-cons (λ (j : Instr). Writes m j n → ⊥) i run
               (λ a. not_both (is_among n i.results) (is_among_of (subst (Among n) (written_is m i straight) a)) w) u)
               (omega (arith, le)) (ap (next false) (sym w) ∙ opened false g)
 
@@ -247,8 +232,8 @@ module _ (m : Mach) (n : ℕ) where
       plus q = omega arith
   passed (i ∷ run) rest q e s u =
       ap (run_start code n) (plus q (length run))
-      ∙ passed run rest (suc q) (drop_one code q i (run ++ rest) e) (all_rest (λ (i : Instr). is_straight i.op ≡ true) i run s)
-      (all_rest (λ (j : Instr). Writes m j n → ⊥) i run u)
+      ∙ passed run rest (suc q) (drop_one code q i (run ++ rest) e) (All-tail (λ (i : Instr). is_straight i.op ≡ true) i run s)
+      (All-tail (λ (j : Instr). Writes m j n → ⊥) i run u)
       ∙ one
     where
       plus : (q k : ℕ) → q + suc k ≡ suc q + k
@@ -258,14 +243,14 @@ module _ (m : Mach) (n : ℕ) where
       get = get_there code q i (run ++ rest) e
 
       straight : is_straight i.op ≡ true
-      straight = all_first (λ (i : Instr). is_straight i.op ≡ true) i run s
+      straight = All-head (λ (i : Instr). is_straight i.op ≡ true) i run s
 
       unwritten : is_among n i.results ≡ false
       unwritten =
           ⊎_elim
           (λ w.
           absurd
-          (all_first (λ (j : Instr). Writes m j n → ⊥) i run u (subst (Among n) (sym (written_is m i straight)) (among_is n i.results w))))
+          (All-head (λ (j : Instr). Writes m j n → ⊥) i run u (subst (Among n) (sym (written_is m i straight)) (among_is n i.results w))))
           (λ w. w) (cases_Bool (is_among n i.results))
 
       one : run_start code n (suc q) ≡ run_start code n q
@@ -312,7 +297,7 @@ module _ (m : Mach) (n : ℕ) where
   pub run_to : (q p : ℕ) (call : Instr) (after : List Instr) → drop p code ≡ call ∷ after → p ≤ length code → run_start code n p ≡ Some q →
       Ran (call ∷ after) q
   run_to q p call after e le h =
-      ran (call ∷ after) q p [] e (all_none (λ (i : Instr). is_straight i.op ≡ true)) (all_none (λ (j : Instr). Writes m j n → ⊥)) le h
+      ran (call ∷ after) q p [] e (All-nil (λ (i : Instr). is_straight i.op ≡ true)) (All-nil (λ (j : Instr). Writes m j n → ⊥)) le h
 
   -- it begins with some instruction
   pub begin_of : (q : ℕ) (call : Instr) (after : List Instr) → Ran (call ∷ after) q →

@@ -2,6 +2,7 @@
 use Rattle.std.proofs.Common.{◌≡◌, ℕ, suc, ◌<◌, ◌≤◌, Bool, ◌⊎◌, inl, ⊎_elim, List, [], ◌∷◌, map, length, drop, refl, sym, ap, ◌∙◌, subst, arith}
 use Rattle.std.specs.List.{All, Contains}
 use Rattle.std.specs.Prelude.{slice_index_or}
+use Rattle.std.proofs.lemmas.List.Elements.{All-nil, All-cons}
 use Rattle.bs_words.specs.Contents.{contents}
 use Rattle.bs_words.proofs.Lists.{none_in, first_in, in_cons, drop_none}
 use Rattle.dataflow.specs.Flow.{Graph, graph, IsPlace}
@@ -19,15 +20,14 @@ use Rattle.mach_ir.specs.declared.mach.Mach.{Mach}
 use Rattle.mach_laws.specs.Expand.{Ending, all}
 use Rattle.mach_laws.specs.Graph.{place_of, numbers, next_places, raise_places, IsFlowOf}
 use Rattle.mach_laws.proofs.Places.{ending_next, stands_of, ending_of}
-use Rattle.mach_laws.proofs.Walking.{place_is, among_numbers, in_numbers, place_back, ending_place}
-use Rattle.liveness.proofs.Bounds.{no_items, one_more}
+use Rattle.mach_laws.proofs.Walking.{place_is, among_numbers, in_numbers, place_back, ending_place, ending_leads, ending_raises}
 use Rattle.sink_rules.specs.Walks.{Stale, at_entry, over, on, aside}
 use Rattle.sink.specs.Graphs.{LivesAt, IsOver, IsEntry, IsStaleNode, AreStaleNodes}
 use Rattle.sink.specs.Tables.{AreStale}
 use Rattle.sink.proofs.Held.{held_destroys}
 use Rattle.sink.proofs.Graph.{Where, inner, final, beyond, at, none_past, lead, of}
 use Rattle.sink.proofs.Nodes.{At, AtEnd, count}
-use Rattle.liveness.proofs.Steps.{each, leads_ending, raise_ending}
+use Rattle.liveness.proofs.Steps.{each}
 use Rattle.sink.proofs.Reaching as reaching
 use Rattle.sink.proofs.Reaching.{next_live, is_held}
 
@@ -117,9 +117,9 @@ module _ (m : Mach) (live : LiveMap) (exact : IsLiveMap m live) where
 
     stale_ends : {n : ℕ} {rest : List Instr} → Stale m n rest → Ending rest m.code
     stale_ends (at_entry a) = all
-    stale_ends (over s d w l) = leads_ending m (ending_of s) l
-    stale_ends (on h w l) = leads_ending m (stale_ends h) l
-    stale_ends (aside h r) = raise_ending m r
+    stale_ends (over s d w l) = ending_leads l (ending_of s)
+    stale_ends (on h w l) = ending_leads l (stale_ends h)
+    stale_ends (aside h r) = ending_raises r
 
     begins : (n p : ℕ) → p ≤ length m.code → drop p m.code ≡ m.code → (Among n m.params → ⊥) → Live m n m.code → ComesTo g p n
     begins n p le e a v =
@@ -202,8 +202,8 @@ module _ (m : Mach) (live : LiveMap) (exact : IsLiveMap m live) where
           let some : length (contents f.places) ≡ suc (length m.code) = count E N nodes in
           record {
             next = subst (All (λ q. q < length (contents f.places))) (sym n.next)
-                (one_more (λ q. q < length (contents f.places)) 0 [] (omega (arith, some)) (no_items (λ q. q < length (contents f.places))));
-            aside = subst (All (λ q. q < length (contents f.places))) (sym n.aside) (no_items (λ q. q < length (contents f.places)));
+                (All-cons (λ q. q < length (contents f.places)) 0 [] (omega (arith, some)) (All-nil (λ q. q < length (contents f.places))));
+            aside = subst (All (λ q. q < length (contents f.places))) (sym n.aside) (All-nil (λ q. q < length (contents f.places)));
             reads = each (λ r. r < f.bound) (contents (last.node).reads) (λ r c. small 0 (numbers m.params) r ((n.reads r).0 c));
             writes = each (λ r. r < f.bound) (contents (last.node).writes) (λ r c. small 0 [] r ((n.writes r).0 c));
           }

@@ -4,14 +4,13 @@ use Rattle.std.proofs.Common.{◌≡◌, ◌≢◌, ℕ, Bool, true, false, cond
 use Rattle.std.specs.List.{Contains}
 use Rattle.std.proofs.lemmas.Bool.{both_ways}
 use Rattle.std.proofs.lemmas.Option.{none-some}
-use Rattle.std.proofs.lemmas.List.Elements.{All-contains}
 use Rattle.bs_words.specs.Fits.{fits, type_of_comp}
 use Rattle.bs_words.specs.declared.types.Comp.TheVariants as comp
 use Rattle.bs_words.specs.declared.types.Loc.TheVariants as loc
 use Rattle.bs_words.specs.declared.values.Value.{Value}
 use Rattle.bs_words.proofs.Lists.{first_in, later_in, head_same, tail_same, none_there}
 use Rattle.mach_ir.specs.Acts.{Around, Target, On, At, Landing, AtLabel, AtHandler}
-use Rattle.mach_ir.specs.Formed.{IsFormed, WellFormed}
+use Rattle.mach_ir.specs.Formed.{WellFormed}
 use Rattle.mach_ir.specs.Runs.{Place, Continues, entered}
 use Rattle.mach_ir.specs.Meaning.{Held, File, put_if, put_all, clear, killed, written, with_held, values, past_frame, passes_frame, after_label, from_handler, at_handler, code_at, tries_at, tries_past, landing_code, wrote, on_values, step}
 use Rattle.mach_ir.specs.Walks.{Among, OneOf, targets, may_raise, goes, raises, Reached, at_entry, by_step, by_raise, Live, LiveAcross, IsRegister, is_in_code}
@@ -26,7 +25,7 @@ use Rattle.mach_laws.proofs.General as general
 use Rattle.mach_laws.proofs.General.{at}
 use Rattle.mach_laws.proofs.Leads.{MayLand, lands_at_label, lands_at_handler, try_on}
 use Rattle.mach_laws.proofs.Level as level
-use Rattle.mach_laws.proofs.Places.{ending_next, stands_of, results_in, contains_of}
+use Rattle.mach_laws.proofs.Places.{ending_next, stands_of, results_in, form_of}
 use Rattle.mach_laws.proofs.Simulate.{Agrees}
 use Rattle.mach_laws.proofs.Among.{split_among}
 use Rattle.mach_laws.proofs.Raised.{IsSilent, label_silent, try_silent, told}
@@ -52,9 +51,6 @@ module _ (m : Mach) (plan : Plan) (formed : WellFormed m) (is : IsPlan m plan) w
 
   abbrev Laid : List Instr → List Instr → Type 0
   Laid = text.Laid m plan is
-
-  form_of : {i : Instr} {next : List Instr} → Ending (i ∷ next) m.code → IsFormed i
-  form_of {i} e = All-contains IsFormed m.code i formed.instrs (contains_of (stands_of e))
 
   was : (r : Reg) → IsRegister q r → IsRegister m r
   was = text.was_register m plan is
@@ -301,7 +297,7 @@ module _ (m : Mach) (plan : Plan) (formed : WellFormed m) (is : IsPlan m plan) w
         landed : (to : Landing) → MayLand i.op to → (y : Around) → Agrees m (written m i) (at (landing_code m.code (i ∷ next) to) a' y) →
             Holds (landing_code m.code (i ∷ next) to) a' a'
         landed (AtLabel l) (lands_at_label o) y agreed =
-            holds_by (after_label l m.code) a' (silent_known (label_silent m (form_of ending) l o) y (At l) o agreed)
+            holds_by (after_label l m.code) a' (silent_known (label_silent m (form_of formed ending) l o) y (At l) o agreed)
         landed AtHandler (lands_at_handler b) y agreed = known_at_handler b y (tries_at (i ∷ next)) refl agreed
 
         lands : (y : Around) (to : Landing) → MayLand i.op to →
@@ -321,7 +317,7 @@ module _ (m : Mach) (plan : Plan) (formed : WellFormed m) (is : IsPlan m plan) w
               pushes = λ t. (
                 refl,
                 λ y agreed. (
-                  (refl, holds_by next a' (silent_known (try_silent m (form_of ending) t) y On (try_on i.op t) agreed)),
+                  (refl, holds_by next a' (silent_known (try_silent m (form_of formed ending) t) y On (try_on i.op t) agreed)),
                   agrees_by next (expand f next) laid_next (wrote_unless y.raised (written m i)) a' y agreed,
                 ),
               );
@@ -352,7 +348,7 @@ module _ (m : Mach) (plan : Plan) (formed : WellFormed m) (is : IsPlan m plan) w
               passing = passed_before i next (i ∷ expand f next) a y ending known (text.main ending laid_next) i.op;
               vals = vals_before y;
               reads = e;
-              told = told m (form_of ending) c.setting vs y;
+              told = told m (form_of formed ending) c.setting vs y;
               same = same_operation;
             }
 

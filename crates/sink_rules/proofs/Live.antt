@@ -12,7 +12,7 @@ use Rattle.mach_ir.specs.declared.mach.Instr.{Instr}
 use Rattle.mach_ir.specs.declared.mach.Mach.{Mach}
 use Rattle.mach_laws.specs.Expand.{expand, Ending}
 use Rattle.mach_laws.proofs.Places.{label_expand, handler_expand, ending_label, ending_from_handler, stands_of}
-use Rattle.spill_rules.proofs.Chosen.{only_on}
+use Rattle.mach_laws.proofs.Walking.{only_on}
 use Rattle.sink_rules.specs.Sunk.{Plan, IsPlan}
 use Rattle.sink_rules.proofs.Text as text
 use Rattle.sink_rules.proofs.Text.{laid_instr, keeps_marks, of_one}

@@ -19,6 +19,7 @@ use Rattle.mach_laws.specs.Expand.{expand, Ending, all, more}
 use Rattle.mach_laws.proofs.Places.{ending_next, stands_of}
 use Rattle.places_rules.proofs.Lists.{was}
 use Rattle.bs_words.proofs.Lists.{first_in, later_in}
+use Rattle.pass_rules.proofs.Words.{both_sum}
 use Rattle.sink_rules.specs.Sunk.{Plan, to_itself, moves_of, sunk_instr, sunk, IsPlan}
 
 -- ---- registers and their numbers
@@ -93,13 +94,6 @@ module _ (plan : Plan) where
 
   module _ (M : List Instr → ℕ) (one : Instr → ℕ) (most : ℕ) (none : M [] ≡ 0) (step : (i : Instr) (is : List Instr) → M (i ∷ is) ≡ one i + M is)
       (each : (r : Reg) → one (to_itself r) ≤ most) where
-    both_sum : (xs ys : List Instr) → M (xs ++ ys) ≡ M xs + M ys
-    both_sum [] ys = let e = none in omega (arith, e)
-    both_sum (x ∷ xs) ys =
-        let e = step x (xs ++ ys) in
-        let h = step x xs in
-        let ih = both_sum xs ys in omega (arith, e, h, ih)
-
     one_times : (a b c d : ℕ) → a ≤ d → b ≤ d * c → a + b ≤ d * suc c
     one_times a b c d x y = subst (λ k. a + b ≤ k) (spread d c) (omega (arith, x, y))
       where
@@ -136,8 +130,8 @@ module _ (plan : Plan) where
 
         whole : M (expand (sunk_instr plan) (i ∷ is)) ≡ M xs + one i + M (expand (sunk_instr plan) is)
         whole =
-            let a = both_sum (xs ++ i ∷ []) (expand (sunk_instr plan) is) in
-            let b = both_sum xs (i ∷ []) in
+            let a = both_sum M one none step (xs ++ i ∷ []) (expand (sunk_instr plan) is) in
+            let b = both_sum M one none step xs (i ∷ []) in
             let c = step i [] in
             let d = none in omega (arith, a, b, c, d)
 

@@ -2,7 +2,7 @@
 use Rattle.std.proofs.Common.{◌≡◌, ℕ, Bool, true, false, cond, List, [], ◌∷◌, ◌++◌, length, ◌⊎◌, inl, inr, refl, sym, ap, ◌∙◌, subst}
 use Rattle.std.specs.List.{Contains}
 use Rattle.std.proofs.lemmas.Bool.{both_ways}
-use Rattle.mach_ir.specs.Formed.{labels_in, labels_of, HasPlace, place_here, place_below, HasHandler, handler_here, handler_below}
+use Rattle.mach_ir.specs.Formed.{labels_in, HasPlace, place_here, place_below, HasHandler, handler_here, handler_below}
 use Rattle.mach_ir.specs.Meaning.{has_label, is_handler_of, tries_at, tries_past}
 use Rattle.mach_ir.specs.Walks.{Among, first, later, Stands, here, below, InCode, in_args, in_results, further, IsRegister, is_param, is_colour, is_in_code}
 use Rattle.mach_ir.specs.declared.op.Op.{Op}
@@ -14,6 +14,7 @@ use Rattle.mach_ir.specs.declared.mach.Instr.{Instr}
 use Rattle.mach_ir.specs.declared.mach.Mach.{Mach}
 use Rattle.mach_laws.specs.Expand.{expand, Ending, all, KeepsMarks, NoLabel, no_label, not_labelled, NoHandler, no_handler, not_handled, bounds_try, NoBound, no_bound, not_bound}
 use Rattle.mach_laws.proofs.Places.{ending_next, stands_of, args_in, results_in}
+use Rattle.mach_laws.proofs.InPlace.{same_head}
 use Rattle.bs_words.proofs.Lists.{none_in, first_in, later_in, in_cons}
 use Rattle.sink_rules.specs.Sunk.{Plan, to_itself, moves_of, sunk_instr, sunk, IsPlan}
 
@@ -200,15 +201,6 @@ module _ (m : Mach) (plan : Plan) (is : IsPlan m plan) where
   laid_tries laid_end = refl
   laid_tries (moves r e k h) = laid_tries h
   laid_tries (main {i = i} e h) = ap (tries_past i.op) (laid_tries h)
-
-  same_head : (i : Instr) (xs ys : List Instr) → labels_in xs ≡ labels_in ys → labels_in (i ∷ xs) ≡ labels_in (i ∷ ys)
-  same_head i xs ys e = by i.op i.args i.results
-    where
-      by : (g : MachOp) (args results : List Reg) →
-          labels_in (record { op = g; args = args; results = results } ∷ xs)
-          ≡ labels_in (record { op = g; args = args; results = results } ∷ ys)
-      by (mach.Op g) args results = e
-      by (mach.Mark g) args results = ap (λ ls. labels_of g ++ ls) e
 
   pub laid_labels : {rest ys : List Instr} → Laid rest ys → labels_in ys ≡ labels_in rest
   laid_labels laid_end = refl

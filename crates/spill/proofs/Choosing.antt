@@ -14,7 +14,7 @@ use Rattle.mach_ir.specs.declared.mach.Instr.{Instr}
 use Rattle.mach_ir.specs.declared.mach.Mach.{Mach}
 use Rattle.mach_laws.specs.Expand.{expand}
 use Rattle.mach_laws.specs.Graph.{place_of, numbers, next_places}
-use Rattle.mach_laws.proofs.Walking.{place_is, among_numbers, in_numbers, place_within}
+use Rattle.mach_laws.proofs.Walking.{place_is, among_numbers, in_numbers, place_within, ending_leads}
 use Rattle.mach_laws.proofs.Places.{ending_short, ending_of, args_in, contains_of}
 use Rattle.mach_laws.proofs.Among.{left_among, among_of}
 use Rattle.split_rules.specs.Writes.{Comes, from_entry, from_write, past, past_raise}
@@ -28,7 +28,7 @@ use Rattle.spill.specs.Copies.{is_reloaded, reloads_at, spills_at, instr_at}
 use Rattle.spill.specs.Graphs.{reloaded_among}
 use Rattle.spill.specs.Tables.{Wanted, here, on, aside, AreTables}
 use Rattle.spill.specs.declared.tables.Tables.{Tables}
-use Rattle.liveness.proofs.Steps.{Steps, steps_of, steps_to, leads_ending}
+use Rattle.liveness.proofs.Steps.{Steps, steps_of, steps_to}
 use Rattle.spill.proofs.WantedFlow.{in_reloaded, reloaded_in, reloaded_here, here_reloaded}
 use Rattle.bs_words.proofs.Truths.{not_both}
 
@@ -232,7 +232,7 @@ module _ (m : Mach) (t : Tables) (are : AreTables m t) (formed : WellFormed m) w
   begun_spills k n len s at_start = absurd (not_whole s refl)
   begun_spills k n {next} len s (at_instr {i = j} {to = to} stands w l v) =
       let q = place_of m to in
-      let ending = leads_ending m (ending_of stands) l in
+      let ending = ending_leads l (ending_of stands) in
       subst (λ k. at_length k (spills_here n) m.code ≡ true) len
       (at_is (spills_here n) m.code stands
       ∙ and_true (is_in n (numbers (written m j))) (some_has wanted n (next_places m (j ∷ next)))

@@ -1,6 +1,6 @@
 -- What reaches a place in the graph of lost registers is what is lost there.
 use Rattle.std.proofs.Common.{◌≡◌, ℕ, zero, suc, ◌<◌, ◌≤◌, Bool, ◌⊎◌, inl, inr, ⊎_elim, List, [], ◌∷◌, ◌++◌, map, length, drop, refl, sym, ap, ◌∙◌, subst, arith}
-use Rattle.std.proofs.lemmas.List.Elements.{Contains-append_left, Contains-append_right, All-contains}
+use Rattle.std.proofs.lemmas.List.Elements.{Contains-append_left, Contains-append_right, All-contains, All-nil, Contains-append_cases}
 use Rattle.std.specs.List.{All, Contains}
 use Rattle.std.specs.Prelude.{slice_index_or}
 use Rattle.bs_words.specs.Contents.{contents}
@@ -20,12 +20,11 @@ use Rattle.mach_ir.specs.declared.mach.Mach.{Mach}
 use Rattle.mach_laws.specs.Expand.{Ending}
 use Rattle.mach_laws.specs.Graph.{place_of, numbers, next_places, numbers_read, numbers_written, IsFlowOf}
 use Rattle.mach_laws.proofs.Places.{ending_next, stands_of, ending_of}
-use Rattle.mach_laws.proofs.Walking.{place_is, among_numbers, in_numbers, place_back, place_within, ending_place}
-use Rattle.liveness.proofs.Bounds.{no_items, split_in}
+use Rattle.mach_laws.proofs.Walking.{place_is, among_numbers, in_numbers, place_back, place_within, ending_place, ending_leads}
 use Rattle.spill_rules.specs.Chosen.{lives, Lost, over, still}
 use Rattle.spill.specs.Graphs.{IsMadeBefore, IsLostNode, AreLostNodes, at_end, before}
 use Rattle.spill.specs.Tables.{AreLost}
-use Rattle.liveness.proofs.Steps.{each, destroys_on, Steps, steps_of, steps_to, leads_ending, IsWithin, next_within, reads_small, writes_small, live_small}
+use Rattle.liveness.proofs.Steps.{each, destroys_on, Steps, steps_of, steps_to, IsWithin, next_within, reads_small, writes_small, live_small}
 
 module _ (m : Mach) (live : LiveMap) (exact : IsLiveMap m live) (old : flow.Flow) (is : IsFlowOf m old) (formed : flows.WellFormed old) where
   abbrev rows : List (List Bool)
@@ -137,8 +136,8 @@ module _ (m : Mach) (live : LiveMap) (exact : IsLiveMap m live) (old : flow.Flow
     -- ---- and back
 
     lost_ends : {n : ℕ} {rest : List Instr} → Lost m n rest → Ending rest m.code
-    lost_ends (over (lives s d w l v)) = leads_ending m (ending_of s) l
-    lost_ends (still h a w l) = leads_ending m (lost_ends h) l
+    lost_ends (over (lives s d w l v)) = ending_leads l (ending_of s)
+    lost_ends (still h a w l) = ending_leads l (lost_ends h)
 
     goes_to : {i : Instr} {next to : List Instr} (p : ℕ) → Ending (i ∷ next) m.code → Leads m i next to → p ≤ length m.code → drop p m.code ≡ to →
         Contains (g.next (place_of m (i ∷ next))) p
@@ -189,7 +188,7 @@ module _ (m : Mach) (live : LiveMap) (exact : IsLiveMap m live) (old : flow.Flow
             inr (
               λ c.
                   ⊎_elim (λ z. r (among_numbers n i.args z)) (λ z. w (among_numbers n (written m i) z))
-                  (split_in (numbers i.args) (numbers (written m i)) n (subst (λ xs. Contains xs n) ends c)),
+                  (Contains-append_cases (numbers i.args) (numbers (written m i)) n (subst (λ xs. Contains xs n) ends c)),
               b.1,
             ),
           ),
@@ -222,7 +221,7 @@ module _ (m : Mach) (live : LiveMap) (exact : IsLiveMap m live) (old : flow.Flow
             record {
               next = subst (λ c. All (λ q. q < c) (contents (a.node).next)) same_count
                   (subst (IsWithin m old is formed) (sym n.next) (next_within m old is formed k));
-              aside = subst (All (λ q. q < length (contents f.places))) (sym n.aside) (no_items (λ q. q < length (contents f.places)));
+              aside = subst (All (λ q. q < length (contents f.places))) (sym n.aside) (All-nil (λ q. q < length (contents f.places)));
               reads = subst (λ b. All (λ r. r < b) (contents (a.node).reads)) (sym bound)
                   (each (λ r. r < old.bound) (contents (a.node).reads) (λ r c. small (drop k m.code) r ((n.reads r).0 c)));
               writes = subst (λ b. All (λ r. r < b) (contents (a.node).writes)) (sym bound)
@@ -231,7 +230,7 @@ module _ (m : Mach) (live : LiveMap) (exact : IsLiveMap m live) (old : flow.Flow
                   (λ r c.
                   ⊎_elim (All-contains (λ r. r < old.bound) (numbers_read (drop k m.code)) r (reads_small m old is formed k))
                   (All-contains (λ r. r < old.bound) (numbers_written m (drop k m.code)) r (writes_small m old is formed k))
-                  (split_in (numbers_read (drop k m.code)) (numbers_written m (drop k m.code)) r c))));
+                  (Contains-append_cases (numbers_read (drop k m.code)) (numbers_written m (drop k m.code)) r c))));
             }
           where
             small : (rest : List Instr) (r : ℕ) → IsMadeBefore m rows old.bound rest r → r < old.bound

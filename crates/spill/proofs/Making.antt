@@ -1,21 +1,14 @@
 -- The numbers that live over an instruction, one after the other.
 use Rattle.std.proofs.Common.{◌≡◌, ℕ, ◌+◌, ◌<◌, Bool, ◌⊎◌, inl, inr, ⊎_elim, List, [], ◌∷◌, ◌++◌, sym, subst, arith}
-use Rattle.std.proofs.lemmas.List.Elements.{Contains-append_left, Contains-append_right}
+use Rattle.std.proofs.lemmas.List.Elements.{Contains-append_left, Contains-append_right, Contains-append_cases}
 use Rattle.std.proofs.lemmas.Bool.{cases_lt}
 use Rattle.std.specs.List.{Contains}
-use Rattle.liveness.proofs.Bounds.{split_in}
 use Rattle.mach_ir.specs.Meaning.{Everything, destroyed_by}
 use Rattle.mach_ir.specs.declared.mach.MachOp.{MachOp}
 use Rattle.bs_words.proofs.Lists.{none_in, first_in, in_cons}
 use Rattle.spill.specs.Graphs.{LivesAt, AreLivingOver, AreMade}
 
 module _ (rows : List (List Bool)) (after : ℕ) (written : List ℕ) where
-  pub over_none : (found : List ℕ) → found ≡ [] → AreLivingOver rows after 0 written found
-  over_none found e = λ n. (
-    λ c. absurd (none_in n (subst (λ xs. Contains xs n) e c)),
-    λ h. let lt = h.0 in absurd (omega (arith, lt)),
-  )
-
   below_or : (n k : ℕ) → n < k + 1 → (n < k) ⊎ (n ≡ k)
   below_or n k lt = ⊎_elim (λ h. inl h) (λ h. inr (omega (arith, lt, h))) (cases_lt n k)
 
@@ -31,7 +24,7 @@ module _ (rows : List (List Bool)) (after : ℕ) (written : List ℕ) where
     λ c.
         ⊎_elim (λ h. let x = (old n).0 h in (more n k x.0, x.1))
         (λ h. ⊎_elim (λ s. (last n k s, subst (LivesAt rows after written) s lives)) (λ d. absurd (none_in n d)) (in_cons k n [] h))
-        (split_in found (k ∷ []) n (subst (λ xs. Contains xs n) e c)),
+        (Contains-append_cases found (k ∷ []) n (subst (λ xs. Contains xs n) e c)),
     λ h.
         subst (λ xs. Contains xs n) (sym e)
         (⊎_elim (λ lt. Contains-append_left found (k ∷ []) n ((old n).1 (lt, h.1)))

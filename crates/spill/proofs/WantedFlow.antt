@@ -1,6 +1,6 @@
 -- What is live in the graph of wanted registers is what is wanted.
 use Rattle.std.proofs.Common.{◌≡◌, ℕ, zero, suc, ◌<◌, Bool, true, false, cond, ◌&&◌, inl, inr, ⊎_elim, List, [], ◌∷◌, length, drop, refl, sym, ap, ◌∙◌, subst, arith}
-use Rattle.std.proofs.lemmas.List.Elements.{All-contains}
+use Rattle.std.proofs.lemmas.List.Elements.{All-contains, All-nil}
 use Rattle.std.specs.List.{All, Contains}
 use Rattle.std.proofs.lemmas.Bool.{and_parts}
 use Rattle.bs_bits.specs.Set.{has}
@@ -18,16 +18,15 @@ use Rattle.mach_ir.specs.declared.mach.Instr.{Instr}
 use Rattle.mach_ir.specs.declared.mach.Mach.{Mach}
 use Rattle.mach_laws.specs.Expand.{Ending}
 use Rattle.mach_laws.specs.Graph.{place_of, numbers, next_places, raise_places, numbers_read, numbers_written, IsFlowOf}
-use Rattle.mach_laws.proofs.Walking.{place_is, among_numbers, in_numbers, place_within, ending_place}
+use Rattle.mach_laws.proofs.Walking.{place_is, among_numbers, in_numbers, place_within, ending_place, ending_leads, ending_raises}
 use Rattle.mach_laws.proofs.Places.{stands_of, ending_of, is_unset}
 use Rattle.mach_laws.proofs.Among.{among_of}
 use Rattle.liveness.specs.Nodes.{Uses, AreNodes}
-use Rattle.liveness.proofs.Bounds.{no_items}
 use Rattle.liveness.proofs.Graph.{count_is, part_is, nodes_within}
 use Rattle.spill_rules.specs.Chosen.{Lost, IsReloaded}
 use Rattle.spill.specs.Graphs.{reloaded_among, reloaded_before, wanted_uses}
 use Rattle.spill.specs.Tables.{Wanted, here, on, aside, AreLost, AreWanted}
-use Rattle.liveness.proofs.Steps.{each, Steps, steps_of, steps_to, Raised, raised_of, raises_to, leads_ending, raise_ending, reads_small, writes_small}
+use Rattle.liveness.proofs.Steps.{each, Steps, steps_of, steps_to, Raised, raised_of, raises_to, reads_small, writes_small}
 use Rattle.mach_ir.specs.Places.{is_open}
 
 -- ---- operands that are reloaded
@@ -160,7 +159,7 @@ module _ (m : Mach) (lost : List (List Bool)) (are : AreLost m lost) (old : flow
     subst (λ xs. Contains xs n) (sym (reads_at p ∙ ap (reloaded_before m lost) e)) (here_reloaded m lost are h),
   )
   wanted_to {n} (on {i = i} {next = next} {to = to} w l v) p e =
-      let h = wanted_to v (place_of m to) (place_is m (leads_ending m (ending_place m p e) l)) in (
+      let h = wanted_to v (place_of m to) (place_is m (ending_leads l (ending_place m p e))) in (
         suc h.0,
         inl (
           λ c. w (among_numbers n (written m i) (subst (λ xs. Contains xs n) (writes_at p ∙ ap (numbers_written m) e) c)),
@@ -172,7 +171,7 @@ module _ (m : Mach) (lost : List (List Bool)) (are : AreLost m lost) (old : flow
         ),
       )
   wanted_to {n} (aside {i = i} {next = next} {to = to} r v) p e =
-      let h = wanted_to v (place_of m to) (place_is m (raise_ending m r)) in (
+      let h = wanted_to v (place_of m to) (place_is m (ending_raises r)) in (
         suc h.0,
         inr (
           place_of m to,
@@ -193,7 +192,7 @@ module _ (m : Mach) (lost : List (List Bool)) (are : AreLost m lost) (old : flow
   -- ---- the graph is one
 
   reloaded_small : (rest : List Instr) → All (λ n. n < old.bound) (numbers_read rest) → All (λ n. n < old.bound) (reloaded_before m lost rest)
-  reloaded_small [] h = no_items (λ n. n < old.bound)
+  reloaded_small [] h = All-nil (λ n. n < old.bound)
   reloaded_small (i ∷ next) h =
       each (λ n. n < old.bound) (reloaded_among lost (place_of m (i ∷ next)) i.args)
       (λ n c.

@@ -14,7 +14,7 @@ use Rattle.mach_ir.specs.Forms.{HasForm}
 use Rattle.mach_ir.specs.Meaning.{code_at}
 use Rattle.mach_ir.specs.Placed.{WellPlaced}
 use Rattle.mach_ir.specs.Seats.{argument_places, InOrder, AreSeated, in_order, places_of, Seated}
-use Rattle.mach_ir.specs.Walks.{Among, OneOf, this, other, targets, goes, Leads, Writes, Live, read, on, aside, IsRegister, is_param, is_in_code, Stands, here, below}
+use Rattle.mach_ir.specs.Walks.{Among, OneOf, targets, goes, Leads, Writes, Live, read, on, aside, IsRegister, is_param, is_in_code, Stands, here, below}
 use Rattle.mach_ir.specs.declared.op.CopyKind.TheVariants as copy
 use Rattle.mach_ir.specs.declared.op.Op.{Op}
 use Rattle.mach_ir.specs.declared.reg.Reg.{Reg}
@@ -24,7 +24,7 @@ use Rattle.mach_ir.specs.declared.mach.Instr.{Instr}
 use Rattle.mach_ir.specs.declared.mach.Mach.{Mach}
 use Rattle.mach_laws.specs.Expand.{expand, Ending}
 use Rattle.mach_laws.proofs.Places.{ending_next, ending_short, ending_of, args_in, contains_of}
-use Rattle.mach_laws.proofs.Walking.{drop_ending}
+use Rattle.mach_laws.proofs.Walking.{drop_ending, only_on}
 use Rattle.mach_laws.proofs.Among.{number_among, among_of}
 use Rattle.split_rules.proofs.Known.{machine_open, was}
 use Rattle.split_rules.proofs.Result.{comes_write}
@@ -91,10 +91,6 @@ goes_on r (formed_op {f = f} {args = args} {results = results} h) c =
     op_on f (comps args) (comps results) h (λ e. no_result results r e c)
 goes_on r (formed_mark {f = f} {args = args} {results = results} h) c =
     mark_on f (comps args) (comps results) h (λ e. no_result results r e c)
-
-pub only_on : (t : Target) → OneOf t (On ∷ []) → t ≡ On
-only_on t this = refl
-only_on t (other o) = elim o [ ]
 
 -- ---- where a write begins a walk
 

@@ -2,11 +2,10 @@
 use Rattle.std.proofs.Common.{◌≡◌, ◌≢◌, ℕ, ◌<◌, ◌≤◌, Bool, true, false, cond, ◌⊎◌, inl, inr, ⊎_elim, List, [], ◌∷◌, ◌++◌, length, refl, sym, ap, ◌∙◌, subst, arith, append_assoc}
 use Rattle.std.specs.List.{All, AllPairs, Contains}
 use Rattle.std.specs.Prelude.{slice_index_or}
-use Rattle.std.proofs.lemmas.List.Elements.{Contains-get_or, All-contains}
+use Rattle.std.proofs.lemmas.List.Elements.{Contains-get_or, All-contains, Contains-append_right}
 use Rattle.std.proofs.lemmas.Bool.{both_ways}
 use Rattle.mach_ir.specs.Acts.{On, At}
-use Rattle.mach_ir.specs.Forms as form
-use Rattle.mach_ir.specs.Formed.{IsFormed, formed_op, AreDistinct, labels_of, labels_in, HasPlace, place_here, place_below, HasHandler, handler_here, handler_below, LeadsTo, LabelsStand, tries_left, leaves, IsNested, CasesAgree, WellFormed}
+use Rattle.mach_ir.specs.Formed.{IsFormed, AreDistinct, labels_in, HasPlace, place_here, place_below, HasHandler, handler_here, handler_below, LeadsTo, LabelsStand, tries_left, leaves, IsNested, CasesAgree, WellFormed}
 use Rattle.mach_ir.specs.Meaning.{after_label, from_handler, tries_at, tries_past}
 use Rattle.mach_ir.specs.Placed.{WellPlaced}
 use Rattle.mach_ir.specs.Walks.{OneOf, other, may_raise, Stands, here, below, IsRegister}
@@ -16,16 +15,16 @@ use Rattle.mach_ir.specs.declared.op.Leaving.TheVariants as leaving
 use Rattle.mach_ir.specs.declared.op.Op.TheVariants as op
 use Rattle.mach_ir.specs.declared.reg.Reg.{Reg}
 use Rattle.mach_ir.specs.declared.mach.Mark.TheVariants as mark
-use Rattle.mach_ir.specs.declared.mach.MachOp.{MachOp}
 use Rattle.mach_ir.specs.declared.mach.MachOp.TheVariants as mach
 use Rattle.mach_ir.specs.declared.mach.Instr.{Instr}
 use Rattle.mach_ir.specs.declared.mach.Mach.{Mach}
 use Rattle.mach_laws.specs.Expand.{expand}
-use Rattle.mach_laws.proofs.Places.{label_expand, handler_expand, tries_expand, contains_of, stands_in}
-use Rattle.bs_words.proofs.Lists.{none_in, first_in, later_in, in_cons}
+use Rattle.mach_laws.proofs.Places.{label_expand, handler_expand, tries_expand, contains_of, stands_in, place_behind, handler_behind}
+use Rattle.mach_laws.proofs.InPlace.{same_head}
+use Rattle.bs_words.proofs.Lists.{none_in, first_in, in_cons}
 use Rattle.spill_rules.specs.Spilled.{Plan, in_slot, copied, reload, spill, reloads_of, spills_of, operands_of, results_of, spilled_instr, spilled, IsPlan}
 use Rattle.spill_rules.proofs.Kept.{Which, own, slotted, was_register, slots_apart}
-use Rattle.spill_rules.proofs.Text.{keeps_marks}
+use Rattle.spill_rules.proofs.Text.{keeps_marks, copy_formed, copy_no_mark}
 use Rattle.spill_rules.proofs.Whole.{named_in}
 
 module _ (plan : Plan) where
@@ -62,15 +61,6 @@ module _ (plan : Plan) where
       cond_tries (plan.spills k r.number) (spill plan r ∷ spills_of plan k rs) (spills_of plan k rs) zs (tries_spills k rs zs)
       (tries_spills k rs zs)
 
-  same_head : (i : Instr) (xs ys : List Instr) → labels_in xs ≡ labels_in ys → labels_in (i ∷ xs) ≡ labels_in (i ∷ ys)
-  same_head i xs ys e = by i.op i.args i.results
-    where
-      by : (g : MachOp) (args results : List Reg) →
-          labels_in (record { op = g; args = args; results = results } ∷ xs)
-          ≡ labels_in (record { op = g; args = args; results = results } ∷ ys)
-      by (mach.Op g) args results = e
-      by (mach.Mark g) args results = ap (λ ls. labels_of g ++ ls) e
-
   -- the code of an instruction before other code
   laid_out : (k : ℕ) (i : Instr) (zs : List Instr) →
       f k i ++ zs ≡ reloads_of plan k (operands_of i) ++ (i ∷ (spills_of plan k (results_of i) ++ zs))
@@ -86,26 +76,18 @@ module _ (plan : Plan) where
 
   -- ---- places and handlers
 
-  place_left : {l : ℕ} (xs ys : List Instr) → HasPlace l ys → HasPlace l (xs ++ ys)
-  place_left [] ys h = h
-  place_left (x ∷ xs) ys h = place_below (place_left xs ys h)
-
-  handler_left : {l : ℕ} (xs ys : List Instr) → HasHandler l ys → HasHandler l (xs ++ ys)
-  handler_left [] ys h = h
-  handler_left (x ∷ xs) ys h = handler_below (handler_left xs ys h)
-
   place_there : {l : ℕ} {code : List Instr} → HasPlace l code → HasPlace l (expand f code)
   place_there {l} (place_here {i = i} {is = is} e) =
       subst (HasPlace l) (sym (laid_out (length is) i (expand f is)))
-      (place_left (reloads_of plan (length is) (operands_of i)) (i ∷ (spills_of plan (length is) (results_of i) ++ expand f is)) (place_here e))
-  place_there {l} (place_below {i = i} {is = is} h) = place_left (f (length is) i) (expand f is) (place_there h)
+      (place_behind (reloads_of plan (length is) (operands_of i)) (i ∷ (spills_of plan (length is) (results_of i) ++ expand f is)) (place_here e))
+  place_there {l} (place_below {i = i} {is = is} h) = place_behind (f (length is) i) (expand f is) (place_there h)
 
   handler_there : {l : ℕ} {code : List Instr} → HasHandler l code → HasHandler l (expand f code)
   handler_there {l} (handler_here {i = i} {is = is} e) =
       subst (HasHandler l) (sym (laid_out (length is) i (expand f is)))
-      (handler_left (reloads_of plan (length is) (operands_of i)) (i ∷ (spills_of plan (length is) (results_of i) ++ expand f is))
+      (handler_behind (reloads_of plan (length is) (operands_of i)) (i ∷ (spills_of plan (length is) (results_of i) ++ expand f is))
       (handler_here e))
-  handler_there {l} (handler_below {i = i} {is = is} h) = handler_left (f (length is) i) (expand f is) (handler_there h)
+  handler_there {l} (handler_below {i = i} {is = is} h) = handler_behind (f (length is) i) (expand f is) (handler_there h)
 
   -- ---- what is where
 
@@ -218,21 +200,18 @@ module _ (m : Mach) (plan : Plan) (formed : WellFormed m) (placed : WellPlaced m
         forward = λ i next s l o e.
             let w = main_of plan (no_label plan l i o) (was_main plan m.code i next s) in
             subst (HasPlace l) w.same
-            (place_left plan (spills_of plan (length w.next) (results_of i)) (expand g w.next)
+            (place_behind (spills_of plan (length w.next) (results_of i)) (expand g w.next)
             (place_there plan ((formed.labels).forward i w.next w.stands l o e)));
         handlers = λ i next s l end e.
             let w = main_of plan (λ c. not_leave l end i e c) (was_main plan m.code i next s) in
             subst (HasHandler l) w.same
-            (handler_left plan (spills_of plan (length w.next) (results_of i)) (expand g w.next)
+            (handler_behind (spills_of plan (length w.next) (results_of i)) (expand g w.next)
             (handler_there plan ((formed.labels).handlers i w.next w.stands l end e)));
       }
     where
-      op_mark : (kind : CopyKind) (from to : Reg) (k : _) → (copied kind from to).op ≡ mach.Mark k → ⊥
-      op_mark kind from to k e = cc
-
       not_leave : (l end : ℕ) (i : Instr) → i.op ≡ mach.Mark (mark.Leave l end) → IsCopy plan i → ⊥
       not_leave l end i e c =
-          let k = copies_what plan c in op_mark k.0 k.1 k.2 (mark.Leave l end) (sym (ap (λ (i : Instr). i.op) k.3) ∙ e)
+          let k = copies_what plan c in copy_no_mark k.0 k.1 k.2 (mark.Leave l end) (sym (ap (λ (i : Instr). i.op) k.3) ∙ e)
 
   nested : IsNested q
   nested =
@@ -261,12 +240,9 @@ module _ (m : Mach) (plan : Plan) (formed : WellFormed m) (placed : WellPlaced m
             main_tries plan w ∙ (formed.nested).at_end i w.next w.stands e;
       }
     where
-      op_mark : (kind : CopyKind) (from to : Reg) (k : _) → (copied kind from to).op ≡ mach.Mark k → ⊥
-      op_mark kind from to k e = cc
-
       no_mark : (i : Instr) (k : _) → i.op ≡ mach.Mark k → IsCopy plan i → ⊥
       no_mark i k e c =
-          let h = copies_what plan c in op_mark h.0 h.1 h.2 k (sym (ap (λ (i : Instr). i.op) h.3) ∙ e)
+          let h = copies_what plan c in copy_no_mark h.0 h.1 h.2 k (sym (ap (λ (i : Instr). i.op) h.3) ∙ e)
 
       no_raise : (i : Instr) → may_raise i.op ≡ true → IsCopy plan i → ⊥
       no_raise i r c = both_ways false refl (ap (λ (i : Instr). may_raise i.op) (sym (copies_what plan c).3) ∙ r)
@@ -283,19 +259,12 @@ module _ (m : Mach) (plan : Plan) (formed : WellFormed m) (placed : WellPlaced m
       (λ e.
       subst (Contains (expand g (j ∷ is))) e
       (subst (λ xs. Contains xs j) (sym (laid_out plan (length is) j (expand g is)))
-      (right_of (reloads_of plan (length is) (operands_of j)) (j ∷ (spills_of plan (length is) (results_of j) ++ expand g is)) j
+      (Contains-append_right (reloads_of plan (length is) (operands_of j)) (j ∷ (spills_of plan (length is) (results_of j) ++ expand g is)) j
       (first_in j (spills_of plan (length is) (results_of j) ++ expand g is)))))
-      (λ d. right_of (g (length is) j) (expand g is) i (main_in is i d)) (in_cons j i is c)
-    where
-      right_of : (xs ys : List Instr) (y : Instr) → Contains ys y → Contains (xs ++ ys) y
-      right_of [] ys y c = c
-      right_of (x ∷ xs) ys y c = later_in x y (xs ++ ys) (right_of xs ys y c)
+      (λ d. Contains-append_right (g (length is) j) (expand g is) i (main_in is i d)) (in_cons j i is c)
 
   mark_in : (k : _) (j : Instr) → Contains q.code j → j.op ≡ mach.Mark k → Contains m.code j
-  mark_in k j c e = named_in m plan formed placed is (λ h. h ≡ mach.Mark k) (λ kind from to h. no_copy kind from to h) m.code j c e
-    where
-      no_copy : (kind : CopyKind) (from to : Reg) → (copied kind from to).op ≡ mach.Mark k → ⊥
-      no_copy kind from to e = cc
+  mark_in k j c e = named_in m plan formed placed is (λ h. h ≡ mach.Mark k) (λ kind from to h. copy_no_mark kind from to k h) m.code j c e
 
   cases : CasesAgree q
   cases =
@@ -315,9 +284,6 @@ module _ (m : Mach) (plan : Plan) (formed : WellFormed m) (placed : WellPlaced m
       let j = slice_index_or q.code k d in
       let s = stands_in q.code j (Contains-get_or q.code k d lt) in
       ⊎_elim (λ c. let k = copies_what plan c in subst P (sym k.3) (copies_so k.0 k.1 k.2)) (λ w. mains j (contains_of w.stands)) (was_main plan m.code j s.0 s.1)
-
-  copy_formed : (kind : CopyKind) (from to : Reg) → IsFormed (copied kind from to)
-  copy_formed kind from to = formed_op form.copies
 
   pub number_is : (r k : Reg) → IsRegister q r → IsRegister q k → r.number ≡ k.number → r ≡ k
   number_is r k i j e =

@@ -5,17 +5,16 @@ use Rattle.std.proofs.lemmas.Bool.{cases_Bool, eq-eqb, eqb-true, both_ways}
 use Rattle.std.specs.List.{Contains}
 use Rattle.std.specs.Prelude.{nat_eq}
 use Rattle.std.proofs.lemmas.Option.{none-some}
-use Rattle.std.proofs.lemmas.List.Elements.{All-contains}
 use Rattle.bs_words.specs.Fits.{fits, type_of_comp}
 use Rattle.bs_words.specs.declared.types.Loc.TheVariants as loc
 use Rattle.bs_words.specs.declared.values.Value.{Value}
 use Rattle.bs_words.proofs.Lists.{none_in, first_in, later_in, in_cons, head_same, tail_same}
 use Rattle.mach_ir.specs.Acts.{Around, Target, On, At, Landing, AtLabel, AtHandler, Replaces}
-use Rattle.mach_ir.specs.Formed.{IsFormed, WellFormed}
+use Rattle.mach_ir.specs.Formed.{WellFormed}
 use Rattle.mach_ir.specs.Placed.{WellPlaced}
 use Rattle.mach_ir.specs.Runs.{Place, entered}
 use Rattle.mach_ir.specs.Meaning.{Held, File, put, put_all, clear, killed, written, values, past_frame, passes_frame, after_label, at_handler, code_at, tries_at, landing_code}
-use Rattle.mach_ir.specs.Walks.{Among, first, later, OneOf, targets, may_raise, goes, raises, Live, read, on, aside, LiveAcross, across_step, across_raise, IsRegister, is_param, is_colour, is_in_code, InCode, in_args, in_results, further, Stands, Writes}
+use Rattle.mach_ir.specs.Walks.{Among, first, later, OneOf, targets, may_raise, goes, raises, Live, read, on, aside, LiveAcross, IsRegister, is_param, is_colour, is_in_code, InCode, in_args, in_results, further, Stands, Writes}
 use Rattle.mach_ir.specs.Keeps.{ValsWritten, OriginsAgree, wrote_unless, Does}
 use Rattle.mach_ir.specs.declared.op.CopyKind.TheVariants as copy
 use Rattle.mach_ir.specs.declared.reg.Reg.{Reg}
@@ -26,11 +25,12 @@ use Rattle.mach_laws.proofs.General as general
 use Rattle.mach_laws.proofs.General.{at}
 use Rattle.mach_laws.proofs.Leads.{IsTry, MayLand, lands_at_label, lands_at_handler, try_on}
 use Rattle.mach_laws.proofs.Level as level
-use Rattle.mach_laws.proofs.Places.{ending_next, ending_label, ending_land, label_expand, stands_of, args_in, results_in, contains_of, land_expand}
+use Rattle.mach_laws.proofs.Places.{ending_next, ending_label, ending_land, label_expand, stands_of, args_in, results_in, land_expand, form_of}
 use Rattle.mach_laws.proofs.Simulate.{Agrees}
 use Rattle.mach_laws.proofs.Among.{left_among, right_among, split_among, number_among, among_of, unless_among}
 use Rattle.mach_laws.proofs.Files.{put_other}
 use Rattle.mach_laws.proofs.Raised.{IsRaised, IsSilent, label_silent, try_silent, told}
+use Rattle.mach_laws.proofs.Walking.{across_live}
 use Rattle.split_rules.proofs.Known.{values_same, past_same, cleared, not_cleared, among_or_not, put_here, PutsBoth, put_both}
 use Rattle.split_rules.specs.Writes.{from_entry, past, past_raise}
 use Rattle.liveness.proofs.Bounds.{killed_is_colour}
@@ -62,9 +62,6 @@ module _ (m : Mach) (plan : Plan) (formed : WellFormed m) (placed : WellPlaced m
 
   abbrev Stored : ℕ → List Instr → Type 0
   Stored = IsStored m plan formed placed is
-
-  form_of : {i : Instr} {next : List Instr} → Ending (i ∷ next) m.code → IsFormed i
-  form_of {i} e = All-contains IsFormed m.code i formed.instrs (contains_of (stands_of e))
 
   -- ---- registers
 
@@ -631,7 +628,7 @@ module _ (m : Mach) (plan : Plan) (formed : WellFormed m) (placed : WellPlaced m
         Past y d e to = general.Past c m q f (keeps_marks plan) is_code Suit Round i i next post y y d e to
 
         no_post : IsSilent m i → post ≡ []
-        no_post s = ap (spills_of plan (length next)) (all_results (form_of ending) ∙ none i.results (λ n z. s n (left_among i.results (killed m i) z)))
+        no_post s = ap (spills_of plan (length next)) (all_results (form_of formed ending) ∙ none i.results (λ n z. s n (left_among i.results (killed m i) z)))
           where
             none : (rs : List Reg) → ((n : ℕ) → Among n rs → ⊥) → rs ≡ []
             none [] h = refl
@@ -693,7 +690,7 @@ module _ (m : Mach) (plan : Plan) (formed : WellFormed m) (placed : WellPlaced m
               },
             ))
         past_to vs d e p y (At l) o =
-            let silent = label_silent m (form_of ending) l o in
+            let silent = label_silent m (form_of formed ending) l o in
             let rel : Agrees m (written m i) (at (after_label l m.code) d y) → Holds (after_label l m.code) d p.file =
             λ (agreed : Agrees m (written m i) (at (after_label l m.code) d y)).
             record {
@@ -714,7 +711,7 @@ module _ (m : Mach) (plan : Plan) (formed : WellFormed m) (placed : WellPlaced m
         landed : (to : Landing) → MayLand i.op to → (y : Around) → Agrees m (written m i) (at (landing_code m.code (i ∷ next) to) a' y) →
             Holds (landing_code m.code (i ∷ next) to) a' b'
         landed (AtLabel l) (lands_at_label o) y agreed =
-            let silent = label_silent m (form_of ending) l o in
+            let silent = label_silent m (form_of formed ending) l o in
             record {
               itself = λ n v. still n (on (silent n) (goes (At l) o) v);
               slots = λ n v k. still_slot n (on (silent n) (goes (At l) o) v) (λ from z. k from (past z (silent n) (goes (At l) o)));
@@ -744,7 +741,7 @@ module _ (m : Mach) (plan : Plan) (formed : WellFormed m) (placed : WellPlaced m
 
         pushed : IsTry i.op → (y : Around) → Agrees m (written m i) (at next a' y) → Holds next a' b'
         pushed t y agreed =
-            let silent = try_silent m (form_of ending) t in
+            let silent = try_silent m (form_of formed ending) t in
             record {
               itself = λ n v. still n (on (silent n) (goes On (try_on i.op t)) v);
               slots = λ n v k.
@@ -762,11 +759,11 @@ module _ (m : Mach) (plan : Plan) (formed : WellFormed m) (placed : WellPlaced m
               lands = λ y to l s. lands to l y s;
               tries = tries_so;
               pushes = λ t. (
-                no_post (try_silent m (form_of ending) t),
+                no_post (try_silent m (form_of formed ending) t),
                 λ y agreed. (
                   (refl, pushed t y agreed),
                   agree_begins next (written m i) a' b' y (ending_next ending) (pushed t y agreed)
-                      (silent_none (try_silent m (form_of ending) t) y.raised),
+                      (silent_none (try_silent m (form_of formed ending) t) y.raised),
                 ),
               );
             }
@@ -788,10 +785,6 @@ module _ (m : Mach) (plan : Plan) (formed : WellFormed m) (placed : WellPlaced m
                   (comp_of w.which ∙ val) g.0 (g.1 ∙ none);
             }
           where
-            live_of : {n : ℕ} → LiveAcross m n i next → Live m n (i ∷ next)
-            live_of (across_step w l v) = on w l v
-            live_of (across_raise r v) = aside r v
-
             by : (r : Reg) (w : WasRegister r) → WasAcross m plan formed placed is r.number i next →
                 LiveAcross m (w.register).number i next × (a (w.register).number ≡ b r.number)
             by r w (itself_across v) = own_by w.which
@@ -799,9 +792,9 @@ module _ (m : Mach) (plan : Plan) (formed : WellFormed m) (placed : WellPlaced m
                 own_by : Which w.register r → LiveAcross m (w.register).number i next × (a (w.register).number ≡ b r.number)
                 own_by (own e) =
                     let n : w.register.number ≡ r.number = ap (λ (x : Reg). x.number) e in
-                    (subst (λ n. LiveAcross m n i next) (sym n) v, ap a n ∙ holds.itself r.number (live_of v))
+                    (subst (λ n. LiveAcross m n i next) (sym n) v, ap a n ∙ holds.itself r.number (across_live v))
                 own_by (slotted e) =
-                    let u = live_register m (live_of v) ending in
+                    let u = live_register m (across_live v) ending in
                     absurd (is.fresh u.0 u.1 w.register.number (ap (λ (x : Reg). x.number) e ∙ sym u.2))
             by r w (stored_across n s v k) = slot_by w.which
               where
@@ -809,7 +802,7 @@ module _ (m : Mach) (plan : Plan) (formed : WellFormed m) (placed : WellPlaced m
                 slot_by (own e) = absurd (is.fresh w.register w.among n (s ∙ sym (ap (λ (x : Reg). x.number) e)))
                 slot_by (slotted e) =
                     let same : n ≡ w.register.number = slots_apart n w.register.number (s ∙ sym (ap (λ (x : Reg). x.number) e)) in
-                    (subst (λ n. LiveAcross m n i next) same v, ap a (sym same) ∙ holds.slots n (live_of v) k ∙ ap b s)
+                    (subst (λ n. LiveAcross m n i next) same v, ap a (sym same) ∙ holds.slots n (across_live v) k ∙ ap b s)
 
       one : (i : Instr) (next : List Instr) (a b : File) (ending : Ending (i ∷ next) m.code) → Holds (i ∷ next) a b → (y : Around)
           (vs : List Value) → values a i.args ≡ Some vs →
@@ -830,7 +823,7 @@ module _ (m : Mach) (plan : Plan) (formed : WellFormed m) (placed : WellPlaced m
             passing = gone.passing;
             vals = vals_main i next a gone.file ending gone.holds y;
             reads = sym (values_same a gone.file i.args (λ n z. gone.holds.itself n (read z))) ∙ e;
-            told = told m (form_of ending) c.setting vs y;
+            told = told m (form_of formed ending) c.setting vs y;
             same = same_operation i next a gone.file ending gone.holds;
           })
 

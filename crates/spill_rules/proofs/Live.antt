@@ -2,19 +2,19 @@
 -- by each write that comes there.
 use Rattle.std.proofs.Common.{◌≡◌, ℕ, Bool, true, false, cond, ◌⊎◌, inl, inr, ⊎_elim, List, [], ◌∷◌, ◌++◌, length, refl, sym, ap, ◌∙◌, subst, append_assoc}
 use Rattle.std.specs.List.{Contains}
-use Rattle.std.proofs.lemmas.List.Elements.{All-contains}
 use Rattle.mach_ir.specs.Acts.{Target, On, At}
-use Rattle.mach_ir.specs.Formed.{IsFormed, WellFormed}
+use Rattle.mach_ir.specs.Formed.{WellFormed}
 use Rattle.mach_ir.specs.Meaning.{after_label, from_handler, code_at, tries_at, tries_past, killed}
 use Rattle.mach_ir.specs.Placed.{WellPlaced}
-use Rattle.mach_ir.specs.Walks.{Among, first, later, OneOf, this, other, targets, may_raise, goes, raises, Writes, Live, read, on, aside, LiveAcross, across_step, across_raise, is_colour}
+use Rattle.mach_ir.specs.Walks.{Among, first, later, OneOf, targets, may_raise, goes, raises, Writes, Live, read, on, aside, LiveAcross, across_step, across_raise, is_colour}
 use Rattle.mach_ir.specs.declared.reg.Reg.{Reg}
 use Rattle.mach_ir.specs.declared.mach.Instr.{Instr}
 use Rattle.mach_ir.specs.declared.mach.Mach.{Mach}
 use Rattle.mach_laws.specs.Expand.{expand, Ending}
-use Rattle.mach_laws.proofs.Places.{label_expand, handler_expand, ending_next, ending_label, ending_from_handler, stands_of, contains_of}
+use Rattle.mach_laws.proofs.Places.{label_expand, handler_expand, ending_next, ending_label, ending_from_handler, stands_of, form_of}
 use Rattle.mach_laws.proofs.Among.{left_among, split_among, number_among, among_of}
 use Rattle.mach_laws.proofs.Raised.{label_silent}
+use Rattle.mach_laws.proofs.Walking.{only_on}
 use Rattle.liveness.proofs.Bounds.{killed_is_colour}
 use Rattle.split_rules.proofs.Whole.{fixed_colours}
 use Rattle.split_rules.specs.Writes.{Comes, from_write, past, past_raise}
@@ -128,9 +128,6 @@ module _ (m : Mach) (plan : Plan) (formed : WellFormed m) (placed : WellPlaced m
 
   -- ---- what an instruction writes
 
-  form_of : {i : Instr} {next : List Instr} → Ending (i ∷ next) m.code → IsFormed i
-  form_of {i} e = All-contains IsFormed m.code i formed.instrs (contains_of (stands_of e))
-
   -- a stored register is not destroyed, and if it is written it is stored again
   pub stored_unwritten : (x n : ℕ) (i : Instr) (next to : List Instr) (t : Target) → Ending (i ∷ next) m.code → OneOf t (targets i.op) →
       plan.slot n ≡ x → IsStored n (code_at m.code next t) → NotThere x (length next) (results_of i) → Writes m i n → ⊥
@@ -139,7 +136,7 @@ module _ (m : Mach) (plan : Plan) (formed : WellFormed m) (placed : WellPlaced m
       ⊎_elim
       (λ a.
       let r = number_among i.results a in
-      not_there r.0 (subst (λ rs. Contains rs r.0) (sym (all_results (form_of ending))) r.1)
+      not_there r.0 (subst (λ rs. Contains rs r.0) (sym (all_results (form_of formed ending))) r.1)
       (subst (λ n. plan.spills (length next) n ≡ true) (sym r.2) spilt) (ap plan.slot r.2 ∙ e))
       (λ a.
       let r = number_among (killed m i) a in
@@ -178,10 +175,6 @@ module _ (m : Mach) (plan : Plan) (formed : WellFormed m) (placed : WellPlaced m
   abbrev Onward : ℕ → List Instr → Target → Type 0
   Onward x ys t = (s : Stage) → Laid s (code_at q.code ys t) → Says x s
 
-  only_on : (t : Target) → OneOf t (On ∷ []) → t ≡ On
-  only_on t this = refl
-  only_on t (other o) = elim o [ ]
-
   on_case : {x : ℕ} {j : Instr} {ys : List Instr} (s : Stage) (t : Target) → Laid s (j ∷ ys) → (Writes q j x → ⊥) → OneOf t (targets j.op) →
       Onward x ys t → Says x s
   on_case s t (begins {i = i} {next = next} ending h) w o ih = on_case (Reading i next (operands_of i)) t h w o ih
@@ -204,8 +197,8 @@ module _ (m : Mach) (plan : Plan) (formed : WellFormed m) (placed : WellPlaced m
       silent_results : (l : ℕ) → OneOf (At l) (targets i.op) → NotThere x (length next) (results_of i)
       silent_results l o = λ r c.
           absurd
-          (label_silent m (form_of ending) l o r.number
-          (left_among i.results (killed m i) (among_of r i.results (subst (λ rs. Contains rs r) (all_results (form_of ending)) c))))
+          (label_silent m (form_of formed ending) l o r.number
+          (left_among i.results (killed m i) (among_of r i.results (subst (λ rs. Contains rs r) (all_results (form_of formed ending)) c))))
 
       by : (t : Target) → OneOf t (targets i.op) → Onward x ys t → WasLive x (i ∷ next)
       by On o ih =
@@ -303,8 +296,8 @@ module _ (m : Mach) (plan : Plan) (formed : WellFormed m) (placed : WellPlaced m
       silent_results : (l : ℕ) → OneOf (At l) (targets i.op) → NotThere x (length next) (results_of i)
       silent_results l o = λ r c.
           absurd
-          (label_silent m (form_of ending) l o r.number
-          (left_among i.results (killed m i) (among_of r i.results (subst (λ rs. Contains rs r) (all_results (form_of ending)) c))))
+          (label_silent m (form_of formed ending) l o r.number
+          (left_among i.results (killed m i) (among_of r i.results (subst (λ rs. Contains rs r) (all_results (form_of formed ending)) c))))
 
       by : (t : Target) → OneOf t (targets i.op) → Onward x ys t → WasAcross x i next
       by On o ih = ⊎_elim (λ r. absurd (not_result r)) (λ g. went On o g.0 g.1) (ih (Storing i next (results_of i)) h)

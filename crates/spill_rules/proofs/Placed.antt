@@ -2,7 +2,7 @@
 use Rattle.std.proofs.Common.{◌≡◌, ◌≢◌, ℕ, ◌≤◌, Bool, true, false, cond, ◌⊎◌, inl, inr, ⊎_elim, List, [], ◌∷◌, length, refl, sym, ap, ◌∙◌, subst}
 use Rattle.std.specs.List.{Contains}
 use Rattle.bs_words.specs.declared.types.Loc.TheVariants as loc
-use Rattle.bs_words.proofs.Lists.{none_in, first_in, mapped}
+use Rattle.bs_words.proofs.Lists.{none_in, first_in}
 use Rattle.mach_ir.specs.Acts.{Target, On, At}
 use Rattle.mach_ir.specs.Formed.{WellFormed}
 use Rattle.mach_ir.specs.Meaning.{after_label, code_at}
@@ -15,7 +15,7 @@ use Rattle.mach_ir.specs.declared.mach.Instr.{Instr}
 use Rattle.mach_ir.specs.declared.mach.Mach.{Mach}
 use Rattle.mach_laws.specs.Expand.{expand, Ending, all}
 use Rattle.mach_laws.proofs.Places.{label_expand, ending_next, ending_label, ending_of, results_in, contains_of, stands_in}
-use Rattle.split_rules.proofs.Known.{was, machine_slot}
+use Rattle.split_rules.proofs.Known.{machine_slot, colour_place}
 use Rattle.spill_rules.specs.Spilled.{Plan, in_slot, results_of, has_results, spilled_instr, spilled, IsPlan}
 use Rattle.spill_rules.proofs.Formed.{IsCopy, is_reload, is_spill, IsMain, was_main}
 use Rattle.spill_rules.proofs.Kept.{Which, own, slotted, WasRegister, was_register}
@@ -161,17 +161,12 @@ module _ (m : Mach) (plan : Plan) (formed : WellFormed m) (placed : WellPlaced m
           let its = in_slot_of k v.origin s at in
           (sym mine.0 ∙ its.0, mine.1)
 
-  colour_place : (r : Reg) → Contains m.colours r → (n : ℕ) × (r.loc ≡ loc.Machine n)
-  colour_place r c =
-      let l = mapped (λ (r : Reg). r.loc) m.colours r c in
-      let w = was loc.Machine colours r.loc (subst (λ ls. Contains ls r.loc) ((placed.colours).each) l) in (w.what, sym w.same)
-
   least_of : (r k w : Reg) → Contains m.colours r → IsRegister m w → Which m plan formed placed is w k → k.loc ≡ r.loc →
       r.number ≤ k.number
   least_of r k w c i (own x) e =
       subst (λ n. r.number ≤ n) (number x) ((placed.colours).least r w c i (ap (λ (r : Reg). r.loc) x ∙ e))
   least_of r k w c i (slotted x) e =
-      let p = colour_place r c in absurd (machine_slot p.1 (sym e ∙ sym (ap (λ (r : Reg). r.loc) x)))
+      let p = colour_place placed r c in absurd (machine_slot p.1 (sym e ∙ sym (ap (λ (r : Reg). r.loc) x)))
 
   pub spilled_placed : WellPlaced (spilled plan m)
   spilled_placed =

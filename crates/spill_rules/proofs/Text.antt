@@ -4,7 +4,10 @@ use Rattle.std.specs.List.{Contains}
 use Rattle.bs_words.specs.declared.types.Comp.{Comp}
 use Rattle.bs_words.proofs.Lists.{none_in}
 use Rattle.mach_ir.specs.Formed.{comps, MarkHasForm, exit_form, if_form, else_form, switch_form, case_form, catch_form, with_form, try_form, leave_form, handler_form, end_form, IsFormed, formed_op, formed_mark}
+use Rattle.mach_ir.specs.Forms as form
+use Rattle.mach_ir.specs.Keeps.{NamesSymbol, NamesExternal}
 use Rattle.mach_ir.specs.Meaning.{has_label, is_handler_of}
+use Rattle.mach_ir.specs.declared.op.CopyKind.{CopyKind}
 use Rattle.mach_ir.specs.declared.reg.Reg.{Reg}
 use Rattle.mach_ir.specs.declared.mach.Mark.{Mark}
 use Rattle.mach_ir.specs.declared.mach.Mark.TheVariants as mark
@@ -13,7 +16,7 @@ use Rattle.mach_ir.specs.declared.mach.MachOp.TheVariants as mach
 use Rattle.mach_ir.specs.declared.mach.Instr.{Instr}
 use Rattle.mach_laws.specs.Expand.{KeepsMarks, NoLabel, no_label, not_labelled, NoHandler, no_handler, not_handled, bounds_try, NoBound, no_bound, not_bound}
 use Rattle.mach_laws.proofs.Instructions.{no_comps}
-use Rattle.spill_rules.specs.Spilled.{Plan, reload, spill, reloads_of, spills_of, has_operands, has_results, operands_of, results_of, spilled_instr}
+use Rattle.spill_rules.specs.Spilled.{Plan, copied, reload, spill, reloads_of, spills_of, has_operands, has_results, operands_of, results_of, spilled_instr}
 
 module _ (plan : Plan) where
   -- ---- no copy is a mark
@@ -198,3 +201,17 @@ operand_in i r c = by (has_operands i.op) c
     by : (b : Bool) → Contains (cond b i.args []) r → Contains i.args r
     by true c = c
     by false c = absurd (none_in r c)
+
+-- ---- what a copy is not
+
+pub copy_formed : (kind : CopyKind) (from to : Reg) → IsFormed (copied kind from to)
+copy_formed kind from to = formed_op form.copies
+
+pub copy_no_mark : (kind : CopyKind) (from to : Reg) (k : Mark) → (copied kind from to).op ≡ mach.Mark k → ⊥
+copy_no_mark kind from to k e = cc
+
+pub copy_no_symbol : (name : List ℕ) (kind : CopyKind) (from to : Reg) → NamesSymbol name (copied kind from to).op → ⊥
+copy_no_symbol name kind from to n = elim n [ ]
+
+pub copy_no_external : (row : _) (kind : CopyKind) (from to : Reg) → NamesExternal row (copied kind from to).op → ⊥
+copy_no_external row kind from to n = elim n [ ]

@@ -5,13 +5,14 @@ use Rattle.bs_words.specs.declared.types.Loc.TheVariants as loc
 use Rattle.bs_words.proofs.Lists.{none_in, first_in, later_in, in_cons}
 use Rattle.std.proofs.lemmas.List.{length-append}
 use Rattle.std.proofs.lemmas.Bool.{both_ways}
+use Rattle.std.proofs.lemmas.List.Elements.{Contains-append_cases}
 use Rattle.mach_ir.specs.Acts.{Target, On, At}
 use Rattle.mach_ir.specs.Formed.{WellFormed}
 use Rattle.mach_ir.specs.Keeps.{Keeps, IsLoose, is_open, HasSlot, NamesSymbol, NamesExternal, IsNamedIn}
 use Rattle.mach_ir.specs.Meaning.{after_label, from_handler, code_at, passes_frame, tries_at}
 use Rattle.mach_ir.specs.Placed.{WellPlaced}
 use Rattle.mach_ir.specs.Sizes.{operand_count, Size, HasSize}
-use Rattle.mach_ir.specs.Walks.{OneOf, this, other, targets, may_raise, goes, raises, Reached, at_entry, by_step, by_raise, LiveAcross, across_step, across_raise, Live, on, aside, IsRegister, NoAddrLive}
+use Rattle.mach_ir.specs.Walks.{OneOf, this, other, targets, may_raise, goes, raises, Reached, at_entry, by_step, by_raise, LiveAcross, IsRegister, NoAddrLive}
 use Rattle.mach_ir.specs.declared.op.CopyKind.{CopyKind}
 use Rattle.mach_ir.specs.declared.op.CopyKind.TheVariants as copy
 use Rattle.mach_ir.specs.declared.reg.Reg.{Reg}
@@ -21,11 +22,11 @@ use Rattle.mach_ir.specs.declared.mach.Mach.{Mach}
 use Rattle.mach_laws.specs.Expand.{expand, Ending, all}
 use Rattle.mach_laws.proofs.Grows.{held, instrs_expand, operands_expand, operands_append}
 use Rattle.mach_laws.proofs.Places.{label_expand, handler_expand, ending_label, ending_from_handler}
-use Rattle.liveness.proofs.Bounds.{split_in}
+use Rattle.mach_laws.proofs.Walking.{across_live}
 use Rattle.spill_rules.specs.Spilled.{Plan, in_slot, copied, reload, spill, reloads_of, spills_of, has_operands, has_results, operands_of, results_of, spilled_instr, spilled, IsPlan}
 use Rattle.spill_rules.proofs.Kept.{Which, own, slotted, WasRegister, was_register, origin_of, comp_of, slots_apart, does_spilled}
 use Rattle.spill_rules.proofs.Live.{Stage, Before, Reading, Storing, Laid, begins, reloads, passes_operand, main, spills, passes_result, ends, laid_of, laid_tries, WasAcross, itself_across, stored_across, across_back}
-use Rattle.spill_rules.proofs.Text.{keeps_marks}
+use Rattle.spill_rules.proofs.Text.{keeps_marks, copy_no_symbol, copy_no_external}
 use Rattle.spill_rules.proofs.Holding.{live_register}
 use Rattle.bs_words.proofs.Places.{same_slot}
 
@@ -76,17 +77,11 @@ module _ (m : Mach) (plan : Plan) (formed : WellFormed m) (placed : WellPlaced m
         (λ g.
         ⊎_elim (λ e. subst (Contains (i ∷ next)) e (first_in i next)) (λ d. absurd (in_spills (length next) (results_of i) j d n))
         (in_cons i j (spills_of plan (length next) (results_of i)) g))
-        (split_in (reloads_of plan (length next) (operands_of i)) (i ∷ spills_of plan (length next) (results_of i)) j h))
-        (λ h. later_in i j next (named_in next j h n)) (split_in (f (length next) i) (expand f next) j c)
+        (Contains-append_cases (reloads_of plan (length next) (operands_of i)) (i ∷ spills_of plan (length next) (results_of i)) j h))
+        (λ h. later_in i j next (named_in next j h n)) (Contains-append_cases (f (length next) i) (expand f next) j c)
 
     named_before : IsNamedIn Named q → IsNamedIn Named m
     named_before n = record { instr = n.instr; among = named_in m.code n.instr n.among n.named; named = n.named }
-
-  no_symbol : (name : List ℕ) (kind : CopyKind) (from to : Reg) → NamesSymbol name (copied kind from to).op → ⊥
-  no_symbol name kind from to n = elim n [ ]
-
-  no_external : (row : _) (kind : CopyKind) (from to : Reg) → NamesExternal row (copied kind from to).op → ⊥
-  no_external row kind from to n = elim n [ ]
 
   -- ---- places that are reached
 
@@ -171,16 +166,12 @@ module _ (m : Mach) (plan : Plan) (formed : WellFormed m) (placed : WellPlaced m
   frame_main s (passes_result {i = i} {next = next} {rs = rs} k e h) r t = frame_main (Storing i next rs) h r t
   frame_main s (ends {i = i} {next = next} h) r t = frame_main (Before next) h r t
 
-  live_of : {n : ℕ} {i : Instr} {next : List Instr} → LiveAcross m n i next → Live m n (i ∷ next)
-  live_of (across_step w l v) = on w l v
-  live_of (across_raise r v) = aside r v
-
   across_register : (r w : Reg) → IsRegister m w → Which m plan formed placed is w r → (i : Instr) (next : List Instr) →
       Ending (i ∷ next) m.code → WasAcross m plan formed placed is r.number i next → LiveAcross m w.number i next
   across_register r w among (own e) i next ending (itself_across v) =
       subst (λ n. LiveAcross m n i next) (sym (ap (λ (x : Reg). x.number) e)) v
   across_register r w among (slotted e) i next ending (itself_across v) =
-      let u = live_register m (live_of v) ending in
+      let u = live_register m (across_live v) ending in
       absurd (is.fresh u.0 u.1 w.number (ap (λ (x : Reg). x.number) e ∙ sym u.2))
   across_register r w among (own e) i next ending (stored_across n s v k) =
       absurd (is.fresh w among n (s ∙ sym (ap (λ (x : Reg). x.number) e)))
@@ -234,8 +225,8 @@ module _ (m : Mach) (plan : Plan) (formed : WellFormed m) (placed : WellPlaced m
               same = origin_of m plan formed placed is w.which;
             };
         slots = λ r k i s. let w = old r i in slot_of r w.register k w.among w.which s;
-        symbols = λ name n. named_before (NamesSymbol name) (no_symbol name) n;
-        externals = λ row n. named_before (NamesExternal row) (no_external row) n;
+        symbols = λ name n. named_before (NamesSymbol name) (copy_no_symbol name) n;
+        externals = λ row n. named_before (NamesExternal row) (copy_no_external row) n;
         addrs = no_addr;
       }
 

@@ -2,7 +2,7 @@
 use Rattle.std.proofs.Common.{◌≡◌, ◌≢◌, ℕ, zero, suc, ◌+◌, ◌<◌, ◌≤◌, Bool, true, false, cond, ◌⊎◌, inl, inr, ⊎_elim, List, [], ◌∷◌, ◌++◌, Some, None, length, map, take, set, get_or, refl, sym, ap, ◌∙◌, subst, arith}
 use Rattle.std.specs.List.{All, Contains}
 use Rattle.std.specs.Prelude.{slice_get, slice_index_or}
-use Rattle.std.proofs.lemmas.List.Elements.{Contains-get_or, Contains-append_left, Contains-append_right}
+use Rattle.std.proofs.lemmas.List.Elements.{Contains-get_or, Contains-append_left, Contains-append_right, Contains-append_cases}
 use Rattle.mach_ir.specs.Sizes.{operand_count, HasRoom, IsCountable, number_limit}
 use Rattle.mach_ir.specs.Walks.{IsRegister}
 use Rattle.mach_ir.specs.declared.reg.Reg.{Reg}
@@ -11,7 +11,6 @@ use Rattle.mach_ir.specs.declared.mach.Mach.{Mach}
 use Rattle.std.proofs.lemmas.Bool.{cases_eq}
 use Rattle.std.proofs.lemmas.List.{length-set, length-map, map-set, get_or-map, get_or-set_same, get_or-set_other, take_more, take_all, length-append}
 use Rattle.std.proofs.lemmas.Option.{slice_get_within}
-use Rattle.liveness.proofs.Bounds.{split_in}
 use Rattle.liveness.proofs.Counting.{countable_of}
 use Rattle.split_rules.specs.Order.{write_of, open_writes, code_writes, writes_of}
 use Rattle.split_rules.specs.Split.{split_size}
@@ -56,7 +55,7 @@ rising_more (u ∷ ws) w (rises low r) above =
     rises
     (λ v c.
     ⊎_elim (low v) (λ d. ⊎_elim (λ e. subst (λ v. u < v) e (above u (first_in u ws))) (λ z. absurd (none_in v z)) (in_cons w v [] d))
-    (split_in ws (w ∷ []) v c))
+    (Contains-append_cases ws (w ∷ []) v c))
     (rising_more ws w r (λ v c. above v (later_in u v ws c)))
 
 module _ (writes : List Write) (free : ℕ) (old new : List group.Group) (x : Write) (w : ℕ) (end : w ≡ length writes)
@@ -68,7 +67,7 @@ module _ (writes : List Write) (free : ℕ) (old new : List group.Group) (x : Wr
       let d : Contains (members_in old x.number ++ w ∷ []) v =
       subst (λ xs. Contains xs v) has.here (subst (λ n. Contains (members_in new n) v) e c) in
       ⊎_elim (λ h. inl (subst (λ n. Contains (members_in old n) v) (sym e) h))
-      (λ h. ⊎_elim (λ s. inr (e, s)) (λ z. absurd (none_in v z)) (in_cons w v [] h)) (split_in (members_in old x.number) (w ∷ []) v d))
+      (λ h. ⊎_elim (λ s. inr (e, s)) (λ z. absurd (none_in v z)) (in_cons w v [] h)) (Contains-append_cases (members_in old x.number) (w ∷ []) v d))
       (λ (ne : n ≢ x.number). inl (subst (λ xs. Contains xs v) (has.others n ne) c)) (cases_eq n x.number)
 
   kept_in : (n v : ℕ) → Contains (members_in old n) v → Contains (members_in new n) v

@@ -7,13 +7,13 @@ use Rattle.std.proofs.lemmas.List.{take_more, take_all}
 use Rattle.std.proofs.lemmas.Option.{slice_get_within}
 use Rattle.std.specs.List.{All, Contains}
 use Rattle.std.specs.Prelude.{nat_eq, slice_get, slice_index, slice_index_or}
+use Rattle.std.proofs.lemmas.List.Elements.{Contains-append_cases}
 use Rattle.bs_bits.specs.Set.{has}
 use Rattle.dataflow.specs.Rows.{row}
 use Rattle.mach_ir.specs.Walks.{Among, first, later, read}
 use Rattle.mach_ir.specs.declared.reg.Reg.{Reg}
 use Rattle.mach_ir.specs.declared.mach.Instr.{Instr}
 use Rattle.mach_ir.specs.declared.mach.Mach.{Mach}
-use Rattle.liveness.proofs.Bounds.{split_in}
 use Rattle.split_rules.specs.Writes.{Comes, Chained, same, meets}
 use Rattle.bs_words.proofs.Lists.{none_in, first_in, later_in, in_cons}
 use Rattle.split.specs.Joins.{replaced, joined, IsComing, Relabelled, as_it_was, as_another, Joins, AreLinked, AreSound, HaveOne, AreWebs, AreIndexes, JoinsReads}
@@ -60,7 +60,7 @@ pub member_more : (ms : List ℕ) (k d w : ℕ) → k < length ms → Contains (
     Contains (take k ms) w ⊎ (slice_index_or ms k d ≡ w)
 member_more ms k d w lt c =
     ⊎_elim (λ h. inl h) (λ h. ⊎_elim (λ e. inr e) (λ n. absurd (none_in w n)) (in_cons (slice_index_or ms k d) w [] h))
-    (split_in (take k ms) (slice_index_or ms k d ∷ []) w (subst (λ xs. Contains xs w) (take_more ms k d lt) c))
+    (Contains-append_cases (take k ms) (slice_index_or ms k d ∷ []) w (subst (λ xs. Contains xs w) (take_more ms k d lt) c))
 
 pub record Joining (old now members : List ℕ) (k : ℕ) (rows : List (List Bool)) (p : ℕ) (found : Option ℕ) :
     Type 0 where

@@ -1,7 +1,7 @@
 -- What the table of writes has.
 use Rattle.std.proofs.Common.{◌≡◌, ◌≢◌, ℕ, zero, suc, ◌<◌, ◌≤◌, Bool, true, false, cond, ◌⊎◌, inl, inr, ⊎_elim, List, [], ◌∷◌, ◌++◌, Option, Some, None, length, refl, sym, ap, ◌∙◌, subst, arith}
 use Rattle.std.proofs.lemmas.Option.{none-some}
-use Rattle.std.proofs.lemmas.List.Elements.{Contains-append_left, Contains-append_right}
+use Rattle.std.proofs.lemmas.List.Elements.{Contains-append_left, Contains-append_right, Contains-append_cases}
 use Rattle.std.proofs.lemmas.Bool.{eq-eqb, eqb-true}
 use Rattle.std.specs.List.{Contains}
 use Rattle.std.specs.Prelude.{slice_get}
@@ -14,7 +14,7 @@ use Rattle.mach_ir.specs.Walks.{Among, IsRegister, is_param, is_colour, is_in_co
 use Rattle.mach_ir.specs.declared.reg.Reg.{Reg}
 use Rattle.mach_ir.specs.declared.mach.Instr.{Instr}
 use Rattle.mach_ir.specs.declared.mach.Mach.{Mach}
-use Rattle.liveness.proofs.Bounds.{split_in, killed_is_colour}
+use Rattle.liveness.proofs.Bounds.{killed_is_colour}
 use Rattle.split_rules.specs.Order.{write_of, open_writes, code_writes, writes_of}
 use Rattle.mach_laws.proofs.Among.{number_among}
 use Rattle.split.specs.Writes.{has_left, is_at, find_at, AreRising, rises, is_first}
@@ -108,7 +108,7 @@ writes_was (i ∷ is) x c =
     (λ h.
     let w = writes_was is x h in
     record { register = w.register; among = further w.among; unset = w.unset; number = w.number })
-    (split_in (open_writes (length is) i.results) (code_writes is) x c)
+    (Contains-append_cases (open_writes (length is) i.results) (code_writes is) x c)
 
 -- a write is one of an open register of the function
 pub record IsOpenWrite (m : Mach) (x : Write) : Type 0 where
@@ -126,7 +126,7 @@ open_write m x c =
     (λ h.
     let w = writes_was m.code x h in
     record { register = w.register; among = is_in_code w.among; unset = w.unset; number = w.number })
-    (split_in (open_writes (length m.code) m.params) (code_writes m.code) x c)
+    (Contains-append_cases (open_writes (length m.code) m.params) (code_writes m.code) x c)
 
 module _ (m : Mach) (formed : WellFormed m) (colour_fixed : (r : Reg) → Contains m.colours r → r.loc ≢ loc.Unset) where
   -- what is open is not destroyed
@@ -173,7 +173,7 @@ code_left : (code : List Instr) (x : Write) → Contains (code_writes code) x �
 code_left [] x c = absurd (none_in x c)
 code_left (i ∷ is) x c =
     ⊎_elim (λ h. let e = open_left (length is) i.results x h in omega (arith, e))
-    (λ h. let lt = code_left is x h in omega (arith, lt)) (split_in (open_writes (length is) i.results) (code_writes is) x c)
+    (λ h. let lt = code_left is x h in omega (arith, lt)) (Contains-append_cases (open_writes (length is) i.results) (code_writes is) x c)
 
 pub at_entry : (m : Mach) (w : ℕ) (x : Write) → slice_get (writes_of m) w ≡ Some x → x.left ≡ length m.code →
     w < length (open_writes (length m.code) m.params)

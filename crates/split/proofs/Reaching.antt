@@ -1,6 +1,6 @@
 -- What the flow analysis says of writes: which of them come to each place.
 use Rattle.std.proofs.Common.{◌≡◌, ◌≢◌, ℕ, zero, suc, ◌+◌, ◌-◌, ◌<◌, ◌≤◌, Bool, true, ◌⊎◌, inl, inr, ⊎_elim, List, [], ◌∷◌, ◌++◌, Option, Some, None, map, length, drop, refl, sym, ap, ◌∙◌, subst, arith}
-use Rattle.std.proofs.lemmas.List.Elements.{Contains-append_left, Contains-append_right}
+use Rattle.std.proofs.lemmas.List.Elements.{Contains-append_left, Contains-append_right, All-nil, All-cons, Contains-append_cases}
 use Rattle.std.proofs.lemmas.List.{length-drop, length-append}
 use Rattle.std.proofs.lemmas.Option.{slice_get_within}
 use Rattle.std.specs.List.{All, Contains}
@@ -25,7 +25,6 @@ use Rattle.mach_laws.proofs.Places.{ending_next, ending_from_handler, stands_of,
 use Rattle.mach_laws.proofs.Walking.{drop_ending, ending_at, place_is, place_at, place_back, place_within, ending_place, target_of, in_targets, handler_of, in_handlers}
 use Rattle.mach_laws.proofs.Among.{left_among, split_among}
 use Rattle.liveness.specs.Nodes.{AreNodes}
-use Rattle.liveness.proofs.Bounds.{no_items, one_more, split_in}
 use Rattle.liveness.proofs.Graph.{count_is, part_is, nodes_within}
 use Rattle.split_rules.proofs.Result.{comes_ends}
 use Rattle.split_rules.specs.Writes.{Comes, from_entry, from_write, past, past_raise}
@@ -62,9 +61,9 @@ map_joined f [] ys = refl
 map_joined f (x ∷ xs) ys = ap (λ zs. f x ∷ zs) (map_joined f xs ys)
 
 all_joined : {A : Type 0} (P : A → Type 0) (xs : List A) (y : A) → All P xs → P y → All P (xs ++ y ∷ [])
-all_joined P [] y h e = one_more P y [] e (no_items P)
+all_joined P [] y h e = All-cons P y [] e (All-nil P)
 all_joined P (x ∷ xs) y h e =
-    one_more P x (xs ++ y ∷ []) (h 0 x (omega arith))
+    All-cons P x (xs ++ y ∷ []) (h 0 x (omega arith))
     (all_joined P xs y (λ k d lt. h (suc k) d (omega (arith, lt))) e)
 
 where_is : (p k : ℕ) → (p ≤ k) ⊎ ((p ≡ suc k) ⊎ (suc k < p))
@@ -92,7 +91,7 @@ in_made t k [] w c = absurd (none_in w c)
 in_made t k (r ∷ rs) w c =
     ⊎_elim (λ h. (r.number, first refl, listed_is (find_at (all_of t) k (members t r.number)) h))
     (λ h. let g = in_made t k rs w h in (g.0, later g.1, g.2))
-    (split_in (listed (find_at (all_of t) k (members t r.number))) (made_at t k rs) w c)
+    (Contains-append_cases (listed (find_at (all_of t) k (members t r.number))) (made_at t k rs) w c)
   where
     listed_is : (o : Option ℕ) → Contains (listed o) w → o ≡ Some w
     listed_is None c = absurd (none_in w c)
@@ -108,7 +107,7 @@ in_ended : (t : table.Writes) (rs : List Reg) (w : ℕ) → Contains (ended_by t
 in_ended t [] w c = absurd (none_in w c)
 in_ended t (r ∷ rs) w c =
     ⊎_elim (λ h. (r.number, first refl, h)) (λ h. let g = in_ended t rs w h in (g.0, later g.1, g.2))
-    (split_in (members t r.number) (ended_by t rs) w c)
+    (Contains-append_cases (members t r.number) (ended_by t rs) w c)
 
 -- ---- places and targets
 
@@ -452,9 +451,9 @@ module _ (m : Mach) where
           omega (arith, lt, bound)
 
       each_below : (ws : List ℕ) → ((w : ℕ) → Contains ws w → w < f.bound) → All (λ w. w < f.bound) ws
-      each_below [] h = no_items (λ w. w < f.bound)
+      each_below [] h = All-nil (λ w. w < f.bound)
       each_below (w ∷ ws) h =
-          one_more (λ w. w < f.bound) w ws (h w (first_in w ws)) (each_below ws (λ v c. h v (later_in w v ws c)))
+          All-cons (λ w. w < f.bound) w ws (h w (first_in w ws)) (each_below ws (λ v c. h v (later_in w v ws c)))
 
       made_below : (k : ℕ) (rs : List Reg) → All (λ w. w < f.bound) (made_at t k rs)
       made_below k rs =
@@ -465,7 +464,7 @@ module _ (m : Mach) where
       ended_below rs = each_below (ended_by t rs) (λ w c. let n = in_ended t rs w c in index_below n.0 w n.2)
 
       rest_below : (rest : List Instr) → All (λ w. w < f.bound) (made_before t rest) × All (λ w. w < f.bound) (ended_before t rest)
-      rest_below [] = (no_items (λ w. w < f.bound), no_items (λ w. w < f.bound))
+      rest_below [] = (All-nil (λ w. w < f.bound), All-nil (λ w. w < f.bound))
       rest_below (i ∷ next) = (made_below (length next) i.results, ended_below i.results)
 
       pub flow_formed : WellFormed f
@@ -478,8 +477,8 @@ module _ (m : Mach) where
           (nodes_within m (write_uses t) (length (contents f.places)) f.bound more are (λ p. rest_below (drop p m.code)))
           (record {
             next = subst (All (λ q. q < length (contents f.places))) (sym is_entry.next)
-                (one_more (λ q. q < length (contents f.places)) 0 [] (omega (arith, total)) (no_items (λ q. q < length (contents f.places))));
-            aside = subst (All (λ q. q < length (contents f.places))) (sym is_entry.aside) (no_items (λ q. q < length (contents f.places)));
+                (All-cons (λ q. q < length (contents f.places)) 0 [] (omega (arith, total)) (All-nil (λ q. q < length (contents f.places))));
+            aside = subst (All (λ q. q < length (contents f.places))) (sym is_entry.aside) (All-nil (λ q. q < length (contents f.places)));
             reads = subst (All (λ w. w < f.bound)) (sym is_entry.reads) (made_below (length m.code) m.params);
-            writes = subst (All (λ w. w < f.bound)) (sym is_entry.writes) (no_items (λ w. w < f.bound));
+            writes = subst (All (λ w. w < f.bound)) (sym is_entry.writes) (All-nil (λ w. w < f.bound));
           }))

@@ -2,17 +2,16 @@
 use Rattle.std.proofs.Common.{◌≡◌, ◌≢◌, ℕ, true, inl, inr, ◌⊎◌, ⊎_elim, List, [], ◌∷◌, length, Option, Some, None, refl, sym, ap, ◌∙◌, subst}
 use Rattle.std.specs.List.{Contains}
 use Rattle.std.proofs.lemmas.Option.{none-some}
-use Rattle.std.proofs.lemmas.List.Elements.{All-contains}
 use Rattle.bs_words.specs.Memory.{Memory}
 use Rattle.bs_words.specs.declared.types.Loc.TheVariants as loc
 use Rattle.bs_words.specs.declared.values.Value.{Value}
 use Rattle.bs_words.proofs.Lists.{head_same, tail_same}
 use Rattle.mach_ir.specs.Known.{Doing}
 use Rattle.mach_ir.specs.Acts.{Around, Target, On, At, Landing, AtLabel, AtHandler, Replaces}
-use Rattle.mach_ir.specs.Formed.{IsFormed, WellFormed}
+use Rattle.mach_ir.specs.Formed.{WellFormed}
 use Rattle.mach_ir.specs.Runs.{Place, entered}
 use Rattle.mach_ir.specs.Meaning.{Held, State, File, put_all, clear, killed, written, with_held, values, past_frame, passes_frame, after_label, at_handler, code_at, tries_at, landing_code, start}
-use Rattle.mach_ir.specs.Walks.{Among, first, later, OneOf, targets, may_raise, goes, raises, Live, read, on, aside, LiveAcross, across_step, across_raise, is_param, Stands, Writes}
+use Rattle.mach_ir.specs.Walks.{Among, first, later, OneOf, targets, may_raise, goes, raises, Live, read, on, aside, LiveAcross, is_param, Stands, Writes}
 use Rattle.mach_ir.specs.Keeps.{ValsWritten, wrote_unless, Begins, Does}
 use Rattle.mach_ir.specs.declared.reg.Reg.{Reg}
 use Rattle.mach_ir.specs.declared.mach.Instr.{Instr}
@@ -22,10 +21,11 @@ use Rattle.mach_laws.proofs.General as general
 use Rattle.mach_laws.proofs.General.{at}
 use Rattle.mach_laws.proofs.Leads.{IsTry, MayLand, lands_at_label, lands_at_handler, try_on}
 use Rattle.mach_laws.proofs.Level as level
-use Rattle.mach_laws.proofs.Places.{ending_next, ending_label, ending_land, stands_of, contains_of, land_expand}
+use Rattle.mach_laws.proofs.Places.{ending_next, ending_label, ending_land, stands_of, land_expand, form_of}
 use Rattle.mach_laws.proofs.Simulate.{Agrees}
 use Rattle.mach_laws.proofs.Among.{left_among, right_among, split_among, number_among}
 use Rattle.mach_laws.proofs.Raised.{IsRaised, IsSilent, label_silent, try_silent, told}
+use Rattle.mach_laws.proofs.Walking.{across_live}
 use Rattle.places_rules.proofs.Files.{past_same, cleared, not_cleared, among_or_not, PutsToo, put_twice, put_both}
 use Rattle.split_rules.specs.Renamed.{Naming, all_numbered, renamed_code, renamed}
 use Rattle.split_rules.specs.Split.{IsNaming}
@@ -56,9 +56,6 @@ module _ (m : Mach) (names : Naming) (is : IsNaming m names) (formed : WellForme
   -- a number that stands for a live register holds what it holds
   abbrev Same : List Instr → File → File → Type 0
   Same rest a b = (n x : ℕ) → Live m n rest → is.back x ≡ n → Stand x n rest → a n ≡ b x
-
-  form_of : {i : Instr} {next : List Instr} → Ending (i ∷ next) m.code → IsFormed i
-  form_of {i} e = All-contains IsFormed m.code i formed.instrs (contains_of (stands_of e))
 
   -- ---- where registers of one origin agree
 
@@ -101,10 +98,6 @@ module _ (m : Mach) (names : Naming) (is : IsNaming m names) (formed : WellForme
   silent_wrote e (Some v) a b s x u z h = elim z [ ]
 
   -- ---- values that are read
-
-  across_live : {n : ℕ} {i : Instr} {next : List Instr} → LiveAcross m n i next → Live m n (i ∷ next)
-  across_live (across_step w l v) = on w l v
-  across_live (across_raise r v) = aside r v
 
   vals_before : (i : Instr) (next : List Instr) (a b : File) (y : Around) → Ending (i ∷ next) m.code → Same (i ∷ next) a b →
       ValsWritten m (at (i ∷ next) a y) → ValsWritten q (at (renamed_code names (i ∷ next)) b y)
@@ -262,7 +255,7 @@ module _ (m : Mach) (names : Naming) (is : IsNaming m names) (formed : WellForme
 
     landed : (to : Landing) → MayLand i.op to → Same (landing_code m.code (i ∷ next) to) a' b'
     landed (AtLabel l) (lands_at_label o) n x v e s =
-        let silent = label_silent m (form_of ending) l o n in
+        let silent = label_silent m (form_of formed ending) l o n in
         still n x (on silent (goes (At l) o) v) e (stands_on m names is colour_fixed silent (goes (At l) o) s)
     landed AtHandler (lands_at_handler r) n x v e s =
         let g = caught r (tries_at (i ∷ next)) refl v s in still n x g.0 e g.1
@@ -279,7 +272,7 @@ module _ (m : Mach) (names : Naming) (is : IsNaming m names) (formed : WellForme
 
     pushed : IsTry i.op → Same next a' b'
     pushed t n x v e s =
-        let silent = try_silent m (form_of ending) t n in
+        let silent = try_silent m (form_of formed ending) t n in
         still n x (on silent (goes On (try_on i.op t)) v) e (stands_on m names is colour_fixed silent (goes On (try_on i.op t)) s)
 
     same_operation : level.SameOperation c m q (alone names) (keeps_marks names) is_code Suit Same (IsSilent m i) i main next [] a' b'
@@ -297,7 +290,7 @@ module _ (m : Mach) (names : Naming) (is : IsNaming m names) (formed : WellForme
               (refl, pushed t),
               moved (λ code. Agrees q (written q main) (at code b' y)) next
                   (agrees_by next (ending_next ending) a' b' y (written m i) (written q main) (pushed t)
-                  (silent_wrote ending y.raised a' b' (inl (try_silent m (form_of ending) t))) w),
+                  (silent_wrote ending y.raised a' b' (inl (try_silent m (form_of formed ending) t))) w),
             ),
           );
         }
@@ -321,7 +314,7 @@ module _ (m : Mach) (names : Naming) (is : IsNaming m names) (formed : WellForme
           passing = general.passed;
           vals = λ known. moved (λ code. ValsWritten q (at (main ∷ code) b y)) next (vals_before i next a b y ending same known);
           reads = sym (values_same (names.read (length next)) a b i.args read_same) ∙ e;
-          told = told m (form_of ending) c.setting vs y;
+          told = told m (form_of formed ending) c.setting vs y;
           same = same_operation;
         })
 

@@ -1,10 +1,10 @@
 -- What is live, joined and reached in a function whose registers have other numbers was so before, by their old numbers.
-use Rattle.std.proofs.Common.{◌≡◌, ◌≢◌, ℕ, Bool, true, false, cond, not, ◌&&◌, ◌||◌, ⊎_elim, List, [], ◌∷◌, length, refl, sym, ap, ◌∙◌, subst}
+use Rattle.std.proofs.Common.{◌≡◌, ◌≢◌, ℕ, cond, not, ◌&&◌, ◌||◌, ⊎_elim, List, [], ◌∷◌, length, refl, sym, ap, ◌∙◌, subst}
 use Rattle.std.specs.List.{Contains}
 use Rattle.bs_words.specs.declared.types.Loc.{Loc}
 use Rattle.bs_words.specs.declared.types.Loc.TheVariants as loc
 use Rattle.mach_ir.specs.Meaning.{Destroyed, Nothing, Temporaries, Everything, destroyed_by, is_destroyed, same_colour, is_at_one_of, killed_among, killed_by, killed}
-use Rattle.mach_ir.specs.Walks.{Among, first, later, goes, Leads, Raises, Writes, Live, read, on, aside, LiveAfter, after_step, LiveAcross, across_step, across_raise, is_colour, is_in_code, Stands, NoAddrLive, IsMove, is_move, Meets, at_write, at_params, Joined, one_way, other_way}
+use Rattle.mach_ir.specs.Walks.{Among, goes, Leads, Raises, Writes, Live, read, on, aside, LiveAfter, after_step, LiveAcross, across_step, across_raise, is_colour, is_in_code, Stands, NoAddrLive, IsMove, is_move, Meets, at_write, at_params, Joined, one_way, other_way}
 use Rattle.mach_ir.specs.declared.reg.Reg.{Reg}
 use Rattle.mach_ir.specs.declared.mach.Instr.{Instr}
 use Rattle.mach_ir.specs.declared.mach.Mach.{Mach}
@@ -39,12 +39,6 @@ by_same : (f : ℕ → ℕ) (cs : List Reg) (d : Destroyed) (rs : List Reg) →
 by_same f cs Nothing rs = refl
 by_same f cs Temporaries rs = among_same f cs Temporaries rs
 by_same f cs Everything rs = among_same f cs Everything rs
-
-colours_cond : (n : ℕ) (x : Reg) (ks cs : List Reg) (b : Bool) → (Among n ks → Among n cs) → Among n (cond b (x ∷ ks) ks) →
-    Among n (x ∷ cs)
-colours_cond n x ks cs true g (first e) = first e
-colours_cond n x ks cs true g (later a) = later (g a)
-colours_cond n x ks cs false g a = later (g a)
 
 module _ (m : Mach) (names : Naming) (is : IsNaming m names)
     (colour_fixed : (r : Reg) → Contains m.colours r → r.loc ≢ loc.Unset) where

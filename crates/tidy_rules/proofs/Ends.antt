@@ -1,5 +1,5 @@
 -- Ends of a function's code, and the labels in them.
-use Rattle.std.proofs.Common.{◌≡◌, ◌≢◌, ℕ, ◌≤◌, Bool, true, false, cond, nat_eq, ◌⊎◌, inl, inr, ⊎_elim, List, [], ◌∷◌, ◌++◌, length, refl, sym, ap, ◌∙◌, subst, arith}
+use Rattle.std.proofs.Common.{◌≡◌, ◌≢◌, ℕ, ◌≤◌, Bool, true, false, cond, nat_eq, ◌⊎◌, ⊎_elim, List, [], ◌∷◌, ◌++◌, length, refl, sym, ap, ◌∙◌, subst, arith}
 use Rattle.std.proofs.lemmas.Bool.{true≢false, eq-eqb, eqb-true}
 use Rattle.std.specs.List.{AllPairs}
 use Rattle.lin_ir.specs.Formed.{label_of, labels_in}
@@ -9,8 +9,8 @@ use Rattle.lin_ir.specs.declared.lin.LinOp.{LinOp}
 use Rattle.lin_ir.specs.declared.lin.LinOp.TheVariants as lin
 use Rattle.lin_ir.specs.declared.lin.Line.{Line}
 use Rattle.linear_rules.proofs.Homes.{IsIn, is_first, is_later}
-use Rattle.linear_rules.proofs.Marks.{all_in}
-use Rattle.linear_rules.proofs.Walked.{Tail, tail_all, tail_more}
+use Rattle.linear_rules.proofs.Marks.{all_in, Differ}
+use Rattle.linear_rules.proofs.Walked.{Tail, tail_all, tail_more, later_label}
 use Rattle.bs_words.proofs.Lists.{pairs_here, pairs_later}
 use Rattle.tidy_rules.specs.Leaving.{bare}
 use Rattle.tidy_rules.proofs.Shape.{compare}
@@ -32,18 +32,6 @@ whole_tail (tail_more t) le = let more = tail_length t in absurd (omega (arith, 
 -- ends of one length are the same
 pub same_tail : {a b zs : List Line} → Tail a zs → Tail b zs → length a ≡ length b → a ≡ b
 same_tail {a} {b} s t e = ⊎_elim (λ u. whole_tail u (omega (arith, e))) (λ u. sym (whole_tail u (omega (arith, e)))) (compare s t)
-
-pub past_labels : {l : ℕ} {ls : List ℕ} (ks : List ℕ) → IsIn l ls → IsIn l (ks ++ ls)
-past_labels [] z = z
-past_labels (k ∷ ks) z = is_later (past_labels ks z)
-
--- a label after a place is one of the code
-pub later_label : {l : ℕ} {ys zs : List Line} → Tail ys zs → IsIn l (labels_in ys) → IsIn l (labels_in zs)
-later_label tail_all z = z
-later_label (tail_more {j = j} t) z = past_labels (label_of j.op) (later_label t z)
-
-abbrev pub Differ : ℕ → ℕ → Type 0
-Differ k l = k ≢ l
 
 pub label_is : (l : ℕ) (f : LinOp) → has_label l f ≡ true → label_of f ≡ l ∷ []
 label_is l (lin.Op f) e = absurd (true≢false (sym e))
@@ -98,16 +86,3 @@ has_own_label l (lin.Flow flow.EnterTrap) z = elim z [ ]
 pub tail_past : {ys : List Line} (xs : List Line) → Tail ys (xs ++ ys)
 tail_past [] = tail_all
 tail_past (x ∷ xs) = tail_more (tail_past xs)
-
-pub split_in : {A : Type 0} {x : A} (xs ys : List A) → IsIn x (xs ++ ys) → IsIn x xs ⊎ IsIn x ys
-split_in [] ys z = inr z
-split_in (x ∷ xs) ys is_first = inl is_first
-split_in (x ∷ xs) ys (is_later z) = ⊎_elim (λ u. inl (is_later u)) inr (split_in xs ys z)
-
-pub in_left : {A : Type 0} {x : A} {xs : List A} (ys : List A) → IsIn x xs → IsIn x (xs ++ ys)
-in_left ys is_first = is_first
-in_left ys (is_later z) = is_later (in_left ys z)
-
-pub in_right : {A : Type 0} {x : A} (xs : List A) {ys : List A} → IsIn x ys → IsIn x (xs ++ ys)
-in_right [] z = z
-in_right (x ∷ xs) z = is_later (in_right xs z)

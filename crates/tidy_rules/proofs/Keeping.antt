@@ -5,9 +5,9 @@ use Rattle.bs_words.specs.declared.types.Comp.{Comp}
 use Rattle.bs_words.specs.declared.types.Loc.{Loc}
 use Rattle.bs_words.specs.declared.values.Value.{Value}
 use Rattle.mach_ir.specs.Acts.{Around}
-use Rattle.mach_ir.specs.Runs.{Place, Tally, Run, Running, Asking, Ended, Wrong, entered}
+use Rattle.mach_ir.specs.Runs.{Place, Tally, Run, entered}
 use Rattle.mach_ir.specs.Meaning as mach
-use Rattle.mach_ir.specs.Keeps.{Ahead, Trails, Alike, both_running, both_asking, both_ended}
+use Rattle.mach_ir.specs.Keeps.{Ahead, Trails, Alike}
 use Rattle.mach_ir.specs.Walks as mach_walks
 use Rattle.mach_ir.specs.declared.mach.Mach.{Mach}
 use Rattle.mach_ir.proofs.Keeping.{alike_then}
@@ -67,47 +67,6 @@ keeps_on {p} {m} {r} one two =
       name = two.name ∙ one.name;
       result = two.result ∙ one.result;
       does = does_on p m r one.does two.does;
-      symbols = λ name n. one.symbols name (two.symbols name n);
-      externals = λ row n. one.externals row (two.externals row n);
-      addrs = λ h. two.addrs (one.addrs h);
-    }
-
--- a function keeps itself
-pub keeps_lin_itself : (m : Lin) → KeepsLin m m
-keeps_lin_itself m =
-    record {
-      name = refl;
-      result = refl;
-      does = λ c arguments memory doings s e.
-          record { state = s; begins = e; follows = λ n proper. record { steps = n; alike = alike_self _ refl proper.goes; proper = proper } };
-      symbols = λ name n. n;
-      externals = λ row n. n;
-      addrs = λ h. h;
-    }
-  where
-    alike_self : (x : Run State) {y : Run State} → x ≡ y → (y ≡ Wrong → ⊥) → Alike SameRound y y
-    alike_self (Running s t) {y} e goes = subst (λ y. Alike SameRound y y) e (both_running refl)
-    alike_self (Asking call t) {y} e goes = subst (λ y. Alike SameRound y y) e both_asking
-    alike_self (Ended d t) {y} e goes = subst (λ y. Alike SameRound y y) e both_ended
-    alike_self Wrong {y} e goes = absurd (goes (sym e))
-
--- and what keeps what keeps it keeps it
-pub keeps_lin_then : {m q r : Lin} → KeepsLin m q → KeepsLin q r → KeepsLin m r
-keeps_lin_then {m} {q} {r} one two =
-    record {
-      name = two.name ∙ one.name;
-      result = two.result ∙ one.result;
-      does = λ c arguments memory doings s e.
-          let u = one.does c arguments memory doings s e in
-          let v = two.does c arguments memory doings u.state u.begins in
-          record {
-            state = v.state;
-            begins = v.begins;
-            follows = λ n proper.
-                let x = u.follows n proper in
-                let y = v.follows x.steps x.proper in
-                record { steps = y.steps; alike = alike_then (λ a b d same more. same ∙ more) x.alike y.alike; proper = y.proper };
-          };
       symbols = λ name n. one.symbols name (two.symbols name n);
       externals = λ row n. one.externals row (two.externals row n);
       addrs = λ h. two.addrs (one.addrs h);

@@ -16,7 +16,7 @@ use Rattle.lin_ir.specs.declared.lin.Line.{Line}
 use Rattle.lin_ir.specs.declared.lin.Lin.{Lin}
 use Rattle.lin_ir.specs.declared.lin.Spot.{Spot}
 use Rattle.linear_rules.specs.Keeps.{OneTraps}
-use Rattle.linear_rules.proofs.Homes.{IsIn, is_first, is_later, in_of, contains_of}
+use Rattle.linear_rules.proofs.Homes.{IsIn, in_of, contains_of, split_in}
 use Rattle.linear_rules.proofs.Lines.{all_of}
 use Rattle.linear_rules.proofs.Marks.{all_in}
 use Rattle.linear_rules.proofs.Walked.{Tail, tail_all, tail_more, tail_next, tail_stands, stands_tail, tail_target, IsRead, live_read, not_spare}
@@ -42,18 +42,13 @@ inner (tail_more t) = inr t
 pub spare_free : (m : Lin) → All (λ (i : Line). AtHomes m i.args × AtHomes m i.results) m.code → SpareIsPassing m
 spare_free m homes =
     record {
-      copies = λ i c t z. absurd (no_spare t (in_of i m.code c) (split i.args i.results (in_of (spot t) (i.args ++ i.results) z)));
+      copies = λ i c t z. absurd (no_spare t (in_of i m.code c) (split_in i.args i.results (in_of (spot t) (i.args ++ i.results) z)));
       entry = λ t v. none t (live_read m v tail_all);
       written = λ i next tries s u t v. absurd (none t (after v (stands_tail s)));
     }
   where
     spot : Comp → Spot
     spot t = record { loc = spare; comp = t }
-
-    split : {x : Spot} (xs ys : List Spot) → IsIn x (xs ++ ys) → IsIn x xs ⊎ IsIn x ys
-    split [] ys z = inr z
-    split (x ∷ xs) ys is_first = inl is_first
-    split (x ∷ xs) ys (is_later z) = ⊎_elim (λ u. inl (is_later u)) inr (split xs ys z)
 
     no_spare : (t : Comp) {i : Line} → IsIn i m.code → IsIn (spot t) i.args ⊎ IsIn (spot t) i.results → ⊥
     no_spare t {i} z w =

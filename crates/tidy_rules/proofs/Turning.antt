@@ -20,11 +20,12 @@ use Rattle.lin_ir.specs.declared.lin.Line.{Line}
 use Rattle.lin_ir.specs.declared.lin.Lin.{Lin}
 use Rattle.linear_rules.specs.Keeps.{NoAddrReached}
 use Rattle.linear_rules.specs.Lowered.{opposite_test}
-use Rattle.linear_rules.proofs.Homes.{IsIn, in_of, contains_of}
+use Rattle.linear_rules.proofs.Homes.{IsIn, in_of, contains_of, split_in, in_left, in_right}
 use Rattle.linear_rules.proofs.Walked.{Tail, tail_all, tail_more, tail_next, tail_label, tail_in, tail_stands, reached_tail}
+use Rattle.linear_rules.proofs.Marks.{Differ}
 use Rattle.tidy_rules.specs.Leaving.{bare, with_code}
 use Rattle.tidy_rules.specs.Turning.{Head, Turn, branch_line, tested_again, label_put, turned_line, turned_lines, ExitsToBranch, Turns}
-use Rattle.tidy_rules.proofs.Ends.{Differ, later_after, pairs_past, at_label, has_own_label, tail_past, split_in, in_left, in_right}
+use Rattle.tidy_rules.proofs.Ends.{later_after, pairs_past, at_label, has_own_label, tail_past}
 use Rattle.tidy_rules.proofs.Handlers.{handler_stands}
 
 -- ---- lines that may be turned, or have a label put after them

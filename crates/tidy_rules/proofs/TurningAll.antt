@@ -14,14 +14,14 @@ use Rattle.lin_ir.specs.declared.lin.LinOp.TheVariants as lin
 use Rattle.lin_ir.specs.declared.lin.Line.{Line}
 use Rattle.lin_ir.specs.declared.lin.Lin.{Lin}
 use Rattle.lin_ir.specs.declared.lin.Spot.{Spot}
-use Rattle.linear_rules.proofs.Homes.{IsIn, is_first, is_later}
+use Rattle.linear_rules.proofs.Homes.{IsIn, is_first, is_later, in_left, in_right, split_in}
 use Rattle.linear_rules.proofs.Lines.{all_of}
-use Rattle.linear_rules.proofs.Marks.{all_in}
-use Rattle.linear_rules.proofs.Walked.{Tail, tail_all, tail_next, tail_label, tail_stands, stands_tail}
+use Rattle.linear_rules.proofs.Marks.{all_in, Differ}
+use Rattle.linear_rules.proofs.Walked.{Tail, tail_all, tail_next, tail_label, tail_stands, stands_tail, later_label}
 use Rattle.bs_words.proofs.Lists.{pairs_here, head_same}
 use Rattle.tidy_rules.specs.Leaving.{bare}
 use Rattle.tidy_rules.specs.Turning.{Head, Turn, turned_lines, ExitsToBranch, Turns, next_free, label_here, label_on, head_by, head_at, stands_first, exit_head, turn_for, line_turn, turn_at, is_on, is_led_to, opened_at, turned_all}
-use Rattle.tidy_rules.proofs.Ends.{Differ, tail_length, same_tail, later_label, pairs_past, in_left, in_right, split_in}
+use Rattle.tidy_rules.proofs.Ends.{tail_length, same_tail, pairs_past}
 use Rattle.tidy_rules.proofs.Turning.{head_line, new_labels, labels_of_line}
 
 no_head : {A : Type 0} (d : Head) → None ≡ Some d → A

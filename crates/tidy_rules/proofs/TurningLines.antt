@@ -8,11 +8,10 @@ use Rattle.lin_ir.specs.declared.lin.LinOp.TheVariants as lin
 use Rattle.lin_ir.specs.declared.lin.Line.{Line}
 use Rattle.lin_ir.specs.declared.lin.Lin.{Lin}
 use Rattle.linear_rules.specs.Lowered.{opposite_test}
-use Rattle.linear_rules.proofs.Homes.{IsIn, is_first, is_later}
-use Rattle.linear_rules.proofs.Walked.{Tail, tail_all, tail_next, tail_in}
+use Rattle.linear_rules.proofs.Homes.{IsIn, is_first, is_later, split_in}
+use Rattle.linear_rules.proofs.Walked.{Tail, tail_all, tail_next, tail_in, later_label}
 use Rattle.tidy_rules.specs.Leaving.{bare}
 use Rattle.tidy_rules.specs.Turning.{Head, Turn, branch_line, tested_again, turned_line, Turns}
-use Rattle.tidy_rules.proofs.Ends.{later_label, split_in}
 use Rattle.tidy_rules.proofs.Turning.{head_line, T, R, Copied, exit_of, head_tail, turned_code, opened_code, tail_image, label_kept, named_in}
 
 module _ (m r : Lin) (h : Turns m r) (well : WellFormed m) where
