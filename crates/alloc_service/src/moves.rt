@@ -8,10 +8,10 @@ ghost use Rattle.image_form.specs.Tables.{desc, tables};
 ghost use Rattle.rv_machine.specs.Relocation.{root_cells};
 ghost use Rattle.rv_machine.specs.Frames.{is_register, registers_named, slots_named};
 ghost use Rattle.rv_machine.specs.Hart.{with_register};
-ghost use Rattle.rv_machine.specs.Memory.{put, words_at, write, word};
+ghost use Rattle.rv_machine.specs.Memory.{code_start, put, words_at, write, word};
 ghost use Rattle.rv_machine.specs.Moving.{rewritten_block, rewritten_cells, vacated};
 ghost use Rattle.rv_machine.specs.Placement.{placed_at};
-ghost use Rattle.rv_machine.specs.Places.{filler};
+ghost use Rattle.rv_machine.specs.Places.{stack_end, filler};
 ghost use Rattle.alloc_service.specs.Forward.{IsLow, Redirects, forward, poured, redirected_now, redirected_registers_now, words_moved, words_of};
 
 use crate::forward::forward;
@@ -174,8 +174,8 @@ pub fn redirect_slots(
     sp: u64,
 )
     requires image { IsImage image.now }
-    requires base { base ≤ 0x40000000 }
-    requires above { 0x10000 ≤ base }
+    requires base { base ≤ stack_end }
+    requires above { code_start ≤ base }
     ensures { Redirects (forward table.now)
         (map desc (contents image.now.descs)) base memory.old memory.new address sp }
 {

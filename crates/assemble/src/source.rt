@@ -8,10 +8,8 @@ use bs_words::Value;
 use cmm_data::{DataMap, SymbolTable};
 use cmm_tree::File;
 use external_rows::ExternalRows;
+use rv_machine::CODE_START;
 use rv_pieces::Pieces;
-
-/// The address of the first word of code.
-pub const CODE_START: u64 = 0x0001_0000;
 
 /// A file, and all that is known of it before its image is made.
 #[derive(Clone, Copy)]

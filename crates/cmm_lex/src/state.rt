@@ -308,8 +308,14 @@ impl OperatorPart {
         ensures { result ≡ accepts_operator self }
     {
         match self {
-            OperatorPart::Shift | OperatorPart::Equal => None,
-            _ => Some(Shape::Signs),
+            OperatorPart::Plus => Some(Shape::Signs),
+            OperatorPart::Minus => Some(Shape::Signs),
+            OperatorPart::Product => Some(Shape::Signs),
+            OperatorPart::Less => Some(Shape::Signs),
+            OperatorPart::Greater => Some(Shape::Signs),
+            OperatorPart::Shift => None,
+            OperatorPart::Equal => None,
+            OperatorPart::Comparison => Some(Shape::Signs),
         }
     }
 }

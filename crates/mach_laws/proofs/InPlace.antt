@@ -1,4 +1,4 @@
--- Code in which one instruction stands in the place of each. It has the operation of that one, or both only compute: so labels,
+-- Code in which one instruction is in the place of each. It has the operation of that one, or both only compute: so labels,
 -- tries and walks are what they were.
 use Rattle.std.proofs.Common.{◌≡◌, ℕ, Bool, true, false, ⊎_elim, List, [], ◌∷◌, ◌++◌, length, refl, sym, ap, ◌∙◌, subst}
 use Rattle.std.proofs.lemmas.List.Elements.{Contains-get_or}
@@ -72,7 +72,7 @@ labels_from i is = by i.op i.args i.results
     by (mach.Op g) args results = refl
     by (mach.Mark g) args results = refl
 
--- code with the same labels has them behind any instruction
+-- code with the same labels has them after any instruction
 pub same_head : (i : Instr) (xs ys : List Instr) → labels_in xs ≡ labels_in ys → labels_in (i ∷ xs) ≡ labels_in (i ∷ ys)
 same_head i xs ys e = labels_from i xs ∙ ap (λ ls. labels_here i.op ++ ls) e ∙ sym (labels_from i ys)
 

@@ -170,7 +170,7 @@ stands_in (j ∷ is) i c =
     ⊎_elim (λ e. (is, subst (λ (i : Instr). Stands i is (j ∷ is)) e here)) (λ d. let s = stands_in is i d in (s.0, below s.1))
     (in_cons j i is c)
 
--- ---- what stands behind other code
+-- ---- what is after other code
 
 pub place_behind : {l : ℕ} (xs ys : List Instr) → HasPlace l ys → HasPlace l (xs ++ ys)
 place_behind [] ys h = h

@@ -5,6 +5,7 @@ ghost use Rattle.bs_words.specs.Word.{signed_of};
 ghost use Rattle.bs_words.specs.Contents.{contents};
 ghost use Rattle.image_form.specs.Tables.{ext};
 ghost use Rattle.mover_runtime.specs.Written.{Writes, Counts};
+ghost use Rattle.rv_isa.specs.Registers.{a0};
 ghost use Rattle.rv_machine.specs.Services.{arguments_from, call_made};
 ghost use Rattle.rv_machine.specs.Text.{obs_text, shown_text, made_text, cause_text};
 
@@ -87,7 +88,7 @@ fn put_obs<K: Sink>(text: &[u8], obs: Obs, out: &mut K) -> Result<(), OutFault>
 pub fn observe_arguments(machine: &Machine<'_>, comps: &List<Comp>) -> [Obs; 16]
     requires { length (contents comps.now) ≤ 16 }
     ensures shown { take (length (contents comps.now)) result
-        ≡ arguments_from 10 (contents comps.now) machine.now }
+        ≡ arguments_from a0 (contents comps.now) machine.now }
     ensures len { length result ≡ 16 }
 {
     let mut shown = [Obs::Word(0); 16];

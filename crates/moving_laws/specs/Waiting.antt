@@ -1,5 +1,6 @@
 -- The frames of the functions that have not returned, and what a service finds in them.
 use Rattle.std.specs.Prelude.{◌≡◌, ℕ, ◌+◌, ◌-◌, ◌*◌, ◌%◌, ◌<◌, ◌≤◌, ◌≢◌, ◌⊎◌, Bool, true, false, List, [], ◌∷◌, length, Option, Some, slice_index}
+use Rattle.bs_words.specs.Fits.{data_start}
 use Rattle.bs_words.specs.declared.values.Value.{Value}
 use Rattle.image_form.specs.Tables.{Tables, Desc}
 use Rattle.rv_machine.specs.Frames.{Frame, descriptor_at, names_register, registers_named}
@@ -39,7 +40,7 @@ Chain ds base m first a p [] = a ≡ code_start
 Chain ds base m first a p (f ∷ fs) =
     (a ≢ code_start) × (descriptor_at ds a ≡ Some f.desc) × (f.at ≡ p)
     × IsFrameAt first base p f.desc
-    × (word m (p + (f.desc.size - 8)) ≤ 0x10000000)
+    × (word m (p + (f.desc.size - 8)) ≤ data_start)
     × Chain ds base m false (word m (p + (f.desc.size - 8))) (p + f.desc.size) fs
 
 -- Its frame has what the activation has: a slot holds its value, a pointer is only where the
@@ -67,8 +68,8 @@ AllWait image placed m (x ∷ xs) (f ∷ fs) = IsWaiting image placed m x f
 
 -- an address of code to which one may go
 pub record IsBack (a : ℕ) : Type 0 where
-  pub low : 0x10000 ≤ a
-  pub high : a ≤ 0x10000000
+  pub low : code_start ≤ a
+  pub high : a ≤ data_start
   pub even : a % 4 ≡ 0
 
 -- The trap frames of the activations, from a trap pointer on: each has its handler's address and

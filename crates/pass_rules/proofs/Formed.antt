@@ -69,7 +69,7 @@ module _ (m : Mach) (code : List Instr) where
   abbrev pub q : Mach
   q = record m { code = code }
 
-  -- An instruction of it may stand in a straight run, or stood in the first: behind it are the tries, labels and handlers
+  -- An instruction of it may stand in a straight run, or could in the first: after it are the tries, labels and handlers
   -- that were.
   pub data ComesFrom (i : Instr) (zs : List Instr) : Type 0 where
     is_new : is_straight i.op ≡ true → ComesFrom i zs

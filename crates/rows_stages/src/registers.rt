@@ -2,6 +2,7 @@
 use bs_words::{Comp, Loc};
 use lin_ir::Spot;
 use mach_ir::Reg;
+use rv_isa::Register;
 
 pub(crate) const A: Reg = Reg {
     number: 0,
@@ -48,7 +49,7 @@ pub(crate) const RAISED: Reg = Reg {
 pub(crate) const FIXED: Reg = Reg {
     number: 3,
     comp: Comp::Int,
-    loc: Loc::Machine(10),
+    loc: Loc::Machine(Register::A0 as u8),
     origin: 3,
 };
 
@@ -72,7 +73,11 @@ pub(crate) fn machine(number: u8) -> Reg {
 /// The location of a register. Those whose place is open go to registers of the machine.
 pub(crate) fn placed(reg: Reg) -> Spot {
     let loc = match reg.loc {
-        Loc::Unset => Loc::Machine(if reg.number < 8 { 18 } else { 28 }),
+        Loc::Unset => Loc::Machine(if reg.number < 8 {
+            Register::S2 as u8
+        } else {
+            Register::T3 as u8
+        }),
         Loc::Machine(number) => Loc::Machine(number),
         Loc::Slot(slot) => Loc::Slot(slot),
     };

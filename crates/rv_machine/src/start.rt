@@ -1,5 +1,6 @@
 //! The memory and the registers at the start of a run.
 ghost use Rattle.std.specs.Prelude.{◌≡◌, ◌+◌, ◌*◌, ◌%◌, ◌^◌, ◌<◌, ◌≤◌, length, IfOk};
+ghost use Rattle.bs_words.specs.Fits.{data_limit};
 ghost use Rattle.rv_machine.specs.Memory.{number_of, words_of_bytes};
 ghost use Rattle.rv_machine.specs.Places.{most_room};
 ghost use Rattle.rv_machine.specs.Start.{uniform, data_region, domain_region, stack_region};
@@ -43,7 +44,7 @@ pub fn uniform(alloc: Global, start: u64, count: usize, word: u64) -> Result<Reg
 
 /// The data region of those bytes.
 pub fn data_region(alloc: Global, bytes: &[u8]) -> Result<Region, AllocError>
-    requires { length bytes.now ≤ 16777216 }
+    requires { length bytes.now ≤ data_limit }
     ensures { IfOk result (λ r. r ≡ data_region bytes.now) }
 {
     let words = words_of_bytes(alloc, bytes)?;

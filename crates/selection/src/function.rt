@@ -11,6 +11,7 @@ use crate::forms::expr_at;
 use cmm_tree::{Function, Item, Param};
 use cmm_walks::Checked;
 use mach_ir::{Mach, Reg, Seq};
+use rv_isa::COLOURS;
 use selection_code::backwards::Backwards;
 use selection_scope::place::{Place, fresh, is_no_value, result_of};
 use selection_scope::scope::{Scope, params_from};
@@ -43,7 +44,7 @@ fn function_at(items: &[Item], number: u32) -> Option<&Function>
 }
 
 /// The first number after the registers of the colours.
-const FIRST: u32 = 21;
+const FIRST: u32 = COLOURS.len() as u32;
 
 /// The numbers of a function after those of the colours and of the seats of its parameters.
 #[derive(Clone, Copy)]

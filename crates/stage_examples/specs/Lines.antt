@@ -18,6 +18,8 @@ use Rattle.lin_ir.specs.declared.lin.Flow.TheVariants as flow
 use Rattle.lin_ir.specs.declared.lin.LinOp.TheVariants as lin
 use Rattle.lin_ir.specs.declared.lin.Line.{Line}
 use Rattle.lin_ir.specs.declared.lin.Lin.{Lin}
+use Rattle.rv_isa.specs.Registers.{number}
+use Rattle.rv_isa.specs.declared.register.Register.TheVariants.{T1, A0, S2}
 use Rattle.stage_examples.specs.Registers.{move, constant, computes, load, store, allocate, calls, raise, gives, header, before}
 
 abbrev pub spot : Loc → Comp → Spot
@@ -25,10 +27,10 @@ spot l c = record { loc = l; comp = c }
 
 -- a0, where arguments, results and raised values are
 abbrev pub a0 : Loc
-a0 = loc.Machine 10
+a0 = loc.Machine (number A0)
 
 abbrev pub s2 : Loc
-s2 = loc.Machine 18
+s2 = loc.Machine (number S2)
 
 abbrev pub line : Op → List Spot → List Spot → Line
 line f args results = record { op = lin.Op f; args = args; results = results }
@@ -73,9 +75,9 @@ sum =
 abbrev pub block : List Line
 block =
     line allocate [] (spot s2 comp.Val ∷ [])
-    ∷ line (constant header) [] (spot (loc.Machine 6) comp.Int ∷ [])
+    ∷ line (constant header) [] (spot (loc.Machine (number T1)) comp.Int ∷ [])
     ∷ line (store chunk.Int before)
-    (spot s2 comp.Val ∷ spot (loc.Machine 6) comp.Int ∷ []) []
+    (spot s2 comp.Val ∷ spot (loc.Machine (number T1)) comp.Int ∷ []) []
     ∷ line (store chunk.Val 0) (spot s2 comp.Val ∷ spot a0 comp.Int ∷ []) []
     ∷ line (store chunk.Val 8) (spot s2 comp.Val ∷ spot a0 comp.Int ∷ []) [] ∷ []
 

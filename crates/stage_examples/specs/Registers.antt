@@ -27,6 +27,8 @@ use Rattle.mach_ir.specs.declared.mach.Mark.{Mark}
 use Rattle.mach_ir.specs.declared.mach.Mark.TheVariants as mark
 use Rattle.mach_ir.specs.declared.mach.Test.TheVariants as test
 use Rattle.mach_ir.specs.declared.reg.Reg.{Reg}
+use Rattle.rv_isa.specs.Registers.{number}
+use Rattle.rv_isa.specs.declared.register.Register.TheVariants.{A1, S2}
 
 -- ---- operations of both languages
 
@@ -95,10 +97,10 @@ addr n = at n comp.Addr loc.Unset
 
 -- registers that are at a1, which an external call destroys, and at s2, which it keeps
 abbrev pub at_a1 : Reg
-at_a1 = at 20 comp.Int (loc.Machine 11)
+at_a1 = at 20 comp.Int (loc.Machine (number A1))
 
 abbrev pub at_s2 : Reg
-at_s2 = at 21 comp.Int (loc.Machine 18)
+at_s2 = at 21 comp.Int (loc.Machine (number S2))
 
 abbrev pub instr : Op → List Reg → List Reg → Instr
 instr f args results = record { op = mach.Op f; args = args; results = results }
