@@ -13,7 +13,7 @@ use Rattle.cmm_tree.specs.Symbols as defined
 use Rattle.cmm_tree.specs.Tree.{DatumTree, Define, DataItemTree, DataListTree, FunctionTree, ItemTree, AFunction, AData, FileTree, functions_among, data_among}
 use Rattle.cmm_types.specs.Faults.{TypeFault, repeated_symbol}
 use Rattle.cmm_types.proofs.FirstSymbols.{definition_of-append}
-use Rattle.image_form.specs.Image.{AllDiffer}
+use Rattle.image_form.proofs.Differ.{AllDiffer}
 use Rattle.layout_rules.proofs.Rules.{all_append}
 
 -- ---- definitions

@@ -43,7 +43,8 @@ use Rattle.cmm_tree.specs.Tree.{DatumTree, Define, Val, Address, DataItemTree, D
 use Rattle.cmm_types.specs.Gathered.{comp_faults, params_faults, is_address}
 use Rattle.cmm_types.specs.Types.{body_type, result_of, with_parameters}
 use Rattle.cmm_types.proofs.Containing.{contains_none, contains_cases, contains_head, contains_tail}
-use Rattle.image_form.specs.Image.{AllDiffer, IsParam, IsResult}
+use Rattle.image_form.proofs.Differ.{AllDiffer, apart}
+use Rattle.image_form.specs.Image.{IsParam, IsResult}
 use Rattle.layout_rules.specs.Conditions.{IsRowLaid, IsExternalLaid, IsFileLaid}
 use Rattle.layout_rules.specs.Externals.{calls_in_function, all_calls, is_among, firsts_behind}
 use Rattle.layout_rules.proofs.Rules.{all_append}
@@ -294,7 +295,7 @@ module _ (text : List ℕ) (file : FileTree) (is : IsFileOf text file) where
       record {
         rows = all_rows (functions file) row;
         symbols = all_symbols (symbols_of file) (subst (AllByRecursion IsSymbol) (sym data_named) (bound_error_symbol, list_are_symbols file.items named));
-        differ = differ;
+        differ = apart (function_names file.items ++ data_names (symbols_of file)) differ;
         calls = firsts_laid [] (all_calls file) tt (laid_all (all_calls file) (all_laid (functions file) function_laid));
         no_fault = is_placed text file is.read;
         roots = list_roots data_start (lists_of file) (omega arith) (is_placed text file is.read) ((bound_error_symbol, (tt, tt)), lists_fine file.items named);

@@ -15,6 +15,7 @@ use Rattle.image_form.specs.Tables.{Tables, tables, func_names, sym_names}
 use Rattle.image_form.specs.Image.{le32, func_bytes, sym_bytes, ext_bytes, desc_bytes, table_bytes, section_bytes, tables_bytes, magic, IsVersion, AreTables, IsImage, image_bytes, table_limit}
 use Rattle.image_form.specs.Fields.{◌>>=◌, func_at, sym_at, root_at, ext_at, desc_at, table_at, words_at}
 use Rattle.image_form.specs.Reading.{Reads, IsRefusalOf, refused, mark_at, version_at, part_at, table_limits, data_limits, code_limits, code_least, reading}
+use Rattle.image_form.proofs.Differ.{apart, along}
 use Rattle.image_form.proofs.Lengths.{length-words, few, func_nonempty, sym_nonempty, ext_nonempty, desc_nonempty, le32_nonempty}
 use Rattle.image_form.proofs.Takes.{IsBytes, bind_ok, passed_ok, Takes, Takes-then}
 use Rattle.image_form.proofs.RowLaws.{FuncRule, SymRule, RootRule, ExtRule, DescRule, func_field, sym_field, root_field, ext_field, desc_field}
@@ -56,9 +57,9 @@ tables_from t r =
       code = record { words = r.code; stub = least.0; short = omega (arith, r.code_within.most, length-words t.code) };
       bytes = record { begins = r.bytes_within.least; short = r.bytes_within.most };
       syms = record { each = syms.each; in_order = syms.in_order; short = r.syms_within.most };
-      names_differ = differ_from (func_names t.funcs ++ sym_names t.syms) (new_append [] (func_names t.funcs) (sym_names t.syms) funcs.names syms.new);
+      names_differ = apart _ (differ_from (func_names t.funcs ++ sym_names t.syms) (new_append [] (func_names t.funcs) (sym_names t.syms) funcs.names syms.new));
       roots = record { each = roots.each; rising = roots.rising; short = r.roots_within.most };
-      extcs = record { each = extcs.each; differ = extcs.differ; short = r.extcs_within.most };
+      extcs = record { each = extcs.each; differ = apart _ extcs.differ; short = r.extcs_within.most };
       descs = record { each = descs.each; rising = descs.rising; short = r.descs_within.most };
     }
 
@@ -67,7 +68,7 @@ table_within n le = record { step = omega arith; least = omega arith; most = le 
 
 tables_to : (t : Tables) → AreTables t → AreRead t
 tables_to t is =
-    let names = new_parts [] (func_names t.funcs) (sym_names t.syms) (differ_to (func_names t.funcs ++ sym_names t.syms) is.names_differ) in
+    let names = new_parts [] (func_names t.funcs) (sym_names t.syms) (differ_to (func_names t.funcs ++ sym_names t.syms) (along _ is.names_differ)) in
     let code_small : 4 * length t.code < 2 ^ 32 = omega (arith, is.code.short) in
     let data_small : length t.bytes < 2 ^ 32 = omega (arith, is.bytes.short) in
     record {
@@ -85,7 +86,7 @@ tables_to t is =
       syms_within = table_within _ is.syms.short;
       roots = record { count = few le32 t.roots le32_nonempty is.roots.short; rules = roots_to (length t.bytes) t.roots data_small (record { each = is.roots.each; rising = is.roots.rising }) };
       roots_within = table_within _ is.roots.short;
-      extcs = record { count = few ext_bytes t.extcs ext_nonempty is.extcs.short; rules = extcs_to t.extcs (record { each = is.extcs.each; differ = is.extcs.differ }) };
+      extcs = record { count = few ext_bytes t.extcs ext_nonempty is.extcs.short; rules = extcs_to t.extcs (record { each = is.extcs.each; differ = along _ is.extcs.differ }) };
       extcs_within = table_within _ is.extcs.short;
       descs = record { count = few (desc_bytes t.version) t.descs (desc_nonempty t.version) is.descs.short; rules = descs_to t.version (4 * length t.code) t.descs code_small (record { each = is.descs.each; rising = is.descs.rising }) };
       descs_within = table_within _ is.descs.short;

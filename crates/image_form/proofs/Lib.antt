@@ -5,6 +5,7 @@ mod KnownImages
 pub mod Takes
 pub mod FieldLaws
 pub mod RowLaws
+pub mod Differ
 pub mod Rules
 pub mod PartLaws
 pub mod ImageLaws

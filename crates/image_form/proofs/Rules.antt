@@ -6,9 +6,10 @@ use Rattle.std.proofs.lemmas.Bool.{or_parts, or_from, false_from_ne_true}
 use Rattle.std.proofs.lemmas.List.{append-nil, map_push}
 use Rattle.std.proofs.lemmas.Slice.Eq.{bytes_eq-Decides}
 use Rattle.image_form.specs.Tables.{Func, Sym, Ext, Desc, func_names, sym_names}
-use Rattle.image_form.specs.Image.{First, EachNext, AllDiffer, IsFunc, IsBehind, IsSym, IsRoot, IsExt, IsDesc, IsEntry, IsNextEntry, entry_limit, end_of, ext_bytes}
+use Rattle.image_form.specs.Image.{First, EachNext, IsFunc, IsBehind, IsSym, IsRoot, IsExt, IsDesc, IsEntry, IsNextEntry, entry_limit, end_of, ext_bytes}
 use Rattle.image_form.specs.Seen.{has}
 use Rattle.image_form.specs.Fields.{ext_at}
+use Rattle.image_form.proofs.Differ.{AllDiffer}
 use Rattle.image_form.proofs.Lengths.{entry_fits}
 use Rattle.image_form.proofs.Texts.{has_more}
 use Rattle.image_form.proofs.Takes.{AllAfter, ok_is}

@@ -1,7 +1,7 @@
 -- The rules that each image keeps, and the one spelling of an image in bytes.
 use Rattle.std.specs.Prelude.{◌≡◌, ◌≢◌, ⊤, ℕ, ◌+◌, ◌*◌, ◌%◌, ◌^◌, ◌<◌, ◌≤◌, List, [], ◌∷◌, ◌++◌, length, map, ◌⊎◌, codes, cond, ◌==◌}
 use Rattle.bs_words.specs.Fits.{data_limit}
-use Rattle.std.specs.List.{flat_map, AllByRecursion}
+use Rattle.std.specs.List.{flat_map, AllByRecursion, AllPairs}
 use Rattle.std.specs.Int.{Width, w16, w32, to_le_bytes}
 use Rattle.bs_words.specs.declared.types.Comp.{Comp}
 use Rattle.bs_words.specs.declared.types.Comp.TheVariants.{Int, Val, Addr, Float}
@@ -21,11 +21,6 @@ First P (x ∷ xs) = P x
 abbrev pub EachNext : {A : Type 0} → (A → A → Type 0) → List A → Type 0
 EachNext R [] = ⊤
 EachNext R (x ∷ xs) = First (R x) xs × EachNext R xs
-
--- no element occurs twice
-abbrev pub AllDiffer : {A : Type 0} → List A → Type 0
-AllDiffer [] = ⊤
-AllDiffer (x ∷ xs) = AllByRecursion (λ y. x ≢ y) xs × AllDiffer xs
 
 -- ---- what every image has
 
@@ -224,7 +219,7 @@ pub record IsExt (e : Ext) : Type 0 where
 
 pub record AreExtcs (extcs : List Ext) : Type 0 where
   pub each : AllByRecursion IsExt extcs
-  pub differ : AllDiffer extcs
+  pub differ : AllPairs (λ (x y : Ext). x ≢ y) extcs
   pub short : length (table_bytes ext_bytes extcs) ≤ table_limit
 
 -- an odd entry is a register, an even one an offset in a frame of that size
@@ -258,7 +253,7 @@ pub record AreTables (t : Tables) : Type 0 where
   pub code : IsCode t.code
   pub bytes : IsData t.bytes
   pub syms : AreSyms (length t.bytes) t.syms
-  pub names_differ : AllDiffer (func_names t.funcs ++ sym_names t.syms)
+  pub names_differ : AllPairs (λ (x y : List ℕ). x ≢ y) (func_names t.funcs ++ sym_names t.syms)
   pub roots : AreRoots (length t.bytes) t.roots
   pub extcs : AreExtcs t.extcs
   pub descs : AreDescs t.version (4 * length t.code) t.descs

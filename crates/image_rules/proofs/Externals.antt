@@ -9,7 +9,8 @@ use Rattle.bs_words.specs.External.{External}
 use Rattle.bs_words.specs.declared.types.Comp.{Comp}
 use Rattle.bs_words.specs.declared.types.Ret.{Ret}
 use Rattle.cmm_tree.specs.Tree.{FileTree}
-use Rattle.image_form.specs.Image.{AllDiffer, IsExt, comp_byte, ret_byte}
+use Rattle.image_form.proofs.Differ.{AllDiffer}
+use Rattle.image_form.specs.Image.{IsExt, comp_byte, ret_byte}
 use Rattle.image_form.specs.Tables.{Ext}
 use Rattle.layout_rules.specs.Conditions.{IsExternalLaid}
 use Rattle.layout_rules.specs.Externals.{ext_of, same_row, is_among, firsts_behind, externals, all_calls}

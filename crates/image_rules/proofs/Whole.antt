@@ -1,6 +1,6 @@
 -- What is laid out is an image.
-use Rattle.std.proofs.Common.{◌≡◌, ℕ, ◌+◌, ◌-◌, ◌*◌, ◌%◌, ◌^◌, ◌<◌, ◌≤◌, Bool, true, false, cond, List, [], ◌∷◌, ◌++◌, length, map, flat_map, None, refl, sym, ap, ap₂, ◌∙◌, subst, inr, length-append, lit<, arith}
-use Rattle.std.specs.List.{AllByRecursion}
+use Rattle.std.proofs.Common.{◌≡◌, ◌≢◌, ℕ, ◌+◌, ◌-◌, ◌*◌, ◌%◌, ◌^◌, ◌<◌, ◌≤◌, Bool, true, false, cond, List, [], ◌∷◌, ◌++◌, length, map, flat_map, None, refl, sym, ap, ap₂, ◌∙◌, subst, inr, length-append, lit<, arith}
+use Rattle.std.specs.List.{AllByRecursion, AllPairs}
 use Rattle.std.specs.Prelude.{count_by}
 use Rattle.std.proofs.lemmas.List.{length-take-le}
 use Rattle.std.proofs.lemmas.List.Sums.{sum_by-cons}
@@ -11,7 +11,8 @@ use Rattle.bs_words.specs.declared.values.Value.{Value}
 use Rattle.cmm_data.specs.Contents.{statics, root_cells}
 use Rattle.cmm_data.specs.Placement.{DataSymbolTree, symbols_of, data_end, data_bytes}
 use Rattle.cmm_tree.specs.Tree.{FunctionTree, FileTree, functions}
-use Rattle.image_form.specs.Image.{First, EachNext, AllDiffer, IsBehind, IsSym, IsRoot, AreTables, end_of, stub, stub_words}
+use Rattle.image_form.proofs.Differ.{apart}
+use Rattle.image_form.specs.Image.{First, EachNext, IsBehind, IsSym, IsRoot, AreTables, end_of, stub, stub_words}
 use Rattle.image_form.specs.Tables.{Sym, func_names, sym_names}
 use Rattle.image_rules.proofs.Externals.{rows_differ, each_ext}
 use Rattle.image_rules.proofs.Limits.{are_short}
@@ -227,14 +228,14 @@ is_image file ps forms can are none =
         short = short.syms;
       };
       names_differ =
-          subst AllDiffer (sym (ap₂ (λ (a b : List (List ℕ)). a ++ b) (names_of_rows stub_words (functions file) ps forms can.each_one are) (names_of_syms (symbols_of file))))
+          subst (AllPairs (λ (x y : List ℕ). x ≢ y)) (sym (ap₂ (λ (a b : List (List ℕ)). a ++ b) (names_of_rows stub_words (functions file) ps forms can.each_one are) (names_of_syms (symbols_of file))))
           can.of_file.differ;
       roots = record {
         each = subst (λ n. AllByRecursion (IsRoot n) (map in_data (root_cells file))) len (each_root data_start (data_end file) (root_cells file) (omega arith) can.of_file.roots (roots_in_data file));
         rising = roots_rise data_start (data_end file) (root_cells file) (omega arith) (roots_in_data file);
         short = short.roots;
       };
-      extcs = record { each = each_ext (externals file) can.of_file.calls; differ = rows_differ file; short = short.extcs };
+      extcs = record { each = each_ext (externals file) can.of_file.calls; differ = apart _ (rows_differ file); short = short.extcs };
       descs = record {
         each = each_desc file (4 * length (stub ++ code)) stub_words ps forms (omega arith) can.each (omega (arith, long));
         rising = descs_in_order file stub_words ps forms can.each;

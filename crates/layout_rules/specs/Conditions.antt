@@ -1,6 +1,6 @@
 -- What laying out asks of a file and of the pieces of its functions.
-use Rattle.std.specs.Prelude.{◌≡◌, ℕ, ◌+◌, ◌%◌, ◌^◌, ◌<◌, ◌≤◌, Bool, true, false, List, [], ◌∷◌, ◌++◌, length, map, Some, None, IsSome, Contains, count_by, sum_by, ⊤}
-use Rattle.std.specs.List.{AllByRecursion}
+use Rattle.std.specs.Prelude.{◌≡◌, ◌≢◌, ℕ, ◌+◌, ◌%◌, ◌^◌, ◌<◌, ◌≤◌, Bool, true, false, List, [], ◌∷◌, ◌++◌, length, map, Some, None, IsSome, Contains, count_by, sum_by, ⊤}
+use Rattle.std.specs.List.{AllByRecursion, AllPairs}
 use Rattle.bs_words.specs.Symbol.{IsSymbol}
 use Rattle.bs_words.specs.External.{External}
 use Rattle.cmm_data.specs.Contents.{root_cells}
@@ -8,7 +8,7 @@ use Rattle.cmm_data.specs.Faults.{data_fault_of}
 use Rattle.cmm_data.specs.Placement.{DataSymbolTree, symbols_of, value_of_symbol}
 use Rattle.cmm_tree.specs.Tree.{FunctionTree, FileTree, functions, comps_of}
 use Rattle.cmm_types.specs.Types.{body_type, result_of}
-use Rattle.image_form.specs.Image.{EachNext, AllDiffer, IsEntry, IsNextEntry, IsParam, IsResult, IsArgument, IsExtResult}
+use Rattle.image_form.specs.Image.{EachNext, IsEntry, IsNextEntry, IsParam, IsResult, IsArgument, IsExtResult}
 use Rattle.layout_rules.specs.Externals.{externals}
 use Rattle.layout_rules.specs.Forms.{is_label}
 use Rattle.rv_pieces.specs.Known.{Descr}
@@ -96,7 +96,8 @@ pub record IsExternalLaid (e : External) : Type 0 where
 pub record IsFileLaid (file : FileTree) : Type 0 where
   pub rows : AllByRecursion IsRowLaid (functions file)
   pub symbols : AllByRecursion (λ (s : DataSymbolTree). IsSymbol s.name) (symbols_of file)
-  pub differ : AllDiffer (map (λ (f : FunctionTree). f.name) (functions file)
+  pub differ : AllPairs (λ (x y : List ℕ). x ≢ y)
+      (map (λ (f : FunctionTree). f.name) (functions file)
       ++ map (λ (s : DataSymbolTree). s.name) (symbols_of file))
   pub calls : AllByRecursion IsExternalLaid (externals file)
   pub no_fault : data_fault_of file ≡ None
