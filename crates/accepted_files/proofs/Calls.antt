@@ -13,13 +13,13 @@ use Rattle.bs_words.specs.declared.types.Ret.{Ret}
 use Rattle.bs_words.specs.declared.types.Ret.TheVariants as ret
 use Rattle.bs_words.specs.declared.types.Ty.{Ty}
 use Rattle.bs_words.specs.declared.types.Ty.TheVariants as ty
-use Rattle.cmm_meaning.specs.Evaluation.{comp_of_argument, comps_of_arguments, row_of_call}
+use Rattle.cmm_meaning.specs.Evaluation.{comps_of_arguments, row_of_call}
 use Rattle.cmm_tree.specs.Symbols.{DefinedSymbol}
 use Rattle.cmm_tree.specs.Tree.{Expression, Integer, Pointer, Symbol, Name, Nothing, Float, Let, Assign, Operator, Load, Store, Alloc, App, Extcall, Checkbound, Raise, Seq, If, Switch, Catch, Exit, Try, Expressions, NoMore, More, Bindings, NoBinding, Bind, Cases, NoCase, Choose, Handlers, NoHandler, Handle}
 use Rattle.cmm_types.specs.Faults.{row_length}
 use Rattle.cmm_types.specs.Gathered.{faults_in, row_faults, bindings_faults, cases_faults, handlers_faults, result_faults}
 use Rattle.cmm_types.specs.Standing.{Visible, labels_of, lasting_labels_of}
-use Rattle.cmm_types.specs.Types.{Scoped, type_of, with_bindings, with_parameters}
+use Rattle.cmm_types.specs.Types.{Scoped, type_of, with_bindings, with_parameters, comp_of_argument}
 use Rattle.cmm_types.specs.declared.role.Role.{Role}
 use Rattle.cmm_types.specs.declared.role.Role.TheVariants as role
 use Rattle.cmm_types.proofs.Containing.{contains_head, contains_tail}

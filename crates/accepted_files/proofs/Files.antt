@@ -40,8 +40,8 @@ use Rattle.cmm_reader.proofs.Measured.{read_measured}
 use Rattle.cmm_tree.specs.Symbols.{DefinedSymbol, data_symbols}
 use Rattle.cmm_tree.specs.Symbols as defined
 use Rattle.cmm_tree.specs.Tree.{DatumTree, Define, Val, Address, DataItemTree, DataListTree, Parameter, FunctionTree, ItemTree, AFunction, AData, FileTree, functions, functions_among, data_among, data_lists}
-use Rattle.cmm_types.specs.Gathered.{comp_faults, params_faults, is_address}
-use Rattle.cmm_types.specs.Types.{body_type, result_of, with_parameters}
+use Rattle.cmm_types.specs.Gathered.{comp_faults, params_faults}
+use Rattle.cmm_types.specs.Types.{body_type, result_of, with_parameters, is_address}
 use Rattle.cmm_types.proofs.Containing.{contains_none, contains_cases, contains_head, contains_tail}
 use Rattle.image_form.proofs.Differ.{AllDiffer, apart}
 use Rattle.image_form.specs.Image.{IsParam, IsResult}

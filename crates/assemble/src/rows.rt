@@ -5,7 +5,6 @@ ghost use Rattle.assemble.specs.Source.{IsSource, laid_of};
 ghost use Rattle.bs_words.specs.Contents.{contents};
 ghost use Rattle.cmm_tree.specs.View.{function_view, params_view};
 ghost use Rattle.cmm_tree.specs.Tree.{comps_of};
-ghost use Rattle.cmm_types.specs.Types.{result_of as result_of_type};
 ghost use Rattle.cmm_types.specs.Typing.{IsFunctionAnnotated};
 ghost use Rattle.image_form.specs.Tables.{func};
 ghost use Rattle.layout_rules.specs.Forms.{total_words as words_in};
@@ -14,24 +13,13 @@ ghost use Rattle.layout_rules.specs.TooLarge.{first_too_large};
 
 use crate::places::Laid;
 use crate::source::Source;
-use bs_words::{Comp, List, Name, Ret, Ty};
+use bs_words::{Comp, List, Name};
 use cmm_tree::{Function, Item, Param};
+use cmm_types::result_of;
 use image_form::FuncRow;
 use image_form::limits::STUB_WORDS;
 use rv_pieces::Pieces;
 use std::alloc::{AllocError, Global};
-
-/// What a function returns whose body has this type.
-fn result_of(ty: Ty) -> Ret
-    ensures { result ≡ result_of_type ty }
-{
-    match ty {
-        Ty::Int => Ret::Comp(Comp::Int),
-        Ty::Val => Ret::Comp(Comp::Val),
-        Ty::Addr => Ret::Comp(Comp::Addr),
-        Ty::NoValue | Ty::Never => Ret::Unit,
-    }
-}
 
 fn comps_of(alloc: Global, params: &[Param]) -> Result<List<Comp>, AllocError>
     ensures { IfOk result (λ comps. contents comps ≡ map (λ p. p.comp) (params_view params.now)) }

@@ -1,5 +1,5 @@
 -- The memory of a Cmm run: what is loaded and stored, and why not.
-use Rattle.std.specs.Prelude.{ℕ, zero, suc, ◌+◌, ◌-◌, ◌*◌, ◌/◌, ◌%◌, ◌^◌, Bool, true, false, cond, ◌&&◌, ◌==◌, nat_le, List, [], ◌∷◌, ◌++◌, Option, Some, None, Result, Ok, Err, map, length, sum, slice_get, slice_set, slice_index_or}
+use Rattle.std.specs.Prelude.{◌≡◌, ◌⊎◌, ℕ, zero, suc, ◌+◌, ◌-◌, ◌*◌, ◌/◌, ◌%◌, ◌^◌, Bool, true, false, cond, ◌&&◌, ◌==◌, nat_le, List, [], ◌∷◌, ◌++◌, Option, Some, None, Result, Ok, Err, map, length, sum, slice_get, slice_set, slice_index_or}
 use Rattle.bs_words.specs.Fits.{fits, misfit, data_start}
 use Rattle.bs_words.specs.Word.{sext_word}
 use Rattle.bs_words.specs.declared.types.Chunk.{Chunk}
@@ -63,6 +63,10 @@ width chunk.U32 = 4
 width chunk.I32 = 4
 width chunk.Int = 8
 width chunk.Val = 8
+
+-- a number of bytes that an access may have
+abbrev pub IsWidth : ℕ → Type 0
+IsWidth w = (w ≡ 1) ⊎ (w ≡ 2) ⊎ (w ≡ 4) ⊎ (w ≡ 8)
 
 -- the type of what is loaded, and of what is stored
 abbrev pub type_of_chunk : Chunk → Ty

@@ -6,10 +6,10 @@ use Rattle.bs_words.specs.declared.types.Ty.TheVariants as ty
 use Rattle.cmm_tree.specs.Place.{place_of}
 use Rattle.cmm_tree.specs.Tree.{Expression, Integer, Symbol, Name, Let, Operator, Load, Alloc, App, Raise, If, Try, Expressions, NoMore, More, NoBinding, Bind, FunctionTree, ItemTree, FileTree, functions_among}
 use Rattle.cmm_types.specs.Light.{is_light_address}
-use Rattle.cmm_types.specs.Types.{Scoped, unless_float, type_of}
+use Rattle.cmm_types.specs.Types.{Scoped, unless_float, type_of, is_address}
 use Rattle.cmm_types.proofs.Containing.{contains_none, contains_cases}
 use Rattle.walk_tables.specs.Walks
-use Rattle.walk_tables.specs.Walks.{Event, Binds, Uses, Passes, is_address, Slotted, names, slot_of, Task, Does, Evaluates, Enters, OneOf, MayRaise, Raises, Handles, operand, takes, count, waiting, filled, all_operands, used_at, tasks_of, entering, handling, behind_raise, Walk, walk_tasks}
+use Rattle.walk_tables.specs.Walks.{Event, Binds, Uses, Passes, Slotted, names, slot_of, Task, Does, Evaluates, Enters, OneOf, MayRaise, Raises, Handles, operand, takes, count, waiting, filled, all_operands, used_at, tasks_of, entering, handling, behind_raise, Walk, walk_tasks}
 use Rattle.walk_tables.specs.AddrLive.{IsLive}
 use Rattle.cmm_gen.specs.Drawn.{Drawn, DrawnFunction}
 use Rattle.cmm_gen.proofs.Trees

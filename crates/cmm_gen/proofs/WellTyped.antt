@@ -10,11 +10,11 @@ use Rattle.bs_words.specs.declared.types.Ty.{Ty}
 use Rattle.bs_words.specs.declared.types.Ty.TheVariants as ty
 use Rattle.cmm_tree.specs.Place.{place_of}
 use Rattle.cmm_tree.specs.Tree.{Expression, Symbol, Name, App, Operator, Alloc, More, NoMore, NoBinding, Bind, Let, FunctionTree, ItemTree, FileTree}
-use Rattle.cmm_types.specs.Types.{Scoped, binding_of, type_bound_by, type_named, unless_float, type_of}
+use Rattle.cmm_types.specs.Types.{Scoped, binding_of, type_bound_by, type_named, unless_float, type_of, is_address}
 use Rattle.cmm_types.specs.Standing.{Visible}
 use Rattle.cmm_tree.specs.Symbols.{DefinedSymbol, built_in, symbols_among, definition_of}
 use Rattle.cmm_types.specs.Faults.{TypeFault}
-use Rattle.cmm_types.specs.Gathered.{arity_faults, parameters_of, role_faults, used_as, faults_in, function_faults, items_faults, symbol_faults, first_symbols, file_faults, is_address}
+use Rattle.cmm_types.specs.Gathered.{arity_faults, parameters_of, role_faults, used_as, faults_in, function_faults, items_faults, symbol_faults, first_symbols, file_faults}
 use Rattle.bs_fault.specs.Reported.{Faults, NoFault, Both, one_if}
 use Rattle.cmm_types.specs.declared.role.Role.TheVariants as role
 use Rattle.cmm_types.proofs.Among.{Among, first, second}

@@ -21,7 +21,7 @@ use Rattle.bs_words.specs.declared.values.Value.{Value}
 use Rattle.bs_words.specs.declared.values.Value.TheVariants as value
 use Rattle.cmm_data.specs.Known.{LabelTree, Parameter, Expression, Integer, Pointer, Symbol, Name, Nothing, Float, Let, Assign, Operator, Load, Store, Alloc, App, Extcall, Checkbound, Raise, Seq, If, Switch, Catch, Exit, Try, Expressions, NoMore, More, Bindings, NoBinding, Bind, Cases, NoCase, Choose, Handlers, NoHandler, Handle}
 use Rattle.cmm_types.specs.Light.{is_light_address}
-use Rattle.cmm_types.specs.Types.{Scoped, type_of, type_named, type_bound, is_mutable}
+use Rattle.cmm_types.specs.Types.{Scoped, type_of, type_named, type_bound, is_mutable, comp_of_argument}
 use Rattle.bs_words.specs.Observed.{Made}
 use Rattle.cmm_meaning.specs.Choices.{Ready, ready_for, Chosen, case_for}
 use Rattle.cmm_meaning.specs.State.{Asked, Called, World, Here, taken, within_try, scope, value_of, assigned, bound, back_in, deepened}
@@ -183,12 +183,6 @@ applied s (value.Function f) arguments result tail h w =
 applied s _ arguments result tail h w = Stops (NotProper BadCall) w
 
 -- ---- external calls
-
--- the component in which an external call takes an argument of this type; an argument that never comes counts as an
--- int, and no accepted text has one of another type than int, val and never
-abbrev pub comp_of_argument : Ty → Comp
-comp_of_argument ty.Val = comp.Val
-comp_of_argument _ = comp.Int
 
 abbrev pub comps_of_arguments : List Scoped → Expressions → List Comp
 comps_of_arguments names NoMore = []

@@ -2,7 +2,7 @@
 use Rattle.std.specs.Prelude.{List, [], ◌∷◌}
 use Rattle.bs_words.specs.declared.types.Comp.{Comp}
 use Rattle.cmm_data.specs.Known.{Row_of-Expr, end_of-Expr, more_of-Expr}
-use Rattle.cmm_meaning.specs.Evaluation.{comp_of_argument}
+use Rattle.cmm_types.specs.Types.{comp_of_argument}
 
 -- the components of the arguments
 abbrev pub comps_held : {m : _} → Row_of-Expr m → List Comp

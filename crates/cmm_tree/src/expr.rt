@@ -1,6 +1,7 @@
 //! Expressions, after the reader's rewriting.
 use crate::file::Param;
 use bs_words::{Chunk, IntOp, Name, Ret, Ty};
+use std::alloc::{AllocError, Global};
 
 /// An expression.
 ///
@@ -166,9 +167,24 @@ pub enum Label {
 }
 
 impl Label {
-    ghost use Rattle.std.specs.Prelude.{◌≡◌};
+    ghost use Rattle.std.specs.Prelude.{◌≡◌, IfOk};
     ghost use Rattle.cmm_tree.specs.Tree.{same_label, is_bare};
     ghost use Rattle.cmm_tree.specs.View.{label_view};
+
+    /// The same label. The error is want of memory.
+    pub fn copy(&self, alloc: Global) -> Result<Label, AllocError>
+        ensures { IfOk result (λ copy. label_view copy ≡ label_view self.now) }
+    {
+        match self {
+            Label::Named(name) => {
+                let bytes = Vec::from_slice(alloc, name.as_bytes())?;
+                Ok(Label::Named(Name::from_vec(bytes)))
+            }
+            Label::Bare => Ok(Label::Bare),
+            Label::Done => Ok(Label::Done),
+            Label::Again => Ok(Label::Again),
+        }
+    }
 
     /// Whether the labels are the same.
     pub fn same(&self, other: &Label) -> bool

@@ -8,13 +8,13 @@ use Rattle.bs_fault.specs.declared.fault.Fault.{Fault}
 use Rattle.bs_fault.specs.declared.fault.Fault.TheVariants as fault
 use Rattle.cmm_tree.specs.Tree.{FunctionTree, DatumTree, DataItemTree, DataListTree, ItemTree, AFunction, AData, FileTree, functions, functions_among, data_lists, data_among}
 use Rattle.cmm_tree.specs.Tree as tree
-use Rattle.cmm_types.specs.Types.{with_parameters, body_type}
+use Rattle.cmm_types.specs.Types.{with_parameters, body_type, is_address}
 use Rattle.cmm_types.specs.Standing
 use Rattle.cmm_tree.specs.Symbols.{DefinedSymbol, built_in, definition_of, symbols, symbols_among}
 use Rattle.cmm_types.specs.Faults
 use Rattle.cmm_types.specs.Faults.{TypeFault}
 use Rattle.bs_fault.specs.Order.{IsLeftmost, Precedes}
-use Rattle.cmm_types.specs.Gathered.{is_address, function_faults, datum_faults, data_faults, items_faults, first_symbols, file_faults}
+use Rattle.cmm_types.specs.Gathered.{function_faults, datum_faults, data_faults, items_faults, first_symbols, file_faults}
 use Rattle.bs_fault.specs.Reported.{noted_all}
 use Rattle.cmm_types.proofs.Among.{Among, here, first, second, one_if-from, one_if-among, one-from, noted_all-meets, noted_all-from, ToldBy, AtMost-not}
 use Rattle.cmm_types.proofs.Containing.{contains_none, contains_cases, contains_head, contains_tail}

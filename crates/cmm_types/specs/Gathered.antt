@@ -1,6 +1,6 @@
 -- The faults of a file, gathered node by node, and the least among them. Private contracts cite it: that it
 -- has exactly the faults of `TypeFault` is proved.
-use Rattle.std.specs.Prelude.{ℕ, Bool, true, false, cond, not, ◌==◌, List, [], ◌∷◌, ◌++◌, Option, Some, None, is_none, is_some}
+use Rattle.std.specs.Prelude.{ℕ, false, cond, not, ◌==◌, List, [], ◌∷◌, ◌++◌, Option, Some, None, is_none, is_some}
 use Rattle.bs_words.specs.declared.types.Comp.{Comp}
 use Rattle.bs_words.specs.declared.types.Ret.{Ret}
 use Rattle.bs_words.specs.declared.types.Ret.TheVariants as ret
@@ -11,7 +11,7 @@ use Rattle.bs_fault.specs.declared.fault.Fault.TheVariants as fault
 use Rattle.cmm_tree.specs.Tree.{Expression, Integer, Pointer, Symbol, Name, Nothing, Float, Let, Assign, Operator, Load, Store, Alloc, App, Extcall, Checkbound, Raise, Seq, If, Switch, Catch, Exit, Try, Expressions, NoMore, More, Bindings, NoBinding, Bind, Declaration, Cases, NoCase, Choose, Handlers, NoHandler, Handle, Parameter, FunctionTree, LabelTree, DatumTree, DataItemTree, ItemTree, AFunction, AData, FileTree, same_label}
 use Rattle.cmm_tree.specs.Tree as tree
 use Rattle.cmm_tree.specs.Place.{place_of}
-use Rattle.cmm_types.specs.Types.{Scoped, binding_of, is_float, with_parameters, with_bindings, type_of, body_type}
+use Rattle.cmm_types.specs.Types.{Scoped, binding_of, is_float, with_parameters, with_bindings, type_of, body_type, is_address}
 use Rattle.cmm_types.specs.Standing.{Visible, handler_of, labels_of, lasting_labels_of}
 use Rattle.cmm_tree.specs.Symbols.{DefinedSymbol, built_in, definition_of, symbols_among}
 use Rattle.cmm_types.specs.Faults.{row_length, is_header}
@@ -191,10 +191,6 @@ abbrev mutual
       (handlers_faults d names labels rest)
 
 -- ---- of a file
-
-abbrev pub is_address : Ty → Bool
-is_address ty.Addr = true
-is_address _ = false
 
 abbrev pub function_faults : (List ℕ → Option DefinedSymbol) → FunctionTree → Faults
 function_faults d f =

@@ -20,6 +20,11 @@ is_light_operator AddV = true
 is_light_operator AddA = true
 is_light_operator _ = false
 
+-- the operator that makes an address inside a block
+abbrev pub makes_address : IntOp → Bool
+makes_address AddA = true
+makes_address _ = false
+
 abbrev pub is_fixed : Option Scoped → Bool
 is_fixed None = false
 is_fixed (Some s) = not s.mutable

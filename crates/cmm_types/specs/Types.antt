@@ -212,3 +212,14 @@ result_of Val = ret.Comp comp.Val
 result_of Addr = ret.Comp comp.Addr
 result_of NoValue = ret.Unit
 result_of Never = ret.Unit
+
+-- the component in which an external call takes an argument of this type; an argument that never comes counts as an
+-- int, and no accepted text has one of another type than int, val and never
+abbrev pub comp_of_argument : Ty → Comp
+comp_of_argument Val = comp.Val
+comp_of_argument _ = comp.Int
+
+-- the type of addresses inside blocks
+abbrev pub is_address : Ty → Bool
+is_address Addr = true
+is_address _ = false

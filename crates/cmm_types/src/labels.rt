@@ -1,5 +1,5 @@
 //! The labels that are visible.
-ghost use Rattle.std.specs.Prelude.{◌≡◌, ◌-◌, ◌∷◌, ◌++◌, length, [], drop, map, reverse, IfOk, OnOk};
+ghost use Rattle.std.specs.Prelude.{◌≡◌, ◌-◌, ◌∷◌, ◌++◌, length, [], drop, map, reverse, OnOk};
 ghost use Rattle.cmm_types.specs.VisibleLabels.{visible_view};
 ghost use Rattle.std.specs.Option.{option_map};
 ghost use Rattle.cmm_tree.specs.View.{label_view};
@@ -7,7 +7,6 @@ ghost use Rattle.cmm_types.specs.Standing.{Visible, handler_of, labels_of, lasti
 ghost use Rattle.cmm_tree.specs.Rows.{handlers_of};
 ghost use Rattle.cmm_types.specs.Scopes.{parameters_of_label};
 
-use bs_words::Name;
 use cmm_tree::{Handler, Label};
 use std::alloc::{AllocError, Global};
 use std::marker::Model;
@@ -33,20 +32,6 @@ impl Model for Labels {
     ghost Value = { List Visible };
 
     ghost view = { λ labels. map visible_view (reverse labels.visible.items) };
-}
-
-fn copy_of(alloc: Global, label: &Label) -> Result<Label, AllocError>
-    ensures { IfOk result (λ copy. label_view copy ≡ label_view label.now) }
-{
-    match label {
-        Label::Named(name) => {
-            let bytes = Vec::from_slice(alloc, name.as_bytes())?;
-            Ok(Label::Named(Name::from_vec(bytes)))
-        }
-        Label::Bare => Ok(Label::Bare),
-        Label::Done => Ok(Label::Done),
-        Label::Again => Ok(Label::Again),
-    }
 }
 
 /// The number of parameters at the last of these that has the label.
@@ -88,7 +73,7 @@ impl Labels {
           parameters = length handler.now.params.items;
         } ∷ self.old) }
     {
-        let label = copy_of(alloc, &handler.label)?;
+        let label = handler.label.copy(alloc)?;
         let parameters = handler.params.len();
         self.visible.push(VisibleLabel { label, parameters })?;
         Ok(())

@@ -1,10 +1,12 @@
 //! The types and symbols of Cmm files.
 #![tactic(auto)]
 
+mod bound;
 mod checker;
 mod gathering;
 mod group;
 mod labels;
+mod light;
 mod names;
 mod node;
 mod role;
@@ -12,5 +14,7 @@ mod seen;
 mod symbols;
 mod typed;
 
+pub use bound::{comp_of_argument, is_address, is_mutable, result_of, type_bound};
+pub use light::{is_light_operator, makes_address};
 pub use symbols::{Definition, Symbols};
 pub use typed::{Typed, check_types};

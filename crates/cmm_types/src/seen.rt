@@ -3,7 +3,6 @@ ghost use Rattle.std.specs.Prelude.{◌≡◌, ◌||◌, false, option_map};
 ghost use Rattle.bs_words.specs.Memory.{type_of_chunk};
 ghost use Rattle.cmm_tree.specs.View.{declared_view, params_view};
 ghost use Rattle.cmm_types.specs.Faults.{is_header};
-ghost use Rattle.cmm_types.specs.Gathered.{is_address};
 ghost use Rattle.cmm_types.specs.Types.{is_float};
 ghost use Rattle.bs_words.specs.Operators.{type_of_operator};
 ghost use Rattle.cmm_types.specs.Types.{join, unless_float, type_of_result, is_float_result, type_bound, is_mutable, is_declared_float, has_float_parameter};
@@ -100,16 +99,6 @@ pub fn ty_of_operator(op: IntOp) -> Ty
         IntOp::Add | IntOp::Sub | IntOp::Mul | IntOp::Mulh | IntOp::Div | IntOp::Mod => Ty::Int,
         IntOp::And | IntOp::Or | IntOp::Xor | IntOp::Shl | IntOp::Shr | IntOp::Sar => Ty::Int,
         IntOp::Cmp(_) | IntOp::CmpU(_) => Ty::Int,
-    }
-}
-
-/// Whether the type is that of addresses.
-pub fn is_address(ty: Ty) -> bool
-    ensures { result ≡ is_address ty }
-{
-    match ty {
-        Ty::Addr => true,
-        Ty::Never | Ty::NoValue | Ty::Int | Ty::Val => false,
     }
 }
 

@@ -9,11 +9,11 @@ ghost use Rattle.cmm_types.specs.Gathered.{function_faults, datum_faults, data_f
 ghost use Rattle.bs_fault.specs.Reported.{noted_all};
 ghost use Rattle.cmm_types.specs.Typing.{IsFunctionAnnotated, IsItemAnnotated, AreItemsAnnotated, IsFaultTold};
 
+use crate::bound::is_address;
 use crate::checker::Checker;
 use crate::gathering::gather;
 use crate::labels::Labels;
 use crate::names::Names;
-use crate::seen::is_address;
 use crate::symbols::Symbols;
 use bs_fault::{Fault, FrontError};
 use bs_words::List;

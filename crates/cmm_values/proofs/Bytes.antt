@@ -1,9 +1,8 @@
 -- The bytes of a word.
 use Rattle.std.proofs.Common.{◌≡◌, ◌∙◌, ℕ, ◌+◌, ◌-◌, ◌*◌, ◌/◌, ◌%◌, ◌^◌, ◌<◌, suc, zero, ap, sym, refl, arith, rules, tests, subst, cond, Bool, true, false, eqb, Some, None, Option, inl, inr}
-use Rattle.bs_words.specs.Memory.{Memory, Cell, cell_at, offset_in_cell, part}
+use Rattle.bs_words.specs.Memory.{Memory, Cell, cell_at, offset_in_cell, part, IsWidth}
 use Rattle.bs_words.specs.declared.values.Value.{Value}
 use Rattle.bs_words.specs.declared.values.Value.TheVariants.{Word, Block, Function}
-use Rattle.cmm_values.specs.Views.{IsWidth}
 
 -- bytes of a word replaced leave a word
 pub record Fits (o b w n : ℕ) : Type 0 where

@@ -1,5 +1,5 @@
 -- What the values of the code stand for.
-use Rattle.std.specs.Prelude.{◌≡◌, ℕ, ◌⊎◌, [], slice_index_or}
+use Rattle.std.specs.Prelude.{ℕ, [], slice_index_or}
 use Rattle.bs_words.specs.Memory.{HeapBlock, StaticList, InHeader, InBlock, InStatic}
 use Rattle.bs_words.specs.Memory as memory
 use Rattle.cmm_values.specs.declared.access.Cell.{Cell}
@@ -17,10 +17,6 @@ abbrev pub cell_view : Cell → memory.Cell
 cell_view (cell.Header serial) = InHeader serial
 cell_view (cell.Block serial index) = InBlock serial index
 cell_view (cell.Static list index) = InStatic list index
-
--- the bytes of an access
-abbrev pub IsWidth : ℕ → Type 0
-IsWidth w = (w ≡ 1) ⊎ (w ≡ 2) ⊎ (w ≡ 4) ⊎ (w ≡ 8)
 
 abbrev pub header_at : memory.Memory → ℕ → ℕ
 header_at m serial = (slice_index_or m.blocks serial (record { header = 0; cells = [] })).header

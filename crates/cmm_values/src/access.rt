@@ -1,8 +1,8 @@
 //! The cells of the memory, and where an access lies.
 ghost use Rattle.std.specs.Prelude.{◌≡◌, ◌+◌, ◌-◌, ◌*◌, ◌/◌, ◌%◌, ◌^◌, ◌<◌, ◌==◌, ◌&&◌, Some, None, map, nat_le};
 ghost use Rattle.std.specs.Prelude.{option_map, slice_index_or, slice_set, []};
-ghost use Rattle.bs_words.specs.Memory.{width, cell_of_block, in_block, in_statics, offset_in_cell, part, replaced, extended, of_type, loaded_as};
-ghost use Rattle.cmm_values.specs.Views.{block_view, list_view, cell_view, IsWidth};
+ghost use Rattle.bs_words.specs.Memory.{width, cell_of_block, in_block, in_statics, offset_in_cell, part, replaced, extended, of_type, loaded_as, IsWidth};
+ghost use Rattle.cmm_values.specs.Views.{block_view, list_view, cell_view};
 
 use crate::fit::{fits, misfit};
 use bs_words::{Chunk, Kind, Ty, Value, sext};

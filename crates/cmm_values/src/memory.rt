@@ -2,7 +2,7 @@
 ghost use Rattle.std.specs.Prelude.{◌≡◌, ◌+◌, ◌*◌, ◌%◌, ◌<◌, slice_index_or, Some, None};
 ghost use Rattle.std.specs.Prelude.{length, map, option_map, option_copied, slice_get, slice_index, IfOk, ◌^◌};
 ghost use Rattle.bs_words.specs.Fits.{data_start};
-ghost use Rattle.bs_words.specs.Memory.{InBlock, InStatic, end_of_statics, sizes, heap_need, end_of_data, width};
+ghost use Rattle.bs_words.specs.Memory.{InBlock, InStatic, end_of_statics, sizes, heap_need, end_of_data, width, IsWidth};
 ghost use Rattle.bs_words.specs.Memory.{stored_in, stored_as, put_whole, put_part, cell_at, value_in, type_in};
 ghost use Rattle.bs_words.specs.Memory.{type_of_cells, type_of_static, is_root, with_value, loaded, stored, put_in};
 ghost use Rattle.bs_words.specs.Memory.{all_fit, allocated};
@@ -11,7 +11,7 @@ ghost use Rattle.cmm_tree.specs.View.{file_view};
 ghost use Rattle.cmm_data.specs.Contents.{first_memory};
 ghost use Rattle.cmm_data.specs.Faults.{data_fault_of};
 ghost use Rattle.cmm_data.specs.Map.{cells_view};
-ghost use Rattle.cmm_values.specs.Views.{block_view, list_view, cell_view, header_at, start_at, IsWidth};
+ghost use Rattle.cmm_values.specs.Views.{block_view, list_view, cell_view, header_at, start_at};
 ghost use Rattle.cmm_values.specs.Changes.{IsStored, IsAllocated};
 
 use crate::access::{

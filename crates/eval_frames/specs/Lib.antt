@@ -6,5 +6,4 @@ pub mod Held
 pub mod Meets
 pub mod Outside
 pub mod Passing
-pub mod Sums
 pub mod Views

@@ -1,16 +1,16 @@
 //! Bindings and parameters.
-ghost use Rattle.std.specs.Prelude.{◌≡◌, ◌∷◌, [], IfOk, map, option_map};
-ghost use Rattle.cmm_tree.specs.View.{declared_view, params_view};
+ghost use Rattle.std.specs.Prelude.{◌≡◌, ◌∷◌, [], IfOk, map};
+ghost use Rattle.cmm_tree.specs.View.{params_view};
 ghost use Rattle.cmm_tree.specs.Tree.{Parameter};
-ghost use Rattle.cmm_types.specs.Types.{type_bound, is_mutable};
 ghost use Rattle.cmm_meaning.specs.State as state;
 ghost use Rattle.cmm_meaning.specs.Evaluation.{Evaluation, tested, entered, fit_parameters, scoped_parameter, with_bound};
 ghost use Rattle.eval_frames.specs.Filled.{scoped_binding, or_improper};
 ghost use Rattle.eval_frames.specs.Views.{here_view};
 
 use crate::here::Here;
-use bs_words::{Kind, Ty, Value};
-use cmm_tree::{Binding, Declared, Param};
+use bs_words::{Kind, Value};
+use cmm_tree::{Binding, Param};
+use cmm_types::{is_mutable, type_bound};
 use cmm_values::{fits, misfit};
 use std::alloc::AllocError;
 
@@ -26,30 +26,12 @@ pub fn bind_value<'a>(
         (scoped_binding binding.entry.now).type value w (go (with_bound
         (scoped_binding binding.entry.now ∷ []) (value ∷ []) (here_view here.old)))) }
 {
-    let ty = type_bound(&binding.declared, binding.value.ty);
+    let ty = type_bound(binding.declared, binding.value.ty);
     if !fits(end, ty, value) {
         return Ok(Some(misfit(ty)));
     }
-    here.bind(&binding.name, ty, is_mutable(&binding.declared), value)?;
+    here.bind(&binding.name, ty, is_mutable(binding.declared), value)?;
     Ok(None)
-}
-
-fn type_bound(declared: &Option<Declared>, ty: Ty) -> Ty
-    ensures { result ≡ type_bound (option_map declared_view declared.now) ty }
-{
-    match declared {
-        None => ty,
-        Some(declared) => declared.comp.ty(),
-    }
-}
-
-fn is_mutable(declared: &Option<Declared>) -> bool
-    ensures { result ≡ is_mutable (option_map declared_view declared.now) }
-{
-    match declared {
-        None => false,
-        Some(_) => true,
-    }
 }
 
 /// Whether values fit parameters, in number and type.

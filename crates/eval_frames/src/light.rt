@@ -1,16 +1,14 @@
 //! Light expressions, whose evaluation may wait until the operation that takes them.
 ghost use Rattle.std.specs.Prelude.{◌≡◌, ◌&&◌};
-ghost use Rattle.bs_words.specs.declared.operators.IntOp.TheVariants.{AddA};
 ghost use Rattle.cmm_tree.specs.View.{expr_view};
-ghost use Rattle.cmm_types.specs.Light.{is_light, is_light_address, is_light_operator};
+ghost use Rattle.cmm_types.specs.Light.{is_light, is_light_address};
 ghost use Rattle.cmm_meaning.specs.State.{scope};
 ghost use Rattle.cmm_meaning.specs.Evaluation.{is_left_first};
 ghost use Rattle.eval_frames.specs.Views.{here_view};
-ghost use Rattle.eval_frames.specs.Sums.{is_light_sum};
 
 use crate::here::Here;
-use bs_words::IntOp;
 use cmm_tree::{Expr, Form};
+use cmm_types::{is_light_operator, makes_address};
 
 /// Whether the expression is a light address: it is evaluated after the other operands of its operation.
 pub fn is_light_address(here: &Here<'_>, expr: &Expr) -> bool
@@ -18,7 +16,7 @@ pub fn is_light_address(here: &Here<'_>, expr: &Expr) -> bool
 {
     match &expr.form {
         Form::Operator(op, left, right) => {
-            is_light_sum(*op) && (is_light(here, left) && is_light(here, right))
+            makes_address(*op) && (is_light(here, left) && is_light(here, right))
         }
         Form::Integer(_)
         | Form::Pointer(_)
@@ -80,47 +78,5 @@ fn is_light(here: &Here<'_>, expr: &Expr) -> bool
         | Form::Catch(_, _)
         | Form::Exit { .. }
         | Form::Try { .. } => false,
-    }
-}
-
-fn is_light_sum(op: IntOp) -> bool
-    ensures { result ≡ is_light_sum op }
-{
-    match op {
-        IntOp::AddA => true,
-        IntOp::Add
-        | IntOp::Sub
-        | IntOp::Mul
-        | IntOp::Mulh
-        | IntOp::Div
-        | IntOp::Mod
-        | IntOp::And
-        | IntOp::Or
-        | IntOp::Xor
-        | IntOp::Shl
-        | IntOp::Shr
-        | IntOp::Sar
-        | IntOp::Cmp(_)
-        | IntOp::CmpU(_)
-        | IntOp::AddV => false,
-    }
-}
-
-fn is_light_operator(op: IntOp) -> bool
-    ensures { result ≡ is_light_operator op }
-{
-    match op {
-        IntOp::Add
-        | IntOp::Sub
-        | IntOp::Mul
-        | IntOp::And
-        | IntOp::Or
-        | IntOp::Xor
-        | IntOp::Shl
-        | IntOp::Shr
-        | IntOp::Sar
-        | IntOp::AddV
-        | IntOp::AddA => true,
-        IntOp::Mulh | IntOp::Div | IntOp::Mod | IntOp::Cmp(_) | IntOp::CmpU(_) => false,
     }
 }

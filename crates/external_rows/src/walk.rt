@@ -1,7 +1,6 @@
 //! The walk of a file that finds its external calls.
 ghost use Rattle.std.specs.Prelude.{◌≡◌, [], ◌∷◌, IfOk, OnOk};
 ghost use Rattle.bs_words.specs.Contents.{contents};
-ghost use Rattle.cmm_meaning.specs.Evaluation.{comp_of_argument};
 ghost use Rattle.cmm_tree.specs.View.{file_view};
 ghost use Rattle.cmm_types.specs.Typing.{AreItemsAnnotated};
 ghost use Rattle.image_rules.specs.Held.{
@@ -16,19 +15,10 @@ ghost use Rattle.image_rules.specs.Held.{
 ghost use Rattle.layout_rules.specs.Externals.{firsts_behind, externals};
 
 use crate::rows::ExternalRows;
-use bs_words::{Comp, Ty};
+use bs_words::Comp;
 use cmm_tree::{Binding, Case, Expr, File, Form, Handler, Item};
+use cmm_types::comp_of_argument;
 use std::alloc::{AllocError, Global};
-
-/// The component in which an external call takes an argument of this type.
-fn comp_of_argument(ty: Ty) -> Comp
-    ensures { result ≡ comp_of_argument ty }
-{
-    match ty {
-        Ty::Val => Comp::Val,
-        Ty::Int | Ty::Addr | Ty::Never | Ty::NoValue => Comp::Int,
-    }
-}
 
 fn comps_of_arguments(alloc: Global, arguments: &[Expr]) -> Result<Vec<Comp>, AllocError>
     ensures { IfOk result (λ comps. comps.items ≡ comps_among arguments.now) }

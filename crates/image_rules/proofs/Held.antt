@@ -6,7 +6,6 @@ use Rattle.bs_words.specs.External.{External}
 use Rattle.bs_words.specs.declared.types.Comp.{Comp}
 use Rattle.bs_words.specs.declared.types.Ret.{Ret}
 use Rattle.bs_words.specs.declared.types.Ty.TheVariants.{Val}
-use Rattle.cmm_meaning.specs.Evaluation.{comp_of_argument}
 use Rattle.cmm_meaning.specs.Held.{comps_held}
 use Rattle.cmm_meaning.proofs.Held.{comps_same}
 use Rattle.cmm_tree.specs.Tree.{NoBinding, Bind, functions_among}
@@ -22,7 +21,7 @@ use Rattle.cmm_tree.specs.declared.file.Item.{Item}
 use Rattle.cmm_tree.specs.declared.file.Item.TheVariants as item
 use Rattle.cmm_tree.proofs.Rows.{row_in, bindings_in, cases_in, handlers_in}
 use Rattle.cmm_types.specs.Annotated.{PartsTyped, RowTyped, BindingsTyped, CasesTyped, HandlersTyped}
-use Rattle.cmm_types.specs.Types.{Scoped, with_parameters, with_bindings}
+use Rattle.cmm_types.specs.Types.{Scoped, with_parameters, with_bindings, comp_of_argument}
 use Rattle.cmm_types.specs.Typing.{AreItemsAnnotated}
 use Rattle.image_rules.specs.Held.{calls_held, row_held, bindings_held, cases_held, handlers_held, comps_among, calls_among, calls_among_bindings, calls_among_cases, calls_among_handlers, calls_among_items}
 use Rattle.layout_rules.specs.Externals.{calls_in, calls_in_row, calls_in_bindings, calls_in_cases, calls_in_handlers, calls_in_function}

@@ -2,7 +2,7 @@
 use Rattle.std.specs.Prelude.{List, [], ◌∷◌, ◌++◌}
 use Rattle.bs_words.specs.External.{External}
 use Rattle.bs_words.specs.declared.types.Comp.{Comp}
-use Rattle.cmm_meaning.specs.Evaluation.{comp_of_argument}
+use Rattle.cmm_types.specs.Types.{comp_of_argument}
 use Rattle.cmm_meaning.specs.Held.{comps_held}
 use Rattle.cmm_tree.specs.declared.expr.Binding.{Binding}
 use Rattle.cmm_tree.specs.declared.expr.Case.{Case}

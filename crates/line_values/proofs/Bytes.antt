@@ -12,7 +12,7 @@ use Rattle.rv_machine.specs.Hart.{bytes_loaded, bytes_stored, executed, loads, r
 use Rattle.rv_machine.specs.Memory.{Region, code_region, code_start, is_inside, loaded, part, replaced, stored}
 use Rattle.rv_machine.specs.Services.{Machine}
 use Rattle.rv_machine.specs.Sound.{HasRegions, extent, extents}
-use Rattle.rv_machine.specs.Width.{IsWidth}
+use Rattle.bs_words.specs.Memory.{IsWidth}
 use Rattle.rv_machine.proofs.Bytes.{replaced-below}
 use Rattle.moving_laws.specs.Words.{held_word}
 use Rattle.moving_laws.proofs.Held.{IsDataOrAbove, IsHeld, has_byte, held_below, hold, hold_regions, read_part, word_hold, written_part}

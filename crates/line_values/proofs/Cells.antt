@@ -2,7 +2,7 @@
 use Rattle.std.proofs.Common.{◌≡◌, ◌≢◌, ℕ, zero, suc, ◌+◌, ◌-◌, ◌*◌, ◌/◌, ◌%◌, ◌^◌, ◌<◌, ◌≤◌, inl, inr, Bool, true, false, cond, ◌==◌, nat_le, List, length, Option, Some, None, slice_get, refl, ap, arith, ◌∙◌, sym, subst}
 use Rattle.std.proofs.lemmas.Bool.{cond-true, eq-eqb, eqb-true, le-leb, leb-true}
 use Rattle.bs_words.specs.Fits.{data_start}
-use Rattle.bs_words.specs.Memory.{Cell, InStatic, cell_at, cell_of_block, in_block, in_statics, offset_in_cell, sizes, value_in, HeapBlock, InBlock, InHeader}
+use Rattle.bs_words.specs.Memory.{Cell, InStatic, cell_at, cell_of_block, in_block, in_statics, offset_in_cell, sizes, value_in, HeapBlock, InBlock, InHeader, IsWidth}
 use Rattle.bs_words.specs.Word.{add_word}
 use Rattle.bs_words.specs.declared.values.Value.{Value}
 use Rattle.bs_words.specs.declared.values.Value.TheVariants.{Word, Block, Function}
@@ -10,7 +10,6 @@ use Rattle.mach_ir.specs.Acts.{Around, is_among}
 use Rattle.rv_machine.specs.Hart.{Placed}
 use Rattle.rv_machine.specs.Memory.{Region}
 use Rattle.rv_machine.specs.Sound.{HasRegions, extents}
-use Rattle.rv_machine.specs.Width.{IsWidth}
 use Rattle.moving_laws.specs.Values.{start_of, value_word, words_of}
 use Rattle.moving_laws.proofs.Rewriting.{start_inside}
 use Rattle.linear_machine.specs.Contents.{size_in}

@@ -10,7 +10,7 @@ use Rattle.rv_machine.specs.Moving.{copied, moved_memory, redirected, rewritten,
 use Rattle.rv_machine.specs.Placement.{header_at}
 use Rattle.rv_machine.specs.Places.{filler}
 use Rattle.rv_machine.specs.Sound.{Extent, HasRegions, IsRegion, extent}
-use Rattle.rv_machine.specs.Width.{IsWidth}
+use Rattle.bs_words.specs.Memory.{IsWidth}
 use Rattle.machine_laws.proofs.Words.{set_words}
 
 -- ---- the bytes of an access

@@ -19,7 +19,7 @@ use Rattle.rv_isa.specs.declared.instr.StoreWidth.{StoreWidth}
 use Rattle.rv_isa.specs.declared.instr.StoreWidth.TheVariants.{Sb, Sh, Sw, Sd}
 use Rattle.rv_machine.specs.Arithmetic.{alu, alu_imm, alu_word, bit_of, imm_i, low, ones, shift, shift_word}
 use Rattle.rv_machine.specs.Hart.{bytes_loaded, bytes_stored, register_loaded}
-use Rattle.rv_machine.specs.Width.{IsWidth}
+use Rattle.bs_words.specs.Memory.{IsWidth}
 
 bit-below : (b : Bool) → bit_of b < 2 ^ 64
 bit-below true = omega arith

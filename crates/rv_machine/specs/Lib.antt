@@ -1,5 +1,5 @@
 pub mod Memory
-pub mod Width
+pub mod Writes
 pub mod Arithmetic
 pub mod Hart
 pub mod Observation

@@ -3,7 +3,7 @@
 ghost use Rattle.std.specs.Prelude.{◌≡◌, ◌*◌, ◌/◌, ◌<◌, ◌^◌};
 ghost use Rattle.rv_machine.specs.Arithmetic.{imm_i, imm_b, imm_j, imm_u, alu, alu_imm, alu_word, shift, shift_word, extended, low, is_less, is_taken, sar_low};
 ghost use Rattle.rv_machine.specs.Hart.{register_loaded, bytes_loaded, bytes_stored};
-ghost use Rattle.rv_machine.specs.Width.{IsWidth};
+ghost use Rattle.bs_words.specs.Memory.{IsWidth};
 
 use rv_isa::{AluImmOp, AluOp, AluWordOp, Condition, LoadWidth, ShiftOp, ShiftWordOp, StoreWidth};
 

@@ -3,7 +3,7 @@ ghost use Rattle.std.specs.Prelude.{◌≡◌, ◌*◌, ◌^◌, ◌<◌, ◌≤
 ghost use Rattle.bs_words.specs.Contents.{contents};
 ghost use Rattle.image_form.specs.Image.{code_limit};
 ghost use Rattle.rv_machine.specs.Memory.{is_inside, index_in, byte_in, part, code_region, words_of_halves};
-ghost use Rattle.rv_machine.specs.Width.{IsWidth};
+ghost use Rattle.bs_words.specs.Memory.{IsWidth};
 
 use crate::region::low_bytes;
 use bs_words::List;

@@ -8,7 +8,7 @@ ghost use Rattle.rv_machine.specs.Memory.{loaded, stored};
 ghost use Rattle.rv_machine.specs.Space.{IsSpace};
 ghost use Rattle.rv_machine.specs.Start.{idle};
 ghost use Rattle.std.specs.Vec.{vec_capacity};
-ghost use Rattle.rv_machine.specs.Width.{IsWidth};
+ghost use Rattle.bs_words.specs.Memory.{IsWidth};
 ghost use Rattle.rv_machine.specs.Step.{counted, counted_next, next_of, Keeps, Stores, registers_after};
 ghost use Rattle.rv_machine.specs.Services.{cleared, returned_with};
 ghost use Rattle.rv_machine.specs.FrameCalls.{has_trap_frame, raised};

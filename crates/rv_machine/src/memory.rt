@@ -1,7 +1,8 @@
 //! The memory that may be written: six regions.
 ghost use Rattle.std.specs.Prelude.{◌≡◌, ◌==◌, ◌*◌, ◌%◌, ◌^◌, ◌<◌, [], ◌∷◌, IfSome};
 ghost use Rattle.rv_machine.specs.Memory.{read, written, loaded, stored, word, write};
-ghost use Rattle.rv_machine.specs.Width.{IsWidth, Writes};
+ghost use Rattle.rv_machine.specs.Writes.{Writes};
+ghost use Rattle.bs_words.specs.Memory.{IsWidth};
 
 use crate::region::Region;
 use std::marker::Model;

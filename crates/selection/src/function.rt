@@ -9,11 +9,12 @@ ghost use Rattle.selection_scope.specs.Room.{IsSelectable, most_numbers};
 
 use crate::forms::expr_at;
 use cmm_tree::{Function, Item, Param};
+use cmm_types::result_of;
 use cmm_walks::Checked;
 use mach_ir::{Mach, Reg, Seq};
 use rv_isa::COLOURS;
 use selection_code::backwards::Backwards;
-use selection_scope::place::{Place, fresh, is_no_value, result_of};
+use selection_scope::place::{Place, fresh, is_no_value};
 use selection_scope::scope::{Scope, params_from};
 use selection_scope::seats::{colour_regs, seats};
 use selection_scope::width::behind;

@@ -15,10 +15,11 @@ ghost use Rattle.selection_scope.specs.Scoping.{names_in};
 
 use bs_words::{Comp, Name, Ty};
 use cmm_tree::{Binding, Expr, Handler};
+use cmm_types::{is_mutable, type_bound};
 use mach_ir::{Label, Mark, Reg};
 use selection_code::backwards::Backwards;
 use selection_operands::operands::{Below, one};
-use selection_scope::place::{Node, Place, fresh, is_mutable, operand_at, type_bound};
+use selection_scope::place::{Node, Place, fresh, operand_at};
 use selection_scope::scope::Scope;
 use selection_scope::seats::seat;
 use selection_scope::width::{behind, behind_bindings, behind_handlers, behind_labels, width_of};

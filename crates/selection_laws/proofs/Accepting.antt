@@ -16,9 +16,9 @@ use Rattle.cmm_tree.specs.Place.{place_of}
 use Rattle.cmm_tree.specs.Symbols.{DefinedSymbol}
 use Rattle.cmm_tree.specs.Tree.{Parameter, FunctionTree, Expression, Integer, Pointer, Symbol, Name, Nothing, Float, Let, Assign, Operator, Load, Store, Alloc, App, Extcall, Checkbound, Raise, Seq, If, Switch, Catch, Exit, Try, Expressions, NoMore, More, Bindings, NoBinding, Bind, Cases, NoCase, Choose, Handlers, NoHandler, Handle}
 use Rattle.cmm_types.specs.Faults.{row_length, is_header}
-use Rattle.cmm_types.specs.Gathered.{is_address, role_faults, faults_in, row_faults, bindings_faults, cases_faults, handlers_faults}
+use Rattle.cmm_types.specs.Gathered.{role_faults, faults_in, row_faults, bindings_faults, cases_faults, handlers_faults}
 use Rattle.cmm_types.specs.Standing.{Visible, labels_of, lasting_labels_of}
-use Rattle.cmm_types.specs.Types.{Scoped, type_of, with_bindings, with_parameters}
+use Rattle.cmm_types.specs.Types.{Scoped, type_of, with_bindings, with_parameters, is_address}
 use Rattle.cmm_types.specs.declared.role.Role.{Role}
 use Rattle.cmm_types.specs.declared.role.Role.TheVariants as role
 use Rattle.selection_laws.specs.Accepted.{HaveCases, RowHaveCases, BoundHaveCases, CasesHaveCases, HandlersHaveCases, Accepted}

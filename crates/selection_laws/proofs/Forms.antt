@@ -17,9 +17,8 @@ use Rattle.bs_words.specs.declared.types.Ty.{Ty}
 use Rattle.bs_words.specs.declared.types.Ty.TheVariants as ty
 use Rattle.cmm_tree.specs.Tree.{Expression, Integer, Expressions, NoMore, More}
 use Rattle.cmm_types.specs.Faults.{row_length, is_header}
-use Rattle.cmm_types.specs.Gathered.{is_address}
-use Rattle.cmm_types.specs.Types.{type_of}
-use Rattle.cmm_meaning.specs.Evaluation.{comp_of_argument, comps_of_arguments}
+use Rattle.cmm_types.specs.Types.{type_of, is_address, comp_of_argument}
+use Rattle.cmm_meaning.specs.Evaluation.{comps_of_arguments}
 use Rattle.mach_ir.specs.Formed.{comps, IsFormed, formed_op, formed_mark, MarkHasForm, if_form, switch_form, handler_form, AreDistinct}
 use Rattle.mach_ir.specs.Forms.{IsBlock, is_immediate, IsRight, a_register, a_constant, by_symbol, by_register, IsTested, holds, signed, unsigned, results_of, HasForm, copies, constant, symbol, operates, loads, stores, allocates, calls, tail_calls, calls_out, checks, raises, returns}
 use Rattle.mach_ir.specs.Seats.{argument_places, result_places, operand_seats, result_seats, mach_operand_seats, mach_result_seats, places_of, AreSeated, anywhere, in_order, after_first, InOrder, AfterFirst}

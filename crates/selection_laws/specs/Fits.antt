@@ -6,8 +6,7 @@ use Rattle.bs_words.specs.declared.types.Ty.TheVariants as ty
 use Rattle.bs_fault.specs.Limits.{most_params}
 use Rattle.cmm_tree.specs.Tree.{FunctionTree, Expression, Integer, Pointer, Symbol, Name, Nothing, Float, Let, Assign, Operator, Load, Store, Alloc, App, Extcall, Checkbound, Raise, Seq, If, Switch, Catch, Exit, Try, Expressions, NoMore, More, Bindings, NoBinding, Bind, Cases, NoCase, Choose, Handlers, NoHandler, Handle}
 use Rattle.cmm_types.specs.Faults.{row_length, is_header}
-use Rattle.cmm_types.specs.Gathered.{is_address}
-use Rattle.cmm_types.specs.Types.{Scoped, type_of, with_bindings, with_parameters}
+use Rattle.cmm_types.specs.Types.{Scoped, type_of, with_bindings, with_parameters, is_address}
 
 abbrev pub IsWord : ℕ → Type 0
 IsWord w = w < 0x10000000000000000

@@ -2,5 +2,4 @@ pub mod Room
 pub mod Row
 pub mod Scoping
 pub mod Widths
-pub mod Light
 pub mod Outlines

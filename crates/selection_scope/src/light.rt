@@ -1,15 +1,14 @@
 //! Light expressions, whose code may wait until the operation that takes them.
 ghost use Rattle.std.specs.Prelude.{◌≡◌};
 ghost use Rattle.cmm_tree.specs.View.{expr_view};
-ghost use Rattle.cmm_types.specs.Light.{is_light, is_light_address, is_light_operator};
+ghost use Rattle.cmm_types.specs.Light.{is_light, is_light_address};
 ghost use Rattle.cmm_meaning.specs.Evaluation.{is_left_first};
 ghost use Rattle.selection_scope.specs.Scoping.{names_in};
-ghost use Rattle.selection_scope.specs.Light.{makes_address};
 
 use crate::outline::{Outline, outline_of};
 use crate::scope::Scope;
-use bs_words::IntOp;
 use cmm_tree::Expr;
+use cmm_types::{is_light_operator, makes_address};
 
 /// Whether the expression is a light address: it is selected after the other operands of its operation.
 #[tactic(auto, using(crate::proofs::Outlines::other_address))]
@@ -43,47 +42,5 @@ fn is_light(scope: &Scope, expr: &Expr) -> bool
             is_light_operator(op) && (is_light(scope, left) && is_light(scope, right))
         }
         Outline::Other => false,
-    }
-}
-
-fn makes_address(op: IntOp) -> bool
-    ensures { result ≡ makes_address op }
-{
-    match op {
-        IntOp::AddA => true,
-        IntOp::Add
-        | IntOp::Sub
-        | IntOp::Mul
-        | IntOp::Mulh
-        | IntOp::Div
-        | IntOp::Mod
-        | IntOp::And
-        | IntOp::Or
-        | IntOp::Xor
-        | IntOp::Shl
-        | IntOp::Shr
-        | IntOp::Sar
-        | IntOp::Cmp(_)
-        | IntOp::CmpU(_)
-        | IntOp::AddV => false,
-    }
-}
-
-fn is_light_operator(op: IntOp) -> bool
-    ensures { result ≡ is_light_operator op }
-{
-    match op {
-        IntOp::Add
-        | IntOp::Sub
-        | IntOp::Mul
-        | IntOp::And
-        | IntOp::Or
-        | IntOp::Xor
-        | IntOp::Shl
-        | IntOp::Shr
-        | IntOp::Sar
-        | IntOp::AddV
-        | IntOp::AddA => true,
-        IntOp::Mulh | IntOp::Div | IntOp::Mod | IntOp::Cmp(_) | IntOp::CmpU(_) => false,
     }
 }

@@ -1,13 +1,9 @@
 //! Where the value of a node goes, and whether that is the end of the function.
 ghost use Rattle.std.specs.Prelude.{◌≡◌, false};
-ghost use Rattle.cmm_types.specs.Types.{type_bound, is_mutable, result_of};
-ghost use Rattle.cmm_tree.specs.View.{declared_view};
-ghost use Rattle.std.specs.Option.{option_map};
 ghost use Rattle.selection_rules.specs.Select.{comp_of, fresh, inner_dest, inner_valued, is_no_value};
 ghost use Rattle.mach_ir.specs.declared.reg.Reg.{Reg};
 
-use bs_words::{Comp, Loc, Ret, Ty};
-use cmm_tree::Declared;
+use bs_words::{Comp, Loc, Ty};
 use mach_ir::Reg;
 
 /// Where the value of a node goes.
@@ -101,38 +97,6 @@ pub fn fresh(number: u32, ty: Ty) -> Reg
         comp: comp_of(ty),
         loc: Loc::Unset,
         origin: number,
-    }
-}
-
-/// The type of a name that is bound to a value of this type.
-pub fn type_bound(declared: Option<Declared>, ty: Ty) -> Ty
-    ensures { result ≡ type_bound (option_map declared_view declared) ty }
-{
-    match declared {
-        None => ty,
-        Some(declared) => declared.comp.ty(),
-    }
-}
-
-/// Whether an assignment may change the name.
-pub fn is_mutable(declared: Option<Declared>) -> bool
-    ensures { result ≡ is_mutable (option_map declared_view declared) }
-{
-    match declared {
-        None => false,
-        Some(_) => true,
-    }
-}
-
-/// What a function returns whose body has this type.
-pub fn result_of(ty: Ty) -> Ret
-    ensures { result ≡ result_of ty }
-{
-    match ty {
-        Ty::Int => Ret::Comp(Comp::Int),
-        Ty::Val => Ret::Comp(Comp::Val),
-        Ty::Addr => Ret::Comp(Comp::Addr),
-        Ty::NoValue | Ty::Never => Ret::Unit,
     }
 }
 

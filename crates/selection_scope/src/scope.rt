@@ -76,20 +76,6 @@ fn innermost<'b>(names: &'b [Bound], name: &Name) -> Option<&'b Bound>
     None
 }
 
-fn copy_of(alloc: Global, label: &Label) -> Result<Label, AllocError>
-    ensures { IfOk result (λ copy. label_view copy ≡ label_view label.now) }
-{
-    match label {
-        Label::Named(name) => {
-            let bytes = Vec::from_slice(alloc, name.as_bytes())?;
-            Ok(Label::Named(Name::from_vec(bytes)))
-        }
-        Label::Bare => Ok(Label::Bare),
-        Label::Done => Ok(Label::Done),
-        Label::Again => Ok(Label::Again),
-    }
-}
-
 /// The last of the handlers that has the label.
 fn handler_for<'b>(labels: &'b [Target], label: &Label) -> Option<&'b Target>
     ensures { option_map target_view (option_copied result) ≡ label_of (map target_view
@@ -133,7 +119,7 @@ fn targets(alloc: Global, handlers: &[Handler], number: u32) -> Result<Vec<Targe
     while let [handler, others @ ..] = rest {
         let first = next + 1;
         let params = params_from(alloc, first, handler.params.as_slice())?;
-        let label = copy_of(alloc, &handler.label)?;
+        let label = handler.label.copy(alloc)?;
         targets.push(Target {
             label,
             params,

@@ -3,7 +3,7 @@ ghost use Rattle.std.specs.Prelude.{◌≡◌, ◌+◌, ◌<◌, length, slice_i
 ghost use Rattle.bs_words.specs.declared.types.Loc.TheVariants as loc;
 ghost use Rattle.cmm_tree.specs.Rows.{row_of};
 ghost use Rattle.cmm_types.specs.Lists.{AreAnnotated};
-ghost use Rattle.cmm_meaning.specs.Evaluation.{comp_of_argument, comps_of_arguments};
+ghost use Rattle.cmm_meaning.specs.Evaluation.{comps_of_arguments};
 ghost use Rattle.mach_ir.specs.Placed.{colours};
 ghost use Rattle.mach_ir.specs.Seats.{argument_places};
 ghost use Rattle.selection_rules.specs.Select.{seat, seats, result_seat, regs_of, colour_regs};
@@ -13,8 +13,9 @@ ghost use Rattle.selection_scope.specs.Scoping.{names_in};
 use crate::place::fresh;
 use crate::row::Regs;
 use crate::scope::Scope;
-use bs_words::{Comp, Loc, Ret, Ty};
+use bs_words::{Comp, Loc, Ret};
 use cmm_tree::Expr;
+use cmm_types::comp_of_argument;
 use mach_ir::{Reg, Seq};
 use rv_isa::{ARGUMENT_REGISTERS, COLOURS};
 use std::alloc::{AllocError, Global};
@@ -87,16 +88,6 @@ pub fn regs_of(scope: &Scope, number: u32, exprs: &[Expr]) -> Result<Regs, Alloc
         rest = others;
     }
     Ok(made)
-}
-
-/// The component of an argument of this type.
-fn comp_of_argument(ty: Ty) -> Comp
-    ensures { result ≡ comp_of_argument ty }
-{
-    match ty {
-        Ty::Val => Comp::Val,
-        Ty::Int | Ty::Addr | Ty::Never | Ty::NoValue => Comp::Int,
-    }
 }
 
 /// The components of the arguments of an external call.

@@ -12,12 +12,12 @@ use Rattle.cmm_tree.specs.Place.{place_of}
 use Rattle.cmm_tree.specs.Symbols.{DefinedSymbol}
 use Rattle.cmm_tree.specs.Tree.{Expression, Integer, Pointer, Symbol, Name, Nothing, Float, Let, Assign, Operator, Load, Store, Alloc, App, Extcall, Checkbound, Raise, Seq, If, Switch, Catch, Exit, Try}
 use Rattle.cmm_types.specs.Light.{is_light, is_light_operator, is_light_address}
-use Rattle.cmm_types.specs.Types.{type_of, type_without_float, holds_float}
+use Rattle.cmm_types.specs.Types.{type_of, type_without_float, holds_float, is_address}
 use Rattle.cmm_types.specs.Standing.{Visible}
 use Rattle.cmm_types.specs.Gathered.{faults_in}
 use Rattle.cmm_types.specs.declared.role.Role.TheVariants as role
 use Rattle.cmm_meaning.specs.Evaluation.{is_left_first}
-use Rattle.walk_tables.specs.Walks.{Event, Binds, Uses, Task, Does, Evaluates, MayRaise, Slotted, names, is_address, takes, operand, tasks_of, all_operands, two, behind_raise}
+use Rattle.walk_tables.specs.Walks.{Event, Binds, Uses, Task, Does, Evaluates, MayRaise, Slotted, names, takes, operand, tasks_of, all_operands, two, behind_raise}
 use Rattle.walk_tables.specs.Walks as walk
 use Rattle.mach_ir.specs.Meaning.{passes_frame}
 use Rattle.mach_ir.specs.Walks.{Among, first}

@@ -10,12 +10,12 @@ use Rattle.cmm_tree.specs.Symbols.{DefinedSymbol}
 use Rattle.cmm_tree.specs.Tree.{Expression, Operator, If, Switch, Cases, NoCase, Choose}
 use Rattle.cmm_types.proofs.Containing.{contains_head, contains_tail}
 use Rattle.cmm_types.specs.Light.{is_light_address}
-use Rattle.cmm_types.specs.Types.{type_of, type_without_float, holds_float}
+use Rattle.cmm_types.specs.Types.{type_of, type_without_float, holds_float, is_address}
 use Rattle.cmm_types.specs.Standing.{Visible}
 use Rattle.cmm_types.specs.Gathered.{faults_in}
 use Rattle.cmm_types.specs.declared.role.Role.TheVariants as role
 use Rattle.cmm_meaning.specs.Evaluation.{is_left_first}
-use Rattle.walk_tables.specs.Walks.{Binds, Uses, Task, Does, Evaluates, OneOf, Slotted, names, is_address, takes, operand, all_operands, two, bodies}
+use Rattle.walk_tables.specs.Walks.{Binds, Uses, Task, Does, Evaluates, OneOf, Slotted, names, takes, operand, all_operands, two, bodies}
 use Rattle.walk_tables.specs.Walks as walk
 use Rattle.mach_ir.specs.Acts.{Target, On, At}
 use Rattle.mach_ir.specs.Meaning.{code_at}

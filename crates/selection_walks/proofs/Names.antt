@@ -5,8 +5,8 @@ use Rattle.bs_words.specs.declared.types.Ty.{Ty}
 use Rattle.bs_words.specs.declared.types.Ty.TheVariants as ty
 use Rattle.bs_fault.specs.Reported.{Faultless, one_if, here as one_here}
 use Rattle.bs_fault.specs.declared.fault.Fault.TheVariants as fault
-use Rattle.cmm_types.specs.Types.{Scoped, unless_float}
-use Rattle.walk_tables.specs.Walks.{Binds, Task, Does, used_at, bound_at, is_address}
+use Rattle.cmm_types.specs.Types.{Scoped, unless_float, is_address}
+use Rattle.walk_tables.specs.Walks.{Binds, Task, Does, used_at, bound_at}
 use Rattle.mach_ir.specs.Walks.{Among, first}
 use Rattle.mach_ir.specs.declared.mach.Instr.{Instr}
 use Rattle.mach_ir.specs.declared.mach.Mach.{Mach}

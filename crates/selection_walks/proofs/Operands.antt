@@ -7,13 +7,13 @@ use Rattle.cmm_tree.specs.Place.{place_of}
 use Rattle.cmm_tree.specs.Symbols.{DefinedSymbol}
 use Rattle.cmm_tree.specs.Tree.{LabelTree, Expression, Expressions, NoMore, More}
 use Rattle.cmm_types.specs.Light.{is_light_address}
-use Rattle.cmm_types.specs.Types.{Scoped, type_of, type_without_float}
+use Rattle.cmm_types.specs.Types.{Scoped, type_of, type_without_float, is_address}
 use Rattle.selection_walks.proofs.Floats.{has_one}
 use Rattle.cmm_types.specs.Standing.{Visible}
 use Rattle.cmm_types.specs.Gathered.{faults_in, role_faults}
 use Rattle.cmm_types.specs.declared.role.Role.{Role}
 use Rattle.cmm_types.specs.declared.role.Role.TheVariants as role
-use Rattle.walk_tables.specs.Walks.{Binds, Task, Does, Evaluates, Slotted, names, is_address, behind_raise, behind_exit, operand, tasks_of}
+use Rattle.walk_tables.specs.Walks.{Binds, Task, Does, Evaluates, Slotted, names, behind_raise, behind_exit, operand, tasks_of}
 use Rattle.walk_tables.specs.Walks as walk
 use Rattle.mach_ir.specs.Walks.{Among, first, later}
 use Rattle.mach_ir.specs.declared.mach.Instr.{Instr}

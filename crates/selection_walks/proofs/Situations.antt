@@ -7,9 +7,9 @@ use Rattle.bs_words.specs.declared.types.Comp.TheVariants as comp
 use Rattle.bs_words.specs.declared.types.Ty.{Ty}
 use Rattle.bs_words.specs.declared.types.Ty.TheVariants as ty
 use Rattle.cmm_tree.specs.Tree.{LabelTree, Parameter}
-use Rattle.cmm_types.specs.Types.{Scoped, binding_of, type_bound_by, type_named}
+use Rattle.cmm_types.specs.Types.{Scoped, binding_of, type_bound_by, type_named, is_address}
 use Rattle.cmm_types.specs.Standing.{Visible}
-use Rattle.walk_tables.specs.Walks.{Binds, Task, Does, Slotted, slotted_as, slot_of, names, is_address, behind_raise, behind_exit, parameters_bound, takes}
+use Rattle.walk_tables.specs.Walks.{Binds, Task, Does, Slotted, slotted_as, slot_of, names, behind_raise, behind_exit, parameters_bound, takes}
 use Rattle.walk_tables.specs.Walks as walk
 use Rattle.mach_ir.specs.Meaning.{after_label, from_handler}
 use Rattle.mach_ir.specs.Walks.{Among, first, later}

@@ -13,10 +13,10 @@ use Rattle.cmm_tree.specs.declared.file.Param.{Param}
 use Rattle.cmm_types.specs.Annotated.{IsAnnotated}
 use Rattle.cmm_types.specs.Lists.{AreCasesAnnotated}
 use Rattle.cmm_tree.specs.Rows.{cases_of}
-use Rattle.cmm_types.specs.Types.{Scoped}
+use Rattle.cmm_types.specs.Types.{Scoped, is_address}
 use Rattle.walk_tables.specs.Cells.{scope_at, tasks_at, tasks_in}
 use Rattle.walk_tables.specs.Sound.{IsBelow, IsHeld, Extends, Adds, GoesTo, GoesAs, Steps, BodiesAt, AddsBodies}
-use Rattle.walk_tables.specs.Walks.{Event, Slotted, Task, Does, Binds, is_address, bodies, parameters_bound, Evaluates, Enters, OneOf, MayRaise, Raises, Exits, Catches, Handles, tasks_of, entering, behind_raise, behind_exit, Next}
+use Rattle.walk_tables.specs.Walks.{Event, Slotted, Task, Does, Binds, bodies, parameters_bound, Evaluates, Enters, OneOf, MayRaise, Raises, Exits, Catches, Handles, tasks_of, entering, behind_raise, behind_exit, Next}
 use Rattle.walk_tables.specs.Walks as steps
 use Rattle.walk_tables.specs.Table.{shown, next_cells}
 use Rattle.walk_tables.specs.declared.items.Item.{Item}

@@ -4,9 +4,9 @@ use Rattle.cmm_tree.specs.Tree.{Expression, More}
 use Rattle.cmm_tree.specs.declared.expr.Expr.{Expr}
 use Rattle.cmm_types.specs.Light.{is_light_address}
 use Rattle.cmm_tree.specs.Rows.{row_of}
-use Rattle.cmm_types.specs.Types.{type_named}
+use Rattle.cmm_types.specs.Types.{type_named, is_address}
 use Rattle.walk_tables.specs.Found.{found_in}
-use Rattle.walk_tables.specs.Walks.{Slotted, Task, Does, Binds, Uses, Passes, called, names, is_address, operand, takes, count, waiting, filled, all_operands, on_one, on_two, used_at, bound_at, slot_of}
+use Rattle.walk_tables.specs.Walks.{Slotted, Task, Does, Binds, Uses, Passes, called, names, operand, takes, count, waiting, filled, all_operands, on_one, on_two, used_at, bound_at, slot_of}
 use Rattle.walk_tables.specs.declared.scopes.Found.{Found}
 use Rattle.walk_tables.proofs.Names.{type-found, slot-found, type_of_found, slot_of_found}
 use Rattle.walk_tables.proofs.Parts.{count-is}

@@ -12,8 +12,8 @@ use Rattle.cmm_types.specs.Annotated.{IsAnnotated}
 use Rattle.cmm_types.specs.Light.{is_light_address}
 use Rattle.cmm_types.specs.Lists.{AreAnnotated}
 use Rattle.cmm_tree.specs.Rows.{row_of}
-use Rattle.cmm_types.specs.Types.{Scoped, type_of, type_bound, is_mutable}
-use Rattle.walk_tables.specs.Walks.{Slotted, Does, Evaluates, Enters, Binds, Uses, names, is_address, operand, takes, count, waiting, filled, all_operands, in_order, parameters_bound}
+use Rattle.cmm_types.specs.Types.{Scoped, type_of, type_bound, is_mutable, is_address}
+use Rattle.walk_tables.specs.Walks.{Slotted, Does, Evaluates, Enters, Binds, Uses, names, operand, takes, count, waiting, filled, all_operands, in_order, parameters_bound}
 
 pub operand-is : (s : List Slotted) (free slot : ℕ) (e : Expr) (address : Bool) → address ≡ is_address e.ty → IsAnnotated (names s) e
     → Evaluates s free (expr_view e) ∷ Does (Binds slot address e.at) ∷ [] ≡ operand s free slot (expr_view e)

@@ -11,7 +11,7 @@ use Rattle.bs_words.specs.declared.types.Ty.TheVariants as ty
 use Rattle.cmm_tree.specs.Place.{place_of}
 use Rattle.cmm_tree.specs.Tree.{same_label, is_bare, LabelTree, Parameter, Expression, Integer, Pointer, Symbol, Name, Nothing, Float, Let, Assign, Operator, Load, Store, Alloc, App, Extcall, Checkbound, Raise, Seq, If, Switch, Catch, Exit, Try, Expressions, NoMore, More, Bindings, NoBinding, Bind, Cases, NoCase, Choose, Handlers, NoHandler, Handle, FunctionTree}
 use Rattle.cmm_types.specs.Light.{is_light_address}
-use Rattle.cmm_types.specs.Types.{Scoped, type_of, type_named, type_bound, is_mutable}
+use Rattle.cmm_types.specs.Types.{Scoped, type_of, type_named, type_bound, is_mutable, is_address}
 
 -- ---- events
 
@@ -23,10 +23,6 @@ pub data Event : Type 0 where
   Uses : (slot at : ℕ) → Event
   -- a frame point
   Passes : (at : ℕ) → Event
-
-abbrev pub is_address : Ty → Bool
-is_address ty.Addr = true
-is_address _ = false
 
 -- ---- scopes
 

@@ -13,10 +13,10 @@ ghost use Rattle.cmm_types.specs.Types.{type_named, with_bindings};
 ghost use Rattle.walk_tables.specs.Cells.{cells};
 ghost use Rattle.walk_tables.specs.Sound.{IsReady, IsScope, Adds, AddsHandlers};
 
-use crate::bound_types::is_address;
 use crate::items::{Action, Cells, Item};
 use bs_words::{Name, Ty};
 use cmm_tree::{Binding, Case, Expr, Form, Handler, Label};
+use cmm_types::is_address;
 use std::alloc::AllocError;
 
 impl<'a> Cells<'a> {

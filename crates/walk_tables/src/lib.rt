@@ -6,7 +6,6 @@
 //! are those that are live on a walk (`specs/AddrLive.antt`).
 #![tactic(auto)]
 
-mod bound_types;
 mod expressions;
 mod items;
 mod leaving;

@@ -1,7 +1,7 @@
 //! The names in scope, and the slot of each.
 ghost use Rattle.std.specs.Prelude.{◌≡◌, ◌∷◌, ◌&&◌, ◌+◌, ◌≤◌, suc, length, List, Some, IfOk};
 ghost use Rattle.cmm_tree.specs.View.{expr_view, params_view};
-ghost use Rattle.cmm_types.specs.Light.{is_light_operator, is_immutable, is_light, is_light_address};
+ghost use Rattle.cmm_types.specs.Light.{is_immutable, is_light, is_light_address};
 ghost use Rattle.walk_tables.specs.Walks.{Slotted, names, with_slots};
 ghost use Rattle.walk_tables.specs.Cells.{cells, item_at};
 ghost use Rattle.walk_tables.specs.Sound.{IsSound, IsScope, Opens};
@@ -10,6 +10,7 @@ ghost use Rattle.walk_tables.specs.Found.{found_in};
 use crate::items::{Cells, Item};
 use bs_words::{IntOp, Name, Ty};
 use cmm_tree::{Expr, Form, Param};
+use cmm_types::is_light_operator;
 use std::alloc::AllocError;
 
 /// What a name in scope stands for.
@@ -231,16 +232,4 @@ fn both(one: bool, other: bool) -> bool
     ensures { result ≡ (one && other) }
 {
     one && other
-}
-
-fn is_light_operator(op: IntOp) -> bool
-    ensures { result ≡ is_light_operator op }
-{
-    match op {
-        IntOp::Add | IntOp::Sub | IntOp::Mul => true,
-        IntOp::And | IntOp::Or | IntOp::Xor => true,
-        IntOp::Shl | IntOp::Shr | IntOp::Sar => true,
-        IntOp::AddV | IntOp::AddA => true,
-        IntOp::Mulh | IntOp::Div | IntOp::Mod | IntOp::Cmp(_) | IntOp::CmpU(_) => false,
-    }
 }

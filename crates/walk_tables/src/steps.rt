@@ -9,10 +9,10 @@ ghost use Rattle.walk_tables.specs.Walks.{Slotted, Evaluates, Enters, OneOf, May
 ghost use Rattle.walk_tables.specs.Cells.{cells, scope_at, tasks_at, tasks_in, handler_tasks};
 ghost use Rattle.walk_tables.specs.Sound.{free_in, IsSound, IsBelow, IsHeld, IsReady, IsScope, HandlersAt, Steps, AddsBodies};
 
-use crate::bound_types::is_address;
 use crate::items::{Action, Cells, Item};
 use crate::node::{Node, any_of, forked, last, quiet, telling};
 use cmm_tree::{Binding, Case, Expr, Handler, Label, Param};
+use cmm_types::is_address;
 use std::alloc::{AllocError, Global};
 
 /// What a handler evaluates once its parameters are bound, and where it then goes on.

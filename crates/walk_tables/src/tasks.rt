@@ -11,9 +11,9 @@ ghost use Rattle.walk_tables.specs.Walks.{all_operands, in_order, parameters_bou
 ghost use Rattle.walk_tables.specs.Cells.{cells, event_of};
 ghost use Rattle.walk_tables.specs.Sound.{IsReady, IsScope, Adds};
 
-use crate::bound_types::{is_address, is_mutable, type_bound};
 use crate::items::{Action, Cells, Item};
 use cmm_tree::{Binding, Expr, Param};
+use cmm_types::{is_address, is_mutable, type_bound};
 use std::alloc::AllocError;
 
 impl<'a> Cells<'a> {

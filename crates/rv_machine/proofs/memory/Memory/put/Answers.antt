@@ -1,6 +1,6 @@
 use Rattle.std.proofs.Common.{Bool, true, false, List, Option, ◌≡◌, ◌∙◌, sym, ap}
 use Rattle.rv_machine.specs.Memory.{Region, memory_or, write}
-use Rattle.rv_machine.specs.Width.{Writes}
+use Rattle.rv_machine.specs.Writes.{Writes}
 use Rattle.rv_machine.proofs.memory.Memory.put.Goals as goal
 
 written_is : (b : Bool) (o : Option (List Region)) (old new : List Region) → Writes b o old new → new ≡ memory_or old o
