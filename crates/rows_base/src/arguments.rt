@@ -1,32 +1,23 @@
-//! What the words of each line of standard input are: a command with all its values, or which mistake.
+//! What the words of a command line are: a command with all its values, or which mistake.
 //!
-//! Words are between single spaces, so a word may be empty; a line with nothing has no word. The lines in `stdout` were not
+//! Words are between single spaces, so a word may be empty; a row with nothing has no word. The wanted lines were not
 //! written by this program: a script wrote them from the grammar alone.
-#![tactic(auto)]
-
 use anyhow::Result;
 use command_line::{Arg, Command, Moves, Stage, WordsError, read_words};
 use std::alloc::Global;
-use std::io::{self, BufRead, BufReader, BufWriter, Write};
 
-fn main(rt: HostRuntime) -> Result<()> {
-    let alloc = rt.alloc();
-    let mut out = BufWriter::new(alloc, rt.stdout())?;
-    for line in BufReader::new(alloc, rt.stdin())?.lines(alloc) {
-        let line = line?;
-        let told = told(alloc, line.as_str())?;
-        out.write_all(told.as_bytes())?;
-        out.write_all(b"\n")?;
-    }
-    out.flush()?;
-    Ok(())
+/// What is shown of a row.
+pub(crate) fn said_to(alloc: Global, row: &str) -> Result<Vec<u8>> {
+    let mut said = told(alloc, row)?;
+    said.push('\n')?;
+    Ok(said.into_bytes())
 }
 
-/// What is said of a line's words.
-fn told(alloc: Global, line: &str) -> Result<String> {
+/// What is said of a row's words.
+fn told(alloc: Global, row: &str) -> Result<String> {
     let mut words = Vec::new(alloc);
-    if !line.is_empty() {
-        for word in line.split(' ') {
+    if !row.is_empty() {
+        for word in row.split(' ') {
             words.push(String::from_str(alloc, word)?)?;
         }
     }

@@ -1,33 +1,22 @@
-//! What the arithmetic on words and the sets of bits give for each line of standard input.
+//! What the arithmetic on words and the sets of bits give.
 //!
-//! A line is an operation with its operands: `add 1 2`, `sar 5 1` or `sext 255 8`, words being written without a sign;
+//! A row is an operation with its operands: `add 1 2`, `sar 5 1` or `sext 255 8`, words being written without a sign;
 //! or `bits`, a size, and what is done with two sets `a` and `b` of numbers below that size: `a3` and `b3` put 3 in,
 //! `-3` takes it out of `a`, `|` puts all of `b` into `a`, `0` empties `a`, `?3` asks whether `a` has it and `>3` which
-//! is the first member of `a` from 3 on. The lines in `stdout` are those of the RISC-V manual's tables and of a script
-//! with integers of any size.
-#![tactic(auto)]
-
-mod sets;
-
+//! is the first member of `a` from 3 on. The wanted lines are those of the RISC-V manual's tables and of a script with
+//! integers of any size.
+use crate::sets::told_of_sets;
 use anyhow::{Result, bail};
 use bs_words::{add, div, mul, mulh, rem, sar, sext, shl, shr, signed, sub};
-use sets::told_of_sets;
 use std::alloc::Global;
-use std::io::{self, BufRead, BufReader, BufWriter, Write};
 
-fn main(rt: HostRuntime) -> Result<()> {
-    let alloc = rt.alloc();
-    let mut out = BufWriter::new(alloc, rt.stdout())?;
-    for line in BufReader::new(alloc, rt.stdin())?.lines(alloc) {
-        let line = line?;
-        let told = match line.as_str().strip_prefix("bits ") {
-            Some(words) => told_of_sets(alloc, words)?,
-            None => told_of_words(alloc, line.as_str())?,
-        };
-        out.write_all(told.as_bytes())?;
-    }
-    out.flush()?;
-    Ok(())
+/// What is shown of a row.
+pub(crate) fn said_to(alloc: Global, row: &str) -> Result<Vec<u8>> {
+    let said = match row.strip_prefix("bits ") {
+        Some(words) => told_of_sets(alloc, words)?,
+        None => told_of_words(alloc, row)?,
+    };
+    Ok(said.into_bytes())
 }
 
 /// What an operation gives, or `no row` where it has no value on these operands.

@@ -1,31 +1,21 @@
 //! What reading the bytes of an image comes to: its first fault and the place of that, or `comes back` where writing the
 //! image gives the same bytes again.
 //!
-//! A line of `stdin` gives the bytes (`image 67 77 ..`), or what is changed in them for this line alone: `19=127` for a
-//! byte, `cut 20` for the first 20 bytes, `more 0` for one byte at the end. The lines of `stdout` are a second reader's,
-//! written from the rules of images alone.
-#![tactic(auto)]
-
+//! A row gives the bytes (`image 67 77 ..`), or what is changed in them for this row alone: `19=127` for a byte, `cut 20`
+//! for the first 20 bytes, `more 0` for one byte at the end. The wanted lines are a second reader's, written from the
+//! rules of images alone.
 use anyhow::Result;
 use bs_fault::image_text;
 use image_form::{ImageError, read_image, write_image};
 use std::alloc::Global;
-use std::io::{self, BufRead, BufReader, BufWriter, Write};
 
-fn main(rt: HostRuntime) -> Result<()> {
-    let alloc = rt.alloc();
-    let mut base = Vec::new(alloc);
-    let mut out = BufWriter::new(alloc, rt.stdout())?;
-    for line in BufReader::new(alloc, rt.stdin())?.lines(alloc) {
-        let line = line?;
-        if let Some(numbers) = line.as_str().strip_prefix("image ") {
-            base = bytes_of(alloc, numbers)?;
-        }
-        let bytes = changed(base.clone()?, line.as_str())?;
-        out.write_all(told(alloc, bytes.as_slice())?.as_slice())?;
+/// What is shown of a row. `image` has the bytes that the last row of `image` gave.
+pub(crate) fn said_to(alloc: Global, image: &mut Vec<u8>, row: &str) -> Result<Vec<u8>> {
+    if let Some(numbers) = row.strip_prefix("image ") {
+        *image = bytes_of(alloc, numbers)?;
     }
-    out.flush()?;
-    Ok(())
+    let bytes = changed(image.clone()?, row)?;
+    told(alloc, bytes.as_slice())
 }
 
 fn bytes_of(alloc: Global, numbers: &str) -> Result<Vec<u8>> {
@@ -36,13 +26,13 @@ fn bytes_of(alloc: Global, numbers: &str) -> Result<Vec<u8>> {
     Ok(bytes)
 }
 
-/// The bytes with the change of a line; a line that gives the bytes changes none.
-fn changed(mut bytes: Vec<u8>, line: &str) -> Result<Vec<u8>> {
-    if let Some(number) = line.strip_prefix("cut ") {
+/// The bytes with the change of a row; a row that gives the bytes changes none.
+fn changed(mut bytes: Vec<u8>, row: &str) -> Result<Vec<u8>> {
+    if let Some(number) = row.strip_prefix("cut ") {
         bytes.truncate(number.parse::<usize>()?);
-    } else if let Some(byte) = line.strip_prefix("more ") {
+    } else if let Some(byte) = row.strip_prefix("more ") {
         bytes.push(byte.parse::<u8>()?)?;
-    } else if let Some((place, byte)) = line.split_once('=') {
+    } else if let Some((place, byte)) = row.split_once('=') {
         let byte = byte.parse::<u8>()?;
         if let Some(slot) = bytes.get_mut(place.parse::<usize>()?) {
             *slot = byte;
@@ -51,6 +41,7 @@ fn changed(mut bytes: Vec<u8>, line: &str) -> Result<Vec<u8>> {
     Ok(bytes)
 }
 
+/// What reading these bytes comes to.
 fn told(alloc: Global, bytes: &[u8]) -> Result<Vec<u8>> {
     let image = match read_image(alloc, bytes) {
         Ok(image) => image,

@@ -1,4 +1,4 @@
-//! Lines about sets of bits.
+//! Rows about sets of bits.
 use anyhow::{Result, bail};
 use bs_bits::Bits;
 use std::alloc::Global;
