@@ -55,7 +55,8 @@ use Rattle.accepted_files.proofs.Counted.{tokens_among, items_among, AreFew, ite
 use Rattle.accepted_files.proofs.Differ.{names, names_append, list_symbols, list_names, data_names, function_names, all_parted, all_apart, each_apart, differ_both, differ_from}
 use Rattle.accepted_files.proofs.Few.{calls_few}
 use Rattle.cmm_grammar.proofs.Giving.{AllKnown}
-use Rattle.accepted_files.proofs.Spelled.{IsInRange, IsFine, AreFine, IsNamed, items_named, symbol_is}
+use Rattle.bs_words.proofs.Symbols.{symbol_decides}
+use Rattle.accepted_files.proofs.Spelled.{IsInRange, IsFine, AreFine, IsNamed, items_named}
 
 -- ---- what was read
 
@@ -128,7 +129,7 @@ named_at (AFunction g ∷ items) f named c = by (contains_cases g (functions_amo
 named_at (AData d ∷ items) f named c = named_at items f named.1 c
 
 bound_error_symbol : IsSymbol caml_bound_error
-bound_error_symbol = symbol_is caml_bound_error refl
+bound_error_symbol = (symbol_decides caml_bound_error).0 refl
 
 -- ---- counts
 

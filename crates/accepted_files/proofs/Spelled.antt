@@ -1,11 +1,10 @@
 -- What tokens spell names symbols, and its integers are in range.
-use Rattle.std.proofs.Common.{◌≡◌, ◌∙◌, ℕ, ◌≤◌, Bool, true, false, cond, ◌&&◌, nat_le, leb-true, List, [], ◌∷◌, length, slice_index_or, Option, Some, None, option_map, refl, ap, subst}
+use Rattle.std.proofs.Common.{◌≡◌, ◌∙◌, ℕ, Bool, true, false, cond, List, [], ◌∷◌, Option, Some, None, option_map, refl, ap, subst}
 use Rattle.std.proofs.lemmas.Bool.{and_parts}
-use Rattle.std.proofs.lemmas.List.Sums.{AllPass-from_list_all}
 use Rattle.std.specs.Prelude.{IsSome}
-use Rattle.std.specs.List.{list_all, AllByRecursion}
-use Rattle.std.specs.Char.{is_ascii_graphic}
+use Rattle.std.specs.List.{AllByRecursion}
 use Rattle.bs_words.specs.Symbol.{is_symbol, IsSymbol}
+use Rattle.bs_words.proofs.Symbols.{symbol_decides}
 use Rattle.cmm_grammar.specs.Rule as rule
 use Rattle.cmm_lex.specs.Token.{TokenTree}
 use Rattle.cmm_lex.specs.Integers.{integer_value}
@@ -46,20 +45,8 @@ AreFine items = DataHave symbol_facts items
 
 -- ---- symbols
 
-in_range : (b : ℕ) → is_ascii_graphic b ≡ true → (0x21 ≤ b) × (b ≤ 0x7E)
-in_range b e =
-    let parts = and_parts (nat_le 33 b) (nat_le b 126) e in
-    (leb-true 33 b parts.0, leb-true b 126 parts.1)
-
-pub symbol_is : (bytes : List ℕ) → is_symbol bytes ≡ true → IsSymbol bytes
-symbol_is bytes h =
-    let outer = and_parts (nat_le 1 (length bytes)) (nat_le (length bytes) 255 && list_all is_ascii_graphic bytes) h in
-    let inner = and_parts (nat_le (length bytes) 255) (list_all is_ascii_graphic bytes) outer.1 in
-    let each = AllPass-from_list_all is_ascii_graphic bytes inner.1 in
-    (leb-true 1 (length bytes) outer.0, leb-true (length bytes) 255 inner.0, λ k d less. in_range (slice_index_or bytes k d) (each k d less))
-
 symbol_token : (t : TokenTree) → is_symbol_token t ≡ true → IsSymbol (string_bytes t.text)
-symbol_token t h = symbol_is (string_bytes t.text) (and_parts (is_string t) (is_symbol (string_bytes t.text)) h).1
+symbol_token t h = (symbol_decides (string_bytes t.text)).0 (and_parts (is_string t) (is_symbol (string_bytes t.text)) h).1
 
 passing_same : (test : TokenTree → Bool) (t a : TokenTree) → passing test t ≡ Some a → t ≡ a
 passing_same test t a e = by (test t) e

@@ -4,3 +4,4 @@ mod Rows
 pub mod Lists
 pub mod Truths
 pub mod Places
+pub mod Symbols

@@ -9,6 +9,7 @@ pub mod data;
 pub mod list;
 pub mod name;
 pub mod operators;
+pub mod symbol;
 pub mod types;
 pub mod values;
 
@@ -17,5 +18,6 @@ pub use data::{BOUND_ERROR, DATA_LIMIT, DATA_START};
 pub use list::List;
 pub use name::Name;
 pub use operators::{CmpOp, IntOp};
+pub use symbol::is_symbol;
 pub use types::{Chunk, Comp, Loc, Ret, Ty};
 pub use values::{Call, Kind, Obs, Value};

@@ -11,5 +11,4 @@ pub mod token;
 mod words;
 
 pub use lexer::{Lexed, integer_word, lex, string_of, text_of};
-pub use strings::is_symbol;
 pub use token::{Keyword, Sign, Token, TokenKind};

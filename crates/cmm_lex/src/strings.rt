@@ -1,11 +1,8 @@
 //! The escapes of strings, and the bytes that strings stand for.
 ghost use Rattle.std.specs.Prelude.{◌≡◌, MatchOption, IfOk, None};
-ghost use Rattle.std.specs.List.{list_all};
-ghost use Rattle.std.specs.Char.{is_ascii_graphic};
 ghost use Rattle.bs_words.specs.Contents.{contents};
 ghost use Rattle.cmm_lex.specs.Scanning.{step_of, code_of, first_unescaped, begins_escape, is_bad, next_byte, IsFine};
 ghost use Rattle.cmm_lex.specs.Strings.{escaped, BadEscape, string_bytes};
-ghost use Rattle.bs_words.specs.Symbol.{is_symbol};
 
 use bs_words::List;
 use std::alloc::{AllocError, Global};
@@ -113,18 +110,4 @@ pub fn string_value(alloc: Global, text: &[u8]) -> Result<List<u8>, AllocError>
         rest = behind;
     }
     Ok(List::from_vec(bytes))
-}
-
-/// Whether each byte is 0x21 to 0x7E.
-fn are_graphic(bytes: &[u8]) -> bool
-    ensures { result ≡ list_all is_ascii_graphic bytes.now }
-{
-    bytes.iter().all(|byte| byte.is_ascii_graphic())
-}
-
-/// Whether these bytes are a symbol: 1 to 255 bytes, each 0x21 to 0x7E.
-pub fn is_symbol(bytes: &[u8]) -> bool
-    ensures { result ≡ is_symbol bytes.now }
-{
-    !bytes.is_empty() && bytes.len() <= 255 && are_graphic(bytes)
 }

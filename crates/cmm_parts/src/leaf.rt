@@ -11,8 +11,8 @@ ghost use Rattle.cmm_parts.specs.declared.stop.Stop.TheVariants.{OutOfMemory};
 use crate::front::{name_of, word};
 use crate::node::{exit_to, float_leaf, node};
 use crate::stop::Stop;
-use bs_words::Name;
-use cmm_lex::{Keyword, Sign, Token, TokenKind, is_symbol, string_of};
+use bs_words::{Name, is_symbol};
+use cmm_lex::{Keyword, Sign, Token, TokenKind, string_of};
 use cmm_tree::{Expr, Form, Label};
 use std::alloc::Global;
 

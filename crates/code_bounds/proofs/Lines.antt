@@ -23,7 +23,8 @@ use Rattle.rv_isa.specs.declared.instr.StoreWidth.TheVariants as stores
 use Rattle.rv_isa.specs.declared.register.Register.{Register}
 use Rattle.rv_isa.specs.declared.register.Register.TheVariants.{Sp, T1, T2}
 use Rattle.emit_rules.specs.Constants.{constant}
-use Rattle.emit_rules.specs.Instructions.{register_at, load, store}
+use Rattle.emit_rules.specs.Instructions.{load, store}
+use Rattle.rv_isa.specs.Registers.{register_at}
 use Rattle.emit_rules.specs.Slots.{far_stack, stack_load, stack_store, slot_offset, first, second, register_of, fetched, target, kept, copied, moved}
 use Rattle.emit_rules.specs.Tests.{right_register, right_words, signed_branch, unsigned_branch, test_words, test_branch, branch_part}
 use Rattle.pass_rules.specs.Measures.{copy_words}

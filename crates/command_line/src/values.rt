@@ -1,12 +1,12 @@
 //! Values: numbers, names and items.
-ghost use Rattle.std.specs.Prelude.{◌≡◌, ◌≢◌, ◌<◌, ◌≤◌, ◌↔◌, ◌∷◌, ◌++◌, ℕ, MatchOption, IfOk, IsTrue, IsErrOf, All};
+ghost use Rattle.std.specs.Prelude.{◌≡◌, ◌≢◌, ◌<◌, ◌≤◌, ◌∷◌, ◌++◌, ℕ, MatchOption, IfOk, IsErrOf, All};
 ghost use Rattle.bs_words.specs.Contents.{contents};
 ghost use Rattle.command_line.specs.declared.command.WordsError.{WordsError};
 ghost use Rattle.bs_words.specs.Symbol.{IsSymbol};
 ghost use Rattle.command_line.specs.Values.{IsNumber, IsSteps, IsSize, IsMoves, SeedsMoves, IsItem, IsCounted, IsSeed, IsStage, IsItems, Nothing};
 
 use crate::command::{Moves, WordsError};
-use bs_words::{List, Name, sub};
+use bs_words::{List, Name, is_symbol, sub};
 use rv_machine::{Arg, MOST_ROOM};
 use stages::Stage;
 use std::alloc::Global;
@@ -148,20 +148,13 @@ pub(crate) fn stage(text: &[u8]) -> Option<Stage>
     }
 }
 
-/// Whether the text can be a name: 1 to 255 bytes, each 0x21 to 0x7E.
-fn is_name(text: &[u8]) -> bool
-    ensures { IsTrue result ↔ IsSymbol text.now }
-{
-    !text.is_empty() && text.len() <= 255 && text.iter().all(|b| 0x21 <= *b && *b <= 0x7E)
-}
-
 /// The name that the text is.
 pub(crate) fn name(alloc: Global, text: &[u8]) -> Result<Name, WordsError>
     ensures value { IfOk result (λ bytes. (bytes ≡ text.now) × IsSymbol text.now) }
     ensures bad { IsErrOf result WordsError.ValueText → ¬ IsSymbol text.now }
     ensures formed { ¬ IsErrOf result WordsError.Words }
 {
-    if !is_name(text) {
+    if !is_symbol(text) {
         return Err(WordsError::ValueText);
     }
     Ok(Name::from_vec(Vec::from_slice(alloc, text)?))

@@ -43,7 +43,8 @@ use Rattle.rv_isa.specs.declared.register.Register.{Register}
 use Rattle.rv_isa.specs.declared.register.Register.TheVariants.{Ra, Sp, T0, T1, T2, S10}
 use Rattle.rv_pieces.specs.declared.piece.Piece.{Piece}
 use Rattle.rv_pieces.specs.declared.piece.Piece.TheVariants as piece
-use Rattle.emit_rules.specs.Instructions.{low_12, register_at}
+use Rattle.emit_rules.specs.Instructions.{low_12}
+use Rattle.rv_isa.specs.Registers.{register_at}
 use Rattle.emit_rules.specs.Constants.{is_word_32, lower_part, constant_32, higher, shifted, constant_shifted, constant, sum_to, lowered}
 use Rattle.emit_rules.specs.Slots.{stack_load, stack_store, slot_offset, first, second, register_of, fetched, target, kept, copied, moved}
 use Rattle.emit_rules.specs.Operators.{compared, operated, compared_with, operated_with}

@@ -1,9 +1,9 @@
 -- The instructions that emission makes, over registers. A number is in its field as the field's
 -- low bits.
-use Rattle.std.specs.Prelude.{ℕ, ◌%◌, List, [], ◌∷◌, Option, Some, None, slice_get}
+use Rattle.std.specs.Prelude.{ℕ, ◌%◌}
 use Rattle.rv_isa.specs.Registers.{number}
 use Rattle.rv_isa.specs.declared.register.Register.{Register}
-use Rattle.rv_isa.specs.declared.register.Register.TheVariants.{Zero, Ra, Sp, Gp, Tp, T0, T1, T2, S0, S1, A0, A1, A2, A3, A4, A5, A6, A7, S2, S3, S4, S5, S6, S7, S8, S9, S10, S11, T3, T4, T5, T6}
+use Rattle.rv_isa.specs.declared.register.Register.TheVariants.{Zero, Ra}
 use Rattle.rv_isa.specs.declared.instr.AluImmOp.{AluImmOp}
 use Rattle.rv_isa.specs.declared.instr.AluImmOp.TheVariants as imm
 use Rattle.rv_isa.specs.declared.instr.AluOp.{AluOp}
@@ -15,23 +15,6 @@ use Rattle.rv_isa.specs.declared.instr.ShiftOp.{ShiftOp}
 use Rattle.rv_isa.specs.declared.instr.StoreWidth.{StoreWidth}
 use Rattle.rv_pieces.specs.declared.piece.Piece.{Piece}
 use Rattle.rv_pieces.specs.declared.piece.Piece.TheVariants as piece
-
--- ---- registers
-
-abbrev pub registers : List Register
-registers =
-    Zero ∷ Ra ∷ Sp ∷ Gp ∷ Tp ∷ T0 ∷ T1 ∷ T2 ∷ S0 ∷ S1 ∷ A0 ∷ A1 ∷ A2 ∷ A3 ∷ A4 ∷ A5 ∷ A6 ∷ A7
-    ∷ S2 ∷ S3 ∷ S4 ∷ S5 ∷ S6 ∷ S7 ∷ S8 ∷ S9 ∷ S10 ∷ S11 ∷ T3 ∷ T4 ∷ T5 ∷ T6 ∷ []
-
-abbrev pub or_zero : Option Register → Register
-or_zero (Some r) = r
-or_zero None = Zero
-
--- the register of a number
-abbrev pub register_at : ℕ → Register
-register_at n = or_zero (slice_get registers n)
-
--- ---- instructions
 
 abbrev pub low_12 : ℕ → ℕ
 low_12 w = w % 4096

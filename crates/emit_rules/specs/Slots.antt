@@ -12,7 +12,8 @@ use Rattle.rv_isa.specs.declared.instr.StoreWidth.TheVariants as stores
 use Rattle.rv_isa.specs.declared.register.Register.{Register}
 use Rattle.rv_isa.specs.declared.register.Register.TheVariants.{Zero, Sp, T1, T2}
 use Rattle.rv_pieces.specs.declared.piece.Piece.{Piece}
-use Rattle.emit_rules.specs.Instructions.{register_at, lui, add, mv, load, store}
+use Rattle.emit_rules.specs.Instructions.{lui, add, mv, load, store}
+use Rattle.rv_isa.specs.Registers.{register_at}
 use Rattle.emit_rules.specs.Constants.{above_12}
 
 -- ---- words of the stack, so many bytes from sp

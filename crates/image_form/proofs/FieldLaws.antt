@@ -1,19 +1,19 @@
 -- Each field reads what is spelled so, and nothing else.
-use Rattle.std.proofs.Common.{◌≡◌, ℕ, ◌^◌, ◌<◌, ◌≤◌, Bool, true, false, not, cond, ltb, leb, eqb, ◌&&◌, List, [], ◌∷◌, ◌++◌, length, take, drop, map, Option, Some, None, Ok, Err, refl, sym, ap, subst, ◌∙◌, append_assoc, arith, inl, inr, ◌⊎◌}
+use Rattle.std.proofs.Common.{◌≡◌, ℕ, ◌^◌, ◌<◌, ◌≤◌, Bool, true, false, not, cond, ltb, leb, eqb, List, [], ◌∷◌, ◌++◌, length, take, drop, map, Option, Some, None, Ok, Err, refl, sym, ap, subst, ◌∙◌, append_assoc, arith, inl, inr, ◌⊎◌}
 use Rattle.std.specs.Bool.{Decides}
-use Rattle.std.specs.Char.{is_ascii_graphic}
 use Rattle.std.specs.Prelude.{nat_le}
-use Rattle.std.specs.List.{flat_map, AllByRecursion, list_all}
+use Rattle.std.specs.List.{flat_map, AllByRecursion}
 use Rattle.std.specs.Int.{Width, w16, w32, byte_len, from_le_bytes, to_le_bytes}
-use Rattle.std.proofs.lemmas.Bool.{ltb-false, le-ltb, leb-true, le-leb, eqb-true, and_parts, and_from}
+use Rattle.std.proofs.lemmas.Bool.{ltb-false, le-ltb, leb-true, le-leb, eqb-true}
 use Rattle.std.proofs.lemmas.List.{take_at, drop_at, take-append-drop, length-append, length-take}
 use Rattle.std.proofs.lemmas.Nat.{le_bytes_2, le_bytes_4, from_le_bytes-to_le_bytes_2, from_le_bytes-to_le_bytes_4}
-use Rattle.bs_words.specs.Symbol.{is_symbol}
+use Rattle.bs_words.specs.Symbol.{is_symbol, IsSymbol}
+use Rattle.bs_words.proofs.Symbols.{symbol_decides}
 use Rattle.bs_words.specs.declared.types.Comp.{Comp}
 use Rattle.bs_words.specs.declared.types.Comp.TheVariants.{Int, Val, Addr, Float}
 use Rattle.bs_words.specs.declared.types.Ret.{Ret}
 use Rattle.bs_words.specs.declared.types.Ret.TheVariants as returns
-use Rattle.image_form.specs.Image.{le16, le32, le_entry, entry_width, entry_limit, comp_byte, ret_byte, name_bytes, params_bytes, IsName, IsParam, IsResult, IsArgument, IsExtResult}
+use Rattle.image_form.specs.Image.{le16, le32, le_entry, entry_width, entry_limit, comp_byte, ret_byte, name_bytes, params_bytes, IsParam, IsResult, IsArgument, IsExtResult}
 use Rattle.image_form.specs.Seen.{has}
 use Rattle.image_form.specs.Fields.{byte_at, number_at, wide_at, kept, text_at, name_at, new_name_at, decoded, comp_of, result_of, ext_result_of, type_at, rows_at, params_at}
 use Rattle.image_form.proofs.Takes.{IsBytes, IsBytes-drop, IsBytes-take, IsBytes-rest, bind_ok, guard_ok, ok_is, Takes, Takes-then, IsField, alike, kept_field, rows_take, rows_again, AllAfter}
@@ -118,29 +118,9 @@ text_again text rest lt =
 text_field : IsField text_at name_bytes (λ text. length text < 2 ^ 16)
 text_field = record { takes = text_takes; again = text_again }
 
-visible_true : (text : List ℕ) → list_all is_ascii_graphic text ≡ true → AllByRecursion (λ b. (0x21 ≤ b) × (b ≤ 0x7E)) text
-visible_true [] e = tt
-visible_true (b ∷ text) e =
-    let p = and_parts (nat_le 0x21 b && nat_le b 0x7E) _ e in
-    let q = and_parts (nat_le 0x21 b) (nat_le b 0x7E) p.0 in
-    ((leb-true 0x21 b q.0, leb-true b 0x7E q.1), visible_true text p.1)
-
-visible_again : (text : List ℕ) → AllByRecursion (λ b. (0x21 ≤ b) × (b ≤ 0x7E)) text → list_all is_ascii_graphic text ≡ true
-visible_again [] all = refl
-visible_again (b ∷ text) all = and_from _ _ (and_from _ _ (le-leb 0x21 b all.0.0) (le-leb b 0x7E all.0.1)) (visible_again text all.1)
-
-name_decides : (text : List ℕ) → Decides (is_symbol text) (IsName text)
-name_decides text = (
-  λ e.
-      let p = and_parts (nat_le 1 (length text)) _ e in
-      let q = and_parts (leb (length text) 255) _ p.1 in
-      record { nonempty = leb-true 1 (length text) p.0; short = leb-true (length text) 255 q.0; visible = visible_true text q.1 },
-  λ name. and_from _ _ (le-leb 1 (length text) name.nonempty) (and_from _ _ (le-leb (length text) 255 name.short) (visible_again text name.visible)),
-)
-
-pub name_field : IsField name_at name_bytes IsName
+pub name_field : IsField name_at name_bytes IsSymbol
 unfolding name_at
-name_field = alike name_at name_bytes _ (kept_field text_at name_bytes _ text_field is_symbol IsName name_decides) IsName (λ x fits. fits.1) (λ x name. (omega (arith, name.short), name))
+name_field = alike name_at name_bytes _ (kept_field text_at name_bytes _ text_field is_symbol IsSymbol symbol_decides) IsSymbol (λ x fits. fits.1) (λ x name. (omega (arith, name.1), name))
 
 pub new_decides : (b : Bool) → Decides (not b) (b ≡ false)
 new_decides true = (λ e. absurd cc, λ e. absurd cc)
@@ -148,13 +128,13 @@ new_decides false = (λ e. refl, λ e. refl)
 
 -- a name that is not among these
 pub record IsNew (names : List (List ℕ)) (text : List ℕ) : Type 0 where
-  pub name : IsName text
+  pub name : IsSymbol text
   pub new : has names text ≡ false
 
 pub new_name_field : (names : List (List ℕ)) → IsField (new_name_at names) name_bytes (IsNew names)
 unfolding new_name_at
 new_name_field names =
-    alike (new_name_at names) name_bytes _ (kept_field name_at name_bytes IsName name_field (λ name. not (has names name)) (λ name. has names name ≡ false) (λ name. new_decides (has names name)))
+    alike (new_name_at names) name_bytes _ (kept_field name_at name_bytes IsSymbol name_field (λ name. not (has names name)) (λ name. has names name ≡ false) (λ name. new_decides (has names name)))
     (IsNew names) (λ x fits. record { name = fits.0; new = fits.1 }) (λ x is. (is.name, is.new))
 
 -- ---- types

@@ -8,7 +8,8 @@ use Rattle.std.proofs.lemmas.Bool.Decides.{Decides-and, Decides-or, Decides-eqb,
 use Rattle.bs_words.specs.declared.types.Comp.{Comp}
 use Rattle.bs_words.specs.declared.types.Ret.{Ret}
 use Rattle.image_form.specs.Tables.{Func, Sym, Ext, Desc, func_names, sym_names}
-use Rattle.image_form.specs.Image.{le32, le_entry, entry_limit, ret_byte, name_bytes, params_bytes, func_bytes, sym_bytes, ext_bytes, desc_bytes, IsName, IsParam, IsResult, IsArgument, IsExtResult, IsRoot, IsEntry, IsNextEntry, end_of, first_return}
+use Rattle.bs_words.specs.Symbol.{IsSymbol}
+use Rattle.image_form.specs.Image.{le32, le_entry, entry_limit, ret_byte, name_bytes, params_bytes, func_bytes, sym_bytes, ext_bytes, desc_bytes, IsParam, IsResult, IsArgument, IsExtResult, IsRoot, IsEntry, IsNextEntry, end_of, first_return}
 use Rattle.image_form.specs.Seen.{has}
 use Rattle.image_form.specs.Fields.{◌>>=◌, number_at, wide_at, kept, name_at, new_name_at, result_of, ext_result_of, type_at, rows_at, params_at, at_some, at_last, func_offset_at, frame_at, func_at, sym_offset_at, sym_at, root_at, ext_at, is_entry, is_next_entry, entry_at, after_at, size_at, desc_at}
 use Rattle.image_form.proofs.Takes.{IsBytes, bind_ok, ok_is, Takes, Takes-then, IsField, alike, kept_field, rows_take, rows_again, AllAfter}
@@ -160,7 +161,7 @@ root_field data_len before =
 -- ---- external calls
 
 pub record ExtRule (before : List Ext) (e : Ext) : Type 0 where
-  pub name : IsName e.name
+  pub name : IsSymbol e.name
   pub params : AreParams IsArgument e.params
   pub result : IsExtResult e.result
   pub new : has (map ext_bytes before) (ext_bytes e) ≡ false
@@ -182,7 +183,7 @@ ext_opened e = refl
 ext_takes : (before : List Ext) (bytes : List ℕ) (x : Ext) (rest : List ℕ) → IsBytes bytes → ext_at before bytes ≡ Ok (x, rest) → Takes bytes (ext_bytes x) rest × ExtRule before x
 unfolding ext_at
 ext_takes before bytes x rest fits e =
-    let a = step name_at name_bytes IsName name_field bytes _ (x, rest) fits e in
+    let a = step name_at name_bytes IsSymbol name_field bytes _ (x, rest) fits e in
     let p = step (params_at 1) params_bytes _ ext_params_field a.rest _ (x, rest) a.takes.rest_fits a.then in
     let r = step _ (λ x. ret_byte x ∷ []) _ (new_ext_field before a.value p.value) p.rest _ (x, rest) p.takes.rest_fits p.then in
     let made : Ext × List ℕ = (ext_of a.value p.value r.value, r.rest) in

@@ -1,6 +1,7 @@
 -- The rules that each image keeps, and the one spelling of an image in bytes.
 use Rattle.std.specs.Prelude.{◌≡◌, ◌≢◌, ⊤, ℕ, ◌+◌, ◌*◌, ◌%◌, ◌^◌, ◌<◌, ◌≤◌, List, [], ◌∷◌, ◌++◌, length, map, ◌⊎◌, codes, cond, ◌==◌}
 use Rattle.bs_words.specs.Fits.{data_limit}
+use Rattle.bs_words.specs.Symbol.{IsSymbol}
 use Rattle.std.specs.List.{flat_map, AllByRecursion, AllPairs}
 use Rattle.std.specs.Int.{Width, w16, w32, to_le_bytes}
 use Rattle.bs_words.specs.declared.types.Comp.{Comp}
@@ -130,11 +131,6 @@ image_bytes image = tables_bytes (tables image)
 abbrev pub IsVersion : ℕ → Type 0
 IsVersion version = (version ≡ 1) ⊎ (version ≡ 2)
 
-pub record IsName (name : List ℕ) : Type 0 where
-  pub nonempty : 0 < length name
-  pub short : length name ≤ 255
-  pub visible : AllByRecursion (λ b. (0x21 ≤ b) × (b ≤ 0x7E)) name
-
 -- what a parameter of a function, and a result, may be
 abbrev pub IsParam : Comp → Type 0
 IsParam Int = ⊤
@@ -154,7 +150,7 @@ abbrev pub end_of : Func → ℕ
 end_of f = f.offset + 4 * f.words
 
 pub record IsFunc (f : Func) : Type 0 where
-  pub name : IsName f.name
+  pub name : IsSymbol f.name
   pub aligned : f.offset % 4 ≡ 0
   pub frame : f.frame % 16 ≡ 0
   pub frame_fits : f.frame < 2 ^ 32
@@ -183,7 +179,7 @@ pub record IsData (bytes : List ℕ) : Type 0 where
   pub short : length bytes ≤ data_limit
 
 pub record IsSym (data_len : ℕ) (s : Sym) : Type 0 where
-  pub name : IsName s.name
+  pub name : IsSymbol s.name
   pub in_data : s.offset ≤ data_len
 
 pub record AreSyms (data_len : ℕ) (syms : List Sym) : Type 0 where
@@ -212,7 +208,7 @@ IsExtResult returns.Unit = ⊤
 IsExtResult (returns.Comp c) = IsParam c
 
 pub record IsExt (e : Ext) : Type 0 where
-  pub name : IsName e.name
+  pub name : IsSymbol e.name
   pub few : length e.params ≤ 16
   pub params : AllByRecursion IsArgument e.params
   pub result : IsExtResult e.result

@@ -1,8 +1,6 @@
 //! The fields of the bodies, each read as a value and the bytes after it.
-ghost use Rattle.std.specs.Prelude.{◌≡◌, List, ℕ, [], ◌∷◌, ◌++◌, ◌≤◌, length, IsTrue, IfOk};
-ghost use Rattle.std.specs.Char.{is_ascii_graphic};
+ghost use Rattle.std.specs.Prelude.{◌≡◌, List, ℕ, [], ◌∷◌, ◌++◌, ◌≤◌, length, IfOk};
 ghost use Rattle.std.specs.Int.{w16, w32};
-ghost use Rattle.std.specs.List.{list_all};
 ghost use Rattle.bs_words.specs.Symbol.{is_symbol};
 ghost use Rattle.image_form.specs.Seen.{Holds};
 ghost use Rattle.image_form.specs.Fields.{
@@ -23,7 +21,7 @@ ghost use Rattle.image_form.specs.Fields.{
 
 use crate::fault::Stop;
 use crate::seen::Seen;
-use bs_words::{Comp, Ret};
+use bs_words::{Comp, Ret, is_symbol};
 use std::alloc::Global;
 
 #[tactic(auto, unfolding(crate::specs::Fields::byte_at))]
@@ -84,27 +82,13 @@ fn text_from(bytes: &[u8]) -> Result<(&[u8], &[u8]), Stop>
     Ok(rest.split_at(len))
 }
 
-fn are_graphic(text: &[u8]) -> bool
-    ensures { result ≡ list_all is_ascii_graphic text.now }
-{
-    text.iter().all(|byte| byte.is_ascii_graphic())
-}
-
-/// Whether the text can be a name: 1 to 255 bytes, each a visible character of ASCII.
-fn is_name(text: &[u8]) -> bool
-    ensures value { result ≡ is_symbol text.now }
-    ensures short { IsTrue result → length text.now ≤ 255 }
-{
-    !text.is_empty() && text.len() <= 255 && are_graphic(text)
-}
-
 #[tactic(auto, unfolding(crate::specs::Fields::name_at, crate::specs::Fields::kept))]
 pub(crate) fn name_from(bytes: &[u8]) -> Result<(&[u8], &[u8]), Stop>
     ensures gives { Gives (λ x. (x.0.now, x.1.now)) result (name_at bytes.now) }
     ensures short { IfOk result (λ x. length x.0.now ≤ 255) }
 {
     let (name, rest) = text_from(bytes)?;
-    if !is_name(name) {
+    if !is_symbol(name) {
         return Err(Stop::Left(bytes.len()));
     }
     Ok((name, rest))

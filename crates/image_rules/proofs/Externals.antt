@@ -14,7 +14,6 @@ use Rattle.image_form.specs.Image.{IsExt, comp_byte, ret_byte}
 use Rattle.image_form.specs.Tables.{Ext}
 use Rattle.layout_rules.specs.Conditions.{IsExternalLaid}
 use Rattle.layout_rules.specs.Externals.{ext_of, same_row, is_among, firsts_behind, externals, all_calls}
-use Rattle.layout_rules.proofs.Rules.{is_name}
 
 -- the firsts of two lists, one after the other
 pub firsts_append : (before xs ys : List External) → firsts_behind before (xs ++ ys) ≡ firsts_behind (firsts_behind before xs) ys
@@ -82,4 +81,4 @@ rows_differ file = firsts_differ [] (all_calls file) tt
 pub each_ext : (es : List External) → AllByRecursion IsExternalLaid es → AllByRecursion IsExt (map ext_of es)
 each_ext [] laid = tt
 each_ext (e ∷ es) laid =
-    (record { name = is_name e.name laid.0.name; few = laid.0.few; params = laid.0.params; result = laid.0.result }, each_ext es laid.1)
+    (record { name = laid.0.name; few = laid.0.few; params = laid.0.params; result = laid.0.result }, each_ext es laid.1)

@@ -27,7 +27,7 @@ use Rattle.rv_pieces.specs.Named.{PieceFits, has_words}
 use Rattle.layout_rules.specs.TooLarge.{first_too_large}
 use Rattle.layout_rules.specs.Words.{Named, target_of, words_from, code_of}
 use Rattle.layout_rules.proofs.Functions.{forms_length, names_lead, function_length}
-use Rattle.layout_rules.proofs.Rules.{is_name, each_func, each_desc, descs_in_order, all_words, all_append}
+use Rattle.layout_rules.proofs.Rules.{each_func, each_desc, descs_in_order, all_words, all_append}
 use Rattle.layout_rules.proofs.Standing.{code_fits}
 use Rattle.rv_isa.specs.Encoding.{InstrFits, encoded}
 use Rattle.rv_isa.specs.declared.instr.Instr.{Instr}
@@ -156,7 +156,7 @@ each_sym : (low high : ℕ) (ss : List DataSymbolTree) → AllByRecursion (λ (s
     AllByRecursion (IsSym (high - data_start)) (map sym_of ss)
 each_sym low high [] symbols lie = tt
 each_sym low high (s ∷ ss) symbols lie =
-    (record { name = is_name s.name symbols.0; in_data = omega (arith, lie_up s.address high ss lie.1) }, each_sym s.address high ss symbols.1 lie.1)
+    (record { name = symbols.0; in_data = omega (arith, lie_up s.address high ss lie.1) }, each_sym s.address high ss symbols.1 lie.1)
 
 first_sym : (low high : ℕ) (s : DataSymbolTree) (ss : List DataSymbolTree) → Lie s.address high ss → First (λ (b : Sym). (sym_of s).offset ≤ b.offset) (map sym_of ss)
 first_sym low high s [] lie = tt

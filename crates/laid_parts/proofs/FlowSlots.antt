@@ -35,7 +35,8 @@ use Rattle.rv_isa.specs.declared.instr.ShiftOp.TheVariants as shifts
 use Rattle.rv_isa.specs.declared.register.Register.{Register}
 use Rattle.rv_isa.specs.declared.register.Register.TheVariants.{Zero, T0, T1, T2}
 use Rattle.rv_pieces.specs.declared.piece.Piece.TheVariants as piece
-use Rattle.emit_rules.specs.Instructions.{register_at, addi, operation, shift, auipc, goes_to, calls_at, ecall}
+use Rattle.emit_rules.specs.Instructions.{addi, operation, shift, auipc, goes_to, calls_at, ecall}
+use Rattle.rv_isa.specs.Registers.{register_at}
 use Rattle.emit_rules.specs.Emitted.{part_of}
 use Rattle.emit_rules.specs.Entry.{Frame}
 use Rattle.emit_rules.specs.Calls.{mark_of, call_words, external_words, external_service}

@@ -25,7 +25,8 @@ use Rattle.rv_isa.specs.declared.instr.StoreWidth.TheVariants as stores
 use Rattle.rv_isa.specs.declared.register.Register.{Register}
 use Rattle.rv_isa.specs.declared.register.Register.TheVariants.{Zero, Ra, Sp, T0, T1, T2, S1, S10, S11, A0}
 use Rattle.rv_pieces.specs.declared.piece.Piece.TheVariants as piece
-use Rattle.emit_rules.specs.Instructions.{addi, operation, shift, load, store, register_at, skip, ecall}
+use Rattle.emit_rules.specs.Instructions.{addi, operation, shift, load, store, skip, ecall}
+use Rattle.rv_isa.specs.Registers.{register_at}
 use Rattle.emit_rules.specs.Constants.{constant}
 use Rattle.emit_rules.specs.Memory.{ask, reserved, addresses, allocation_service}
 use Rattle.emit_rules.specs.Slots.{register_of, target, fetched, kept, slot_offset}

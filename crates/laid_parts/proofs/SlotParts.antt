@@ -17,7 +17,8 @@ use Rattle.rv_isa.specs.declared.register.Register.{Register}
 use Rattle.rv_isa.specs.declared.register.Register.TheVariants.{Zero, T1, T2}
 use Rattle.rv_pieces.specs.declared.piece.Piece.{Piece}
 use Rattle.rv_pieces.specs.declared.piece.Piece.TheVariants as piece
-use Rattle.emit_rules.specs.Instructions.{with_immediate, operation, shift, register_at}
+use Rattle.emit_rules.specs.Instructions.{with_immediate, operation, shift}
+use Rattle.rv_isa.specs.Registers.{register_at}
 use Rattle.emit_rules.specs.Constants.{constant}
 use Rattle.emit_rules.specs.Operators.{compared, operated, compared_with, operated_with}
 use Rattle.emit_rules.specs.Slots.{register_of, target, kept, copied, slot_offset}

@@ -2,10 +2,8 @@
 use Rattle.std.proofs.Common.{◌≡◌, ℕ, ◌+◌, ◌*◌, ◌<◌, ◌≤◌, Bool, true, false, List, [], ◌∷◌, ◌++◌, subst, arith}
 use Rattle.std.specs.List.{AllByRecursion}
 use Rattle.std.proofs.lemmas.List.{length-map}
-use Rattle.std.proofs.lemmas.List.Elements.{recursion_from_All}
-use Rattle.bs_words.specs.Symbol.{IsSymbol}
 use Rattle.cmm_tree.specs.Tree.{FunctionTree, FileTree}
-use Rattle.image_form.specs.Image.{First, EachNext, IsName, IsFunc, IsDesc}
+use Rattle.image_form.specs.Image.{First, EachNext, IsFunc, IsDesc}
 use Rattle.image_form.specs.Tables.{Desc}
 use Rattle.layout_rules.specs.declared.form.Form.{Form}
 use Rattle.layout_rules.specs.declared.form.Form.TheVariants.{Near, Middle, Far}
@@ -177,13 +175,6 @@ each_desc file len at (p ∷ ps) (f ∷ forms) m laid in_code =
 
 -- ---- functions
 
-pub is_name : (name : List ℕ) → IsSymbol name → IsName name
-is_name name symbol = record {
-  nonempty = omega (arith, symbol.0);
-  short = symbol.1;
-  visible = recursion_from_All (λ b. (0x21 ≤ b) × (b ≤ 0x7E)) name symbol.2;
-}
-
 pub each_func : (file : FileTree) (at : ℕ) (fs : List FunctionTree) (ps : List Pieces) (forms : List (List Form)) → AllByRecursion IsRowLaid fs → AllByRecursion (IsFunctionLaid file) ps →
     AllByRecursion IsFunc (rows_from at fs ps forms)
 each_func file at [] ps forms rows laid = tt
@@ -191,7 +182,7 @@ each_func file at (f ∷ fs) [] forms rows laid = tt
 each_func file at (f ∷ fs) (p ∷ ps) [] rows laid = tt
 each_func file at (f ∷ fs) (p ∷ ps) (k ∷ forms) rows laid = (
   record {
-    name = is_name f.name rows.0.name;
+    name = rows.0.name;
     aligned = omega arith;
     frame = laid.0.frame;
     frame_fits = laid.0.frame_fits;

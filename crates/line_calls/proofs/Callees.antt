@@ -5,14 +5,14 @@ use Rattle.bs_words.specs.declared.types.Loc.TheVariants as loc
 use Rattle.bs_words.specs.declared.values.Value.{Value}
 use Rattle.bs_words.specs.declared.values.Value.TheVariants.{Function}
 use Rattle.emit_rules.specs.Entry.{given_back}
-use Rattle.emit_rules.specs.Instructions.{goes_to, register_at}
+use Rattle.emit_rules.specs.Instructions.{goes_to}
 use Rattle.emit_rules.specs.Tests.{value_words}
 use Rattle.layout_rules.specs.Words.{Named}
 use Rattle.lin_ir.specs.Formed.{IsLocation}
 use Rattle.lin_ir.specs.Meaning.{Locations}
 use Rattle.lin_ir.specs.declared.lin.Lin.{Lin}
 use Rattle.mach_ir.specs.Acts.{Around, is_complete}
-use Rattle.rv_isa.specs.Registers.{number}
+use Rattle.rv_isa.specs.Registers.{number, register_at}
 use Rattle.rv_isa.specs.declared.instr.AluImmOp.TheVariants.{Addi}
 use Rattle.rv_isa.specs.declared.instr.Instr.TheVariants.{Jalr, OpImm}
 use Rattle.rv_isa.specs.declared.register.Register.TheVariants.{T1}

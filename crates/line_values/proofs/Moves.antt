@@ -9,7 +9,7 @@ use Rattle.bs_words.specs.declared.values.Value.{Value}
 use Rattle.bs_words.specs.declared.values.Value.TheVariants.{Word, Block, Function}
 use Rattle.emit_rules.specs.Constants.{above_12, constant}
 use Rattle.emit_rules.specs.Emitted.{pure_part}
-use Rattle.emit_rules.specs.Instructions.{load, register_at}
+use Rattle.emit_rules.specs.Instructions.{load}
 use Rattle.emit_rules.specs.Slots.{copied, far_stack, kept, stack_load, target}
 use Rattle.layout_rules.specs.Words.{Named, lower, upper}
 use Rattle.layout_rules.proofs.Offsets.{number_lands}
@@ -25,7 +25,7 @@ use Rattle.mach_ir.specs.declared.op.CopyKind.{CopyKind}
 use Rattle.mach_ir.specs.declared.op.Op.TheVariants as op
 use Rattle.mach_ir.specs.declared.op.Pure.TheVariants as pure
 use Rattle.moving_laws.specs.Stands.{Among}
-use Rattle.rv_isa.specs.Registers.{number}
+use Rattle.rv_isa.specs.Registers.{number, register_at}
 use Rattle.rv_isa.specs.declared.instr.AluImmOp.TheVariants.{Addi}
 use Rattle.rv_isa.specs.declared.instr.AluOp.TheVariants.{Add}
 use Rattle.rv_isa.specs.declared.instr.Instr.TheVariants.{Load, Lui, Op, OpImm}

@@ -4,7 +4,7 @@ use Rattle.std.proofs.lemmas.Bool.{ltb-true}
 use Rattle.bs_words.specs.declared.types.Loc.{Loc}
 use Rattle.bs_words.specs.declared.types.Loc.TheVariants as loc
 use Rattle.bs_words.specs.declared.values.Value.{Value}
-use Rattle.emit_rules.specs.Instructions.{load, register_at, store}
+use Rattle.emit_rules.specs.Instructions.{load, store}
 use Rattle.emit_rules.specs.Constants.{above_12}
 use Rattle.emit_rules.specs.Slots.{far_stack, fetched, kept, register_of, stack_store, target}
 use Rattle.layout_rules.specs.Words.{Named}
@@ -14,7 +14,7 @@ use Rattle.lin_ir.specs.declared.lin.Lin.{Lin}
 use Rattle.lin_ir.specs.declared.lin.Spot.{Spot}
 use Rattle.mach_ir.specs.Acts.{Around}
 use Rattle.moving_laws.specs.Stands.{Among}
-use Rattle.rv_isa.specs.Registers.{number}
+use Rattle.rv_isa.specs.Registers.{number, register_at}
 use Rattle.rv_isa.specs.declared.instr.AluOp.TheVariants.{Add}
 use Rattle.rv_isa.specs.declared.instr.Instr.TheVariants.{Load, Lui, Op, Store}
 use Rattle.rv_isa.specs.declared.instr.LoadWidth.TheVariants.{Ld}

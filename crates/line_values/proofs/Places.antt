@@ -4,11 +4,10 @@ use Rattle.std.specs.List.{All}
 use Rattle.std.proofs.lemmas.Bool.{and_parts, eq-eqb, eqb-true, leb-true, ltb-true}
 use Rattle.std.proofs.lemmas.List.Elements.{All-contains, All-nil, All-cons}
 use Rattle.bs_words.specs.declared.types.Loc.TheVariants as loc
-use Rattle.emit_rules.specs.Instructions.{register_at}
 use Rattle.lin_ir.specs.Formed.{is_colour, is_slot, IsLocation, is_home, is_spare}
 use Rattle.lin_ir.specs.declared.lin.Lin.{Lin}
 use Rattle.mach_ir.specs.Placed.{colours}
-use Rattle.rv_isa.specs.Registers.{number}
+use Rattle.rv_isa.specs.Registers.{number, register_at}
 use Rattle.linear_machine.specs.Relation as relation
 use Rattle.lin_laws.proofs.Forms.{same_machine}
 

@@ -7,7 +7,7 @@ use Rattle.bs_words.specs.declared.types.Loc.{Loc}
 use Rattle.bs_words.specs.declared.types.Loc.TheVariants as loc
 use Rattle.bs_words.specs.declared.values.Kind.{Kind}
 use Rattle.bs_words.specs.declared.values.Value.TheVariants.{Word}
-use Rattle.emit_rules.specs.Instructions.{addi, register_at}
+use Rattle.emit_rules.specs.Instructions.{addi}
 use Rattle.emit_rules.specs.Tests.{switch_part, table_of_jumps, tests_in_turn, value_words}
 use Rattle.layout_rules.specs.Laid.{address_of_place}
 use Rattle.layout_rules.specs.Words.{Named, far_jump}
@@ -20,7 +20,7 @@ use Rattle.lin_ir.specs.declared.lin.LinOp.TheVariants as lin
 use Rattle.lin_ir.specs.declared.lin.Spot.{Spot}
 use Rattle.mach_ir.specs.Acts.{Around, goes_to_case}
 use Rattle.mach_ir.specs.Runs.{Place}
-use Rattle.rv_isa.specs.Registers.{number}
+use Rattle.rv_isa.specs.Registers.{number, register_at}
 use Rattle.rv_isa.specs.declared.instr.AluImmOp.TheVariants.{Addi}
 use Rattle.rv_isa.specs.declared.instr.AluOp.TheVariants.{Add}
 use Rattle.rv_isa.specs.declared.instr.Condition.TheVariants as condition

@@ -1,65 +1,12 @@
 //! Instructions over registers.
-ghost use Rattle.std.specs.Prelude.{◌≡◌, ◌<◌, [], ◌∷◌, IfOk, option_copied, slice_get};
-ghost use Rattle.emit_rules.specs.Instructions.{low_12, register_at, with_immediate, addi, mv, operation, add, shift};
+ghost use Rattle.std.specs.Prelude.{◌≡◌, ◌<◌, [], ◌∷◌, IfOk};
+ghost use Rattle.emit_rules.specs.Instructions.{low_12, with_immediate, addi, mv, operation, add, shift};
 ghost use Rattle.emit_rules.specs.Instructions.{lui, addiw, auipc, load, store, skip, goes_to, calls_at, ecall};
 ghost use Rattle.rv_emit.specs.Outputs.{Adds};
 
 use crate::output::Output;
 use rv_isa::{AluImmOp, AluOp, Condition, Instr, LoadWidth, Register, ShiftOp, StoreWidth};
 use std::alloc::AllocError;
-
-/// The registers by their numbers.
-const REGISTERS: [Register; 32] = [
-    Register::Zero,
-    Register::Ra,
-    Register::Sp,
-    Register::Gp,
-    Register::Tp,
-    Register::T0,
-    Register::T1,
-    Register::T2,
-    Register::S0,
-    Register::S1,
-    Register::A0,
-    Register::A1,
-    Register::A2,
-    Register::A3,
-    Register::A4,
-    Register::A5,
-    Register::A6,
-    Register::A7,
-    Register::S2,
-    Register::S3,
-    Register::S4,
-    Register::S5,
-    Register::S6,
-    Register::S7,
-    Register::S8,
-    Register::S9,
-    Register::S10,
-    Register::S11,
-    Register::T3,
-    Register::T4,
-    Register::T5,
-    Register::T6,
-];
-
-/// The register at an index.
-fn register_in(registers: &[Register], index: usize) -> Option<&Register>
-    ensures { option_copied result ≡ slice_get registers.now index }
-{
-    registers.get(index)
-}
-
-/// The register of a number; x0 where no register has it.
-pub fn register_at(number: u8) -> Register
-    ensures { result ≡ register_at number }
-{
-    match register_in(&REGISTERS, number as usize) {
-        Some(register) => *register,
-        None => Register::Zero,
-    }
-}
 
 /// The lowest 12 bits of a word.
 fn low_12(word: u64) -> u16

@@ -5,7 +5,6 @@ ghost use Rattle.emit_rules.specs.Slots.{far_stack, stack_load, stack_store, slo
 ghost use Rattle.rv_emit.specs.Outputs.{Adds};
 
 use crate::constants::above_12;
-use crate::instructions::register_at;
 use crate::output::Output;
 use bs_words::Loc;
 use lin_ir::Spot;
@@ -45,7 +44,7 @@ pub fn register_of(scratch: Register, loc: Loc) -> Register
     ensures { result ≡ register_of scratch loc }
 {
     match loc {
-        Loc::Machine(number) => register_at(number),
+        Loc::Machine(number) => Register::at(number),
         Loc::Slot(_) => scratch,
         Loc::Unset => Register::Zero,
     }
@@ -150,9 +149,9 @@ impl Output {
     {
         match to {
             Loc::Slot(slot) => {
-                self.stack_store(Register::T2, register_at(number), slot_offset(traps, slot))
+                self.stack_store(Register::T2, Register::at(number), slot_offset(traps, slot))
             }
-            Loc::Machine(other) => self.mv(register_at(other), register_at(number)),
+            Loc::Machine(other) => self.mv(Register::at(other), Register::at(number)),
             Loc::Unset => Ok(()),
         }
     }

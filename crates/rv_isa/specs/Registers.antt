@@ -2,7 +2,7 @@
 --
 -- Their names are those of the calling convention (RISC-V ELF psABI, "Register Convention"). What they are
 -- used for is the convention of this compiler.
-use Rattle.std.specs.Prelude.{ℕ, List, [], ◌∷◌, codes}
+use Rattle.std.specs.Prelude.{ℕ, List, [], ◌∷◌, Option, Some, None, slice_get, codes}
 use Rattle.rv_isa.specs.declared.register.Register.{Register}
 use Rattle.rv_isa.specs.declared.register.Register.TheVariants.{Zero, Ra, Sp, Gp, Tp, T0, T1, T2, S0, S1, A0, A1, A2, A3, A4, A5, A6, A7, S2, S3, S4, S5, S6, S7, S8, S9, S10, S11, T3, T4, T5, T6}
 
@@ -40,6 +40,20 @@ number T3 = 28
 number T4 = 29
 number T5 = 30
 number T6 = 31
+
+-- all of them, by their numbers
+abbrev pub registers : List Register
+registers =
+    Zero ∷ Ra ∷ Sp ∷ Gp ∷ Tp ∷ T0 ∷ T1 ∷ T2 ∷ S0 ∷ S1 ∷ A0 ∷ A1 ∷ A2 ∷ A3 ∷ A4 ∷ A5 ∷ A6 ∷ A7
+    ∷ S2 ∷ S3 ∷ S4 ∷ S5 ∷ S6 ∷ S7 ∷ S8 ∷ S9 ∷ S10 ∷ S11 ∷ T3 ∷ T4 ∷ T5 ∷ T6 ∷ []
+
+abbrev pub or_zero : Option Register → Register
+or_zero (Some r) = r
+or_zero None = Zero
+
+-- the register of a number; x0 where no register has it
+abbrev pub register_at : ℕ → Register
+register_at n = or_zero (slice_get registers n)
 
 -- its name
 abbrev pub machine_name : Register → List ℕ

@@ -3,6 +3,8 @@
 //! Their names are those of the calling convention (RISC-V ELF psABI, "Register Convention"). What they are
 //! used for is the convention of this compiler.
 
+ghost use Rattle.std.specs.Prelude.{◌≡◌, option_copied, slice_get};
+
 /// An integer register, x0 to x31, in the order of their numbers. Those that have no sentence hold values of a
 /// function (`COLOURS`), and some of them arguments of a call (`ARGUMENT_REGISTERS`).
 #[derive(Copy, Clone, PartialEq, Eq, Debug)]
@@ -53,6 +55,42 @@ pub enum Register {
     T6,
 }
 
+/// All of them, by their numbers.
+const REGISTERS: [Register; 32] = [
+    Register::Zero,
+    Register::Ra,
+    Register::Sp,
+    Register::Gp,
+    Register::Tp,
+    Register::T0,
+    Register::T1,
+    Register::T2,
+    Register::S0,
+    Register::S1,
+    Register::A0,
+    Register::A1,
+    Register::A2,
+    Register::A3,
+    Register::A4,
+    Register::A5,
+    Register::A6,
+    Register::A7,
+    Register::S2,
+    Register::S3,
+    Register::S4,
+    Register::S5,
+    Register::S6,
+    Register::S7,
+    Register::S8,
+    Register::S9,
+    Register::S10,
+    Register::S11,
+    Register::T3,
+    Register::T4,
+    Register::T5,
+    Register::T6,
+];
+
 /// The registers of the arguments of a call, in order, by number.
 pub const ARGUMENT_REGISTERS: [u8; 16] = [
     Register::A0 as u8,
@@ -100,7 +138,17 @@ pub const COLOURS: [u8; 21] = [
 
 impl Register {
     ghost use Rattle.std.specs.Prelude.{◌≡◌, ◌<◌};
-    ghost use Rattle.rv_isa.specs.Registers.{machine_name, number};
+    ghost use Rattle.rv_isa.specs.Registers.{machine_name, number, register_at};
+
+    /// The register of a number; x0 where no register has it.
+    pub fn at(number: u8) -> Self
+        ensures { result ≡ register_at number }
+    {
+        match register_in(&REGISTERS, number as usize) {
+            Some(register) => *register,
+            None => Register::Zero,
+        }
+    }
 
     /// Its number, as the fields of an instruction have it.
     pub fn number(self) -> u8
@@ -149,4 +197,11 @@ impl Register {
             Register::T6 => "t6",
         }
     }
+}
+
+/// The register at an index.
+fn register_in(registers: &[Register], index: usize) -> Option<&Register>
+    ensures { option_copied result ≡ slice_get registers.now index }
+{
+    registers.get(index)
 }
