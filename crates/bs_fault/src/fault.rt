@@ -153,7 +153,27 @@ fn fault_more(alloc: Global, fault: Fault) -> Result<String, AllocError>
             point,
             used: _,
         } => bound_and_point(alloc, bound, point),
-        _ => Ok(String::new(alloc)),
+        Fault::TooLong { at: _ }
+        | Fault::BadToken { at: _ }
+        | Fault::Unclosed { at: _ }
+        | Fault::Unexpected { at: _ }
+        | Fault::TooDeep { at: _ }
+        | Fault::IntRange { at: _ }
+        | Fault::TooManyParams { at: _ }
+        | Fault::FunctionTooLong { at: _ }
+        | Fault::DataTooLarge { at: _ }
+        | Fault::DataItem { at: _ }
+        | Fault::Unbound { at: _ }
+        | Fault::UnknownSymbol { at: _ }
+        | Fault::DuplicateSymbol { at: _ }
+        | Fault::Arity { at: _ }
+        | Fault::NoValue { at: _ }
+        | Fault::NotMutable { at: _ }
+        | Fault::AllocHeader { at: _ }
+        | Fault::UnknownLabel { at: _ }
+        | Fault::Float { at: _ }
+        | Fault::AddrArgument { at: _ }
+        | Fault::SwitchSize { at: _ } => Ok(String::new(alloc)),
     }
 }
 

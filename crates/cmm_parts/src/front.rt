@@ -13,7 +13,7 @@ ghost use Rattle.cmm_parts.specs.declared.stop.Stop.TheVariants.{OutOfMemory};
 use crate::stop::Stop;
 use crate::words;
 use bs_words::{Name, Ret, is_symbol};
-use cmm_grammar::{Head, Width};
+use cmm_grammar::Head;
 use cmm_lex::{Keyword, Sign, Token, TokenKind, integer_word, string_of, text_of};
 use cmm_tree::Declared;
 use std::alloc::Global;

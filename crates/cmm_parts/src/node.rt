@@ -13,7 +13,7 @@ ghost use Rattle.cmm_parts.specs.declared.stop.Stop.TheVariants.{OutOfMemory};
 
 use crate::build::{catch_node, exit_node, float_node};
 use crate::stop::Stop;
-use bs_words::{Chunk, IntOp, Ty};
+use bs_words::{IntOp, Ty};
 use cmm_grammar::{Pair, Triple};
 use cmm_tree::{Expr, Form, Handler, Label};
 use std::alloc::Global;

@@ -2,7 +2,7 @@
 ghost use Rattle.std.specs.Prelude.{◌≡◌};
 ghost use Rattle.bs_words.specs.Fits.{is_still, fits, misfit};
 
-use bs_words::{Comp, DATA_START, Kind, Ty, Value};
+use bs_words::{DATA_START, Kind, Ty, Value};
 
 /// Whether the value fits the type, where `end` is the first address past the data.
 pub fn fits(end: u64, ty: Ty, value: Value) -> bool

@@ -7,7 +7,6 @@
 
 use bs_io::{ReadSource, WriteSink};
 use cmmc_core::{OpenGate, cmmc};
-use std::alloc::Global;
 use std::process::ExitCode;
 use std::{env, io};
 

@@ -3,9 +3,9 @@ ghost use Rattle.std.specs.Prelude.{◌≡◌, IfOk};
 ghost use Rattle.linear_rules.specs.Lowered.{home, spot, spots, line_of, bare};
 ghost use Rattle.linearise.specs.Numbers.{number_in};
 
-use bs_words::{Comp, Loc};
+use bs_words::Loc;
 use lin_ir::{Flow, LinOp, Line, Spot};
-use mach_ir::{Instr, MachOp, Op, Pure, Reg, Seq};
+use mach_ir::{Instr, Reg, Seq};
 use std::alloc::{AllocError, Global};
 
 /// The place of a register, its slot renumbered by the table.

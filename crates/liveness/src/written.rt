@@ -44,8 +44,15 @@ fn same_colour(one: Loc, other: Loc) -> bool
     ensures { result ≡ same_colour one other }
 {
     match (one, other) {
-        (Loc::Machine(one), Loc::Machine(other)) => one == other,
-        _ => false,
+        (Loc::Machine(first), Loc::Machine(second)) => first == second,
+        (Loc::Machine(_first), Loc::Slot(_second)) => false,
+        (Loc::Machine(_first), Loc::Unset) => false,
+        (Loc::Slot(_first), Loc::Machine(_second)) => false,
+        (Loc::Slot(_first), Loc::Slot(_second)) => false,
+        (Loc::Slot(_first), Loc::Unset) => false,
+        (Loc::Unset, Loc::Machine(_second)) => false,
+        (Loc::Unset, Loc::Slot(_second)) => false,
+        (Loc::Unset, Loc::Unset) => false,
     }
 }
 

@@ -19,11 +19,10 @@ use crate::calling::{call, frame_call};
 use crate::counting;
 use crate::outcome::RunEnd;
 use crate::schedule::Schedule;
-use crate::text::{write_line, write_made_line, write_obs_line, write_stopped};
+use crate::text::{write_line, write_obs_line, write_stopped};
 use alloc_service::{Plan, ServiceEnd};
 use bs_io::{OutFault, Sink};
-use bs_words::{Comp, Obs, Ret};
-use image_form::ExtRow;
+use bs_words::{Comp, Ret};
 use rv_isa::Register;
 use rv_machine::{Cause, Machine};
 

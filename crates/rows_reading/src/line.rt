@@ -8,7 +8,7 @@ ghost use Rattle.std.specs.Prelude.{◌≤◌, IfSome};
 use crate::forms::{FLOWS, Form, MARKS, form_of};
 use crate::words::{chunk, given, number, operator, register, right, test};
 use anyhow::{Result, bail};
-use bs_words::{Loc, Name, Ret};
+use bs_words::{Name, Ret};
 use lin_ir::{Flow, LinOp, Line, Spot};
 use mach_ir::{
     Access, Blocks, Callee, Calling, CopyKind, External, Instr, Label, Leaving, MachOp, Mark,

@@ -5,7 +5,7 @@ ghost use Rattle.cmm_tree.specs.Tree.{functions};
 ghost use Rattle.cmm_tree.specs.View.{file_view};
 
 use crate::ends::{Asked, Call, Doing, End, Holding, Next};
-use bs_words::{Chunk, Comp, DATA_START, IntOp, Name, Ret, Ty, Value};
+use bs_words::{Chunk, Comp, DATA_START, IntOp, Ret, Ty, Value};
 use cmm_data::{SymbolTable, data_fault};
 use cmm_tree::{File, Item, Param};
 use cmm_values::{Memory, apply, condition_of, fits};

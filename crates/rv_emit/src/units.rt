@@ -10,22 +10,48 @@ use mach_ir::Label;
 fn is_branch(op: &LinOp) -> bool
     ensures { result ≡ is_branch op.now }
 {
-    matches!(op, LinOp::Flow(Flow::Branch { .. }))
+    match op {
+        LinOp::Op(_) => false,
+        LinOp::Flow(Flow::Label(_)) => false,
+        LinOp::Flow(Flow::Jump(_)) => false,
+        LinOp::Flow(Flow::Exit(_)) => false,
+        LinOp::Flow(Flow::Branch { test: _, label: _ }) => true,
+        LinOp::Flow(Flow::Switch(_)) => false,
+        LinOp::Flow(Flow::PushTrap(_)) => false,
+        LinOp::Flow(Flow::PopTrap) => false,
+        LinOp::Flow(Flow::EnterTrap) => false,
+    }
 }
 
 fn is_label(op: &LinOp) -> bool
     ensures { result ≡ is_label op.now }
 {
-    matches!(op, LinOp::Flow(Flow::Label(_)))
+    match op {
+        LinOp::Op(_) => false,
+        LinOp::Flow(Flow::Label(_)) => true,
+        LinOp::Flow(Flow::Jump(_)) => false,
+        LinOp::Flow(Flow::Exit(_)) => false,
+        LinOp::Flow(Flow::Branch { test: _, label: _ }) => false,
+        LinOp::Flow(Flow::Switch(_)) => false,
+        LinOp::Flow(Flow::PushTrap(_)) => false,
+        LinOp::Flow(Flow::PopTrap) => false,
+        LinOp::Flow(Flow::EnterTrap) => false,
+    }
 }
 
 fn has_label(op: &LinOp, wanted: Label) -> bool
     ensures { result ≡ has_label wanted op.now }
 {
-    if let LinOp::Flow(Flow::Label(label)) = op {
-        *label == wanted
-    } else {
-        false
+    match op {
+        LinOp::Op(_) => false,
+        LinOp::Flow(Flow::Label(label)) => *label == wanted,
+        LinOp::Flow(Flow::Jump(_)) => false,
+        LinOp::Flow(Flow::Exit(_)) => false,
+        LinOp::Flow(Flow::Branch { test: _, label: _ }) => false,
+        LinOp::Flow(Flow::Switch(_)) => false,
+        LinOp::Flow(Flow::PushTrap(_)) => false,
+        LinOp::Flow(Flow::PopTrap) => false,
+        LinOp::Flow(Flow::EnterTrap) => false,
     }
 }
 
@@ -59,9 +85,15 @@ fn falls_to(label: Label, code: &[Line]) -> bool
 pub fn is_free(op: &LinOp, next: &[Line]) -> bool
     ensures { result ≡ is_free op.now next.now }
 {
-    if let LinOp::Flow(Flow::Exit(label)) = op {
-        falls_to(*label, next)
-    } else {
-        false
+    match op {
+        LinOp::Op(_) => false,
+        LinOp::Flow(Flow::Label(_)) => false,
+        LinOp::Flow(Flow::Jump(_)) => false,
+        LinOp::Flow(Flow::Exit(label)) => falls_to(*label, next),
+        LinOp::Flow(Flow::Branch { test: _, label: _ }) => false,
+        LinOp::Flow(Flow::Switch(_)) => false,
+        LinOp::Flow(Flow::PushTrap(_)) => false,
+        LinOp::Flow(Flow::PopTrap) => false,
+        LinOp::Flow(Flow::EnterTrap) => false,
     }
 }

@@ -11,10 +11,9 @@ ghost use Rattle.bs_words.specs.declared.operators.IntOp.TheVariants as operator
 
 use crate::backwards::Backwards;
 use crate::shape::Shape;
-use bs_words::{Chunk, Comp, IntOp, Name, Ret};
+use bs_words::{Chunk, IntOp, Name};
 use mach_ir::{
-    Access, Blocks, Callee, Calling, CopyKind, External, Label, Leaving, Mark, NewBlock, Op, Pure,
-    Reg, Right, Seq, Test,
+    Access, Blocks, CopyKind, Label, Leaving, Mark, NewBlock, Op, Pure, Reg, Right, Seq, Test,
 };
 use selection_scope::row::Regs;
 use std::alloc::AllocError;

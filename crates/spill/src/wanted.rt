@@ -4,7 +4,6 @@ ghost use Rattle.bs_bits.specs.Set.{has};
 ghost use Rattle.dataflow.specs.Flow.{WellFormed};
 ghost use Rattle.dataflow.specs.Rows.{row};
 ghost use Rattle.liveness.specs.Nodes.{AreNodes};
-ghost use Rattle.mach_ir.specs.Formed as well;
 ghost use Rattle.mach_laws.specs.Graph.{IsFlowOf};
 ghost use Rattle.spill.specs.Graphs.{reloaded_among, wanted_uses, IsWantedPlace};
 ghost use Rattle.spill.specs.Tables.{AreLost, AreWanted};
