@@ -86,6 +86,7 @@ fn counts(alloc: Global, flags: &[bool]) -> Result<Vec<u32>, AllocError>
 }
 
 /// Whether the slots of a function, counted up to the greatest, have numbers.
+/// The only error is want of memory.
 pub fn has_room(alloc: Global, mach: &Mach) -> Result<bool, AllocError>
     ensures { IfOk result (λ yes. IsTrue yes ↔ limit_of (slots_of mach.now) < 2 ^ 32) }
 {

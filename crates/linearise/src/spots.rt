@@ -32,7 +32,7 @@ fn spot(numbers: &[u32], reg: &Reg) -> Spot
     }
 }
 
-/// Registers as spots, in order.
+/// Registers as spots, in order. The only error is want of memory.
 pub fn spots(alloc: Global, numbers: &[u32], regs: &[Reg]) -> Result<Seq<Spot>, AllocError>
     ensures { IfOk result (λ made. made ≡ spots (number_in numbers.now) regs.now) }
 {

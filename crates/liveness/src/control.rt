@@ -107,7 +107,7 @@ pub fn places_aside(
 }
 
 /// The tries round an instruction, from those round the code after it: the innermost first, by the
-/// labels of their handlers.
+/// labels of their handlers. The only error is want of memory.
 pub fn pass_tries(tries: &mut Backward<u32>, op: &MachOp) -> Result<(), AllocError>
     ensures { IfOk result (λ _. tries.new ≡ tries_past op.now tries.old) }
 {

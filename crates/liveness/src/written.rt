@@ -60,7 +60,7 @@ fn is_at_one_of(place: Loc, regs: &[Reg]) -> bool
     false
 }
 
-/// The numbers of registers, in their order.
+/// The numbers of registers, in their order. The only error is want of memory.
 pub fn numbers_of(alloc: Global, regs: &[Reg]) -> Result<Vec<u32>, AllocError>
     ensures { IfOk result (λ found. found.items ≡ numbers regs.now) }
 {
