@@ -71,6 +71,7 @@ fn places_after_mark(
 }
 
 /// Where the instruction at the place goes on, conditions ignored.
+/// The only error is want of memory.
 pub fn places_after(
     alloc: Global,
     labels: &Labels,
@@ -88,6 +89,7 @@ pub fn places_after(
 }
 
 /// The place of the innermost handler, if the instruction may raise and there is one.
+/// The only error is want of memory.
 pub fn places_aside(
     alloc: Global,
     labels: &Labels,

@@ -107,7 +107,7 @@ fn push_killed(
     Ok(())
 }
 
-/// The numbers of all registers that the instruction writes.
+/// The numbers of all registers that the instruction writes. The only error is want of memory.
 pub fn numbers_written(alloc: Global, mach: &Mach, instr: &Instr) -> Result<List<u32>, AllocError>
     ensures { IfOk result (λ found. contents found ≡ numbers (written mach.now instr.now)) }
 {
