@@ -124,7 +124,7 @@ fn joined(alloc: Global, parts: Vec<Code>, count: u64) -> Result<Code, AllocErro
     Ok(Code { words, descs })
 }
 
-/// The code: the stub, and the functions in order.
+/// The code: the stub, and the functions in order. The only error is want of memory.
 pub fn all_code<R: Threads + Sync>(
     rt: &R,
     alloc: Global,

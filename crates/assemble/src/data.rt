@@ -36,6 +36,7 @@ impl<'a, 'b> Source<'a, 'b> {
     }
 
     /// The bytes of the data: those of all cells, without those past its end.
+    /// The only error is want of memory.
     pub fn bytes(&self, alloc: Global) -> Result<List<u8>, AllocError>
         requires { IsSource self.now }
         ensures { IfOk result (λ bytes. contents bytes ≡ (laid_of self.now).bytes) }
@@ -48,7 +49,7 @@ impl<'a, 'b> Source<'a, 'b> {
         Ok(List::from_vec(bytes))
     }
 
-    /// The symbols of the data, in the order of their places.
+    /// The symbols of the data, in the order of their places. The only error is want of memory.
     pub fn syms(&self, alloc: Global) -> Result<List<SymRow>, AllocError>
         requires { IsSource self.now }
         ensures { IfOk result (λ rows. map sym (contents rows) ≡ (laid_of self.now).syms) }
@@ -60,7 +61,7 @@ impl<'a, 'b> Source<'a, 'b> {
         Ok(List::from_vec(rows))
     }
 
-    /// The offsets of the root cells, in order.
+    /// The offsets of the root cells, in order. The only error is want of memory.
     pub fn roots(&self, alloc: Global) -> Result<List<u32>, AllocError>
         requires { IsSource self.now }
         ensures { IfOk result (λ roots. contents roots ≡ (laid_of self.now).roots) }

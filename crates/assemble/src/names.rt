@@ -86,7 +86,7 @@ impl<'a, 'b> Source<'a, 'b> {
         }
     }
 
-    /// What the names of pieces stand for.
+    /// What the names of pieces stand for. The only error is want of memory.
     pub fn targets_of(
         &self,
         alloc: Global,

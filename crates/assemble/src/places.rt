@@ -50,6 +50,7 @@ fn total_words(code: &[Piece], forms: &[Form]) -> u64
 }
 
 /// How much work the functions are: each as much as it has pieces.
+/// The only error is want of memory.
 pub fn work_of(alloc: Global, pieces: &[Pieces]) -> Result<Vec<u32>, AllocError>
     ensures { IfOk result (λ work. length work.items ≡ length pieces.now) }
 {
@@ -98,7 +99,7 @@ fn all_laid<R: Threads + Sync>(
 }
 
 impl Places {
-    /// The places of functions that are after the stub, in order.
+    /// The places of functions that are after the stub, in order. The only error is want of memory.
     pub fn of<R: Threads + Sync>(
         rt: &R,
         alloc: Global,

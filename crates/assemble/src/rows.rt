@@ -56,7 +56,7 @@ fn row(
 }
 
 impl<'a, 'b> Source<'a, 'b> {
-    /// The rows of the functions, in the order of the text.
+    /// The rows of the functions, in the order of the text. The only error is want of memory.
     pub fn rows(&self, alloc: Global) -> Result<List<FuncRow>, AllocError>
         requires source { IsSource self.now }
         requires fits { first_too_large (laid_of self.now) ≡ None }

@@ -27,7 +27,7 @@ impl Model for Bits {
 }
 
 impl Bits {
-    /// The empty set of numbers below `size`.
+    /// The empty set of numbers below `size`. The only error is want of memory.
     pub fn new(alloc: Global, size: u32) -> Result<Self, AllocError>
         ensures { IfOk result (λ bits. bits ≡ replicate size false) }
     {

@@ -157,6 +157,7 @@ impl Model for MemSink {
 impl MemSink {
     /// An empty sink with room for `room` bytes, which is the only memory that it takes. The calls with the
     /// numbers in `fails`, counted from 0, fail; each other call takes at most `most` bytes.
+    /// Making it fails only for want of memory.
     pub fn new(
         alloc: Global,
         room: usize,

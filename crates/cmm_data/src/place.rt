@@ -20,6 +20,7 @@ use cmm_tree::{DataItem, Datum, File, Item};
 use std::alloc::{AllocError, Global};
 
 /// The static data of a file at its place, where the data has no fault.
+/// The only error is want of memory.
 pub fn place_data(alloc: Global, file: &File) -> Result<DataMap, AllocError>
     requires data { data_fault_of (file_view file.now) ≡ None }
     requires few { length (functions (file_view file.now)) < 2 ^ 32 }

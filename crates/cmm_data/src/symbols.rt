@@ -23,7 +23,7 @@ pub struct SymbolTable<'a> {
 impl<'a> SymbolTable<'a> {
     ghost use Rattle.cmm_data.specs.Symbols.{value_in, Adds, IsTableOf};
 
-    /// The table of the file.
+    /// The table of the file. The only error is want of memory.
     pub fn of_file(alloc: Global, file: &'a File) -> Result<SymbolTable<'a>, AllocError>
         requires data { data_fault_of (file_view file.now) ≡ None }
         requires few { length (functions (file_view file.now)) < 2 ^ 32 }

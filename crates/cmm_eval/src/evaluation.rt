@@ -112,7 +112,7 @@ pub fn eval(
 }
 
 /// Whether a run can begin so: the entry is a function of the file, with as many parameters as arguments,
-/// which fit them.
+/// which fit them. The only error is want of memory.
 pub fn fits_entry(alloc: Global, file: &File, entry: u32, args: &[u64]) -> Result<bool, AllocError>
     requires data { data_fault_of (file_view file.now) ≡ None }
     requires few { length (functions (file_view file.now)) < 2 ^ 32 }

@@ -41,7 +41,7 @@ fn range_fault(at: u32, kind: TokenKind, text: &[u8]) -> Option<Fault>
 }
 
 /// The tokens of a text, each the longest that fits, up to the first `BadToken` or `Unclosed`; that
-/// fault; and the first `IntRange` among the tokens.
+/// fault; and the first `IntRange` among the tokens. The only error is want of memory.
 pub fn lex(alloc: Global, text: &[u8]) -> Result<Lexed, AllocError>
     requires { length text.now ≤ longest_text }
     ensures { IfOk result (λ lexed. IsLexed text.now lexed) }
@@ -134,6 +134,7 @@ pub fn integer_word(source: &[u8], token: &Token) -> Option<u64>
 }
 
 /// The bytes that a string of this source stands for: those between its quotes, each escape replaced.
+/// The only error is want of memory.
 pub fn string_of(alloc: Global, source: &[u8], token: &Token) -> Result<List<u8>, AllocError>
     ensures { let text = (token_view source.now token.now).text in IfOk result (λ bytes.
         contents bytes ≡ string_bytes text) }

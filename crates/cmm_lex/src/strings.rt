@@ -97,6 +97,7 @@ pub fn bad_escape(bytes: &[u8]) -> Option<usize>
 }
 
 /// The bytes that the text of a string stands for: those between its quotes, each escape replaced.
+/// The only error is want of memory.
 pub fn string_value(alloc: Global, text: &[u8]) -> Result<List<u8>, AllocError>
     ensures { IfOk result (λ bytes. contents bytes ≡ string_bytes text.now) }
 {

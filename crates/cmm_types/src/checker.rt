@@ -206,7 +206,7 @@ impl Checker {
         }
     }
 
-    /// Binds the parameters, first to last.
+    /// Binds the parameters, first to last. The only error is want of memory.
     pub fn bind_params(&mut self, alloc: Global, params: &[Param]) -> Result<(), AllocError>
         ensures names { OnOk result (self.new.names
             ≡ with_parameters (params_view params.now) self.old.names) }

@@ -20,7 +20,7 @@ pub struct Gathering {
     pub found: Option<Fault>,
 }
 
-/// The symbols that the items define.
+/// The symbols that the items define. The only error is want of memory.
 pub fn gather(alloc: Global, items: &[Item]) -> Result<Gathering, AllocError>
     ensures symbols { IfOk result (λ all. all.symbols ≡ with_symbols (built_in ∷ []) (symbols_among
         (map item_view items.now))) }

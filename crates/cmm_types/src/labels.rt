@@ -79,7 +79,7 @@ impl Labels {
         Ok(())
     }
 
-    /// Makes the labels of all of these handlers visible.
+    /// Makes the labels of all of these handlers visible. The only error is want of memory.
     pub fn add_all(&mut self, alloc: Global, handlers: &[Handler]) -> Result<(), AllocError>
         ensures ok { OnOk result (self.new ≡ labels_of (handlers_of handlers.now) ++ self.old) }
     {
@@ -92,6 +92,7 @@ impl Labels {
     }
 
     /// Makes those labels of the handlers visible that are visible in handlers too.
+    /// The only error is want of memory.
     pub fn add_lasting(&mut self, alloc: Global, handlers: &[Handler]) -> Result<(), AllocError>
         ensures ok { OnOk result (self.new ≡ lasting_labels_of (handlers_of handlers.now)
             ++ self.old) }

@@ -31,6 +31,7 @@ use std::alloc::{AllocError, Global};
 
 impl Checker {
     /// Gives the node and all below it their types, and notes their faults.
+    /// The only error is want of memory.
     #[cycle(node)]
     pub fn visit(
         &mut self,

@@ -64,6 +64,7 @@ impl Model for Memory {
 
 impl Memory {
     /// The memory in which a run of the file begins, whose static data has no fault.
+    /// The only error is want of memory.
     pub fn of_file(alloc: Global, file: &File) -> Result<Memory, AllocError>
         requires data { data_fault_of (file_view file.now) ≡ None }
         requires few { length (functions (file_view file.now)) < 2 ^ 32 }

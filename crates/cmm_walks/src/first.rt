@@ -213,7 +213,7 @@ impl<'a> Search<'a> {
 }
 
 /// The least use, then the least frame point, then the least binding of an address that is live there, or
-/// `None` where none is.
+/// `None` where none is. The only error is want of memory.
 pub fn first_live(alloc: Global, nodes: &[Node], entry: usize) -> Result<Option<Limits>, AllocError>
     requires { AreLinked nodes.now }
     ensures { IfOk result (λ told. IsFirstTold nodes.now entry told) }

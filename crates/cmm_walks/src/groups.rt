@@ -50,7 +50,7 @@ fn add_to_all(groups: &mut Vec<Group>, targets: &[usize], member: usize) -> Resu
     Ok(())
 }
 
-/// The nodes that may come before each node.
+/// The nodes that may come before each node. The only error is want of memory.
 pub fn nodes_before(alloc: Global, nodes: &[Node]) -> Result<Vec<Group>, AllocError>
     requires { AreLinked nodes.now }
     ensures { IfOk result (λ before. AreBefore nodes.now before.items) }
@@ -87,7 +87,7 @@ fn add_slot(groups: &mut Vec<Group>, step: Step, number: usize) -> Result<(), Al
     }
 }
 
-/// The nodes that name each slot up to the greatest.
+/// The nodes that name each slot up to the greatest. The only error is want of memory.
 pub fn nodes_by_slot(
     alloc: Global,
     nodes: &[Node],

@@ -56,7 +56,7 @@ fn binds(step: Step, slot: usize) -> bool
 }
 
 impl Labels {
-    /// So many nodes without labels.
+    /// So many nodes without labels. The only error is want of memory.
     pub fn new(alloc: Global, count: usize) -> Result<Self, AllocError>
         ensures { IfOk result (λ labels. IsUnlabelled count labels) }
     {
@@ -145,6 +145,7 @@ impl Labels {
 
     /// Labels each node with the least label of the seeds that it leads to without binding the slot. It takes
     /// the seeds from the least label up, so that each node is visited once.
+    /// The only error is want of memory.
     pub fn fill(
         &mut self,
         nodes: &[Node],

@@ -158,7 +158,7 @@ fn push_some(seeds: &mut Vec<Seed>, seed: Option<Seed>) -> Result<(), AllocError
     }
 }
 
-/// The seeds of those of the nodes that use the slot.
+/// The seeds of those of the nodes that use the slot. The only error is want of memory.
 pub fn use_seeds(
     alloc: Global,
     nodes: &[Node],
@@ -177,6 +177,7 @@ pub fn use_seeds(
 }
 
 /// The seeds of those of the labelled nodes that are frame points.
+/// The only error is want of memory.
 pub fn point_seeds(
     alloc: Global,
     nodes: &[Node],
@@ -224,6 +225,7 @@ fn add_binding(
 }
 
 /// Adds the seeds of those of the nodes that bind an address to the slot.
+/// The only error is want of memory.
 pub fn add_bindings(
     nodes: &[Node],
     goal: Goal,

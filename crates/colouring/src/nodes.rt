@@ -17,6 +17,7 @@ pub struct NodeTable {
 
 impl NodeTable {
     /// The table of a graph. The time is that of its nodes and of the greatest number.
+    /// The only error is want of memory.
     pub fn new(alloc: Global, graph: &Graph) -> Result<Self, AllocError>
         requires { IsOrdered graph.now }
         ensures { IfOk result (λ table. IsTableOf graph.now.nodes table.indices.items) }
@@ -44,6 +45,7 @@ impl NodeTable {
     }
 
     /// The fixed places of the graph whose table this is, by number.
+    /// The only error is want of memory.
     pub fn fixed_places(&self, alloc: Global, graph: &Graph) -> Result<Vec<Loc>, AllocError>
         requires { IsTableOf graph.now.nodes self.now.indices.items }
         ensures places { IfOk result (λ places. (n : ℕ) →

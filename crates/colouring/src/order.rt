@@ -105,6 +105,7 @@ fn nodes_of<'a>(alloc: Global, ranked: &[Ranked<'a>]) -> Result<Vec<&'a Node>, A
 
 /// The nodes whose places are open, in the order in which they get them, where `places` are the fixed ones,
 /// and registers numbered `fresh` or above were made by reloading.
+/// The only error is want of memory.
 pub fn order<'a>(
     alloc: Global,
     graph: &'a Graph,

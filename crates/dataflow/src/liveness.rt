@@ -9,6 +9,7 @@ use bs_bits::Bits;
 use std::alloc::{AllocError, Global};
 
 /// An empty set of numbers below `bound` for each of `count` places.
+/// The only error is want of memory.
 pub fn empty_rows(alloc: Global, count: usize, bound: u32) -> Result<Vec<Bits>, AllocError>
     ensures { IfOk result (λ rows. rows.items ≡ replicate count (replicate bound false)) }
 {
@@ -24,7 +25,7 @@ pub fn empty_rows(alloc: Global, count: usize, bound: u32) -> Result<Vec<Bits>, 
 ///
 /// It sweeps over the places backwards until no set grows, so a graph whose places are in the order
 /// of control takes one sweep for each depth of loops and two more. Its memory is a row of
-/// `bound / 8` bytes for each place and one more.
+/// `bound / 8` bytes for each place and one more. The only error is want of memory.
 pub fn live(alloc: Global, flow: &Flow) -> Result<Rows, AllocError>
     requires { WellFormed flow.now }
     ensures { IfOk result (λ rows. IsLiveness flow.now rows.rows.items) }
@@ -41,7 +42,7 @@ pub fn live(alloc: Global, flow: &Flow) -> Result<Rows, AllocError>
 /// The same as `live`, for a graph whose places are not in the order of control.
 ///
 /// It sweeps over the places in both directions until no set grows, so a graph takes one turn for each time
-/// that a walk changes between the directions, and two more.
+/// that a walk changes between the directions, and two more. The only error is want of memory.
 pub fn live_in_any_order(alloc: Global, flow: &Flow) -> Result<Rows, AllocError>
     requires { WellFormed flow.now }
     ensures { IfOk result (λ rows. IsLiveness flow.now rows.rows.items) }

@@ -16,6 +16,7 @@ use std::alloc::{AllocError, Global};
 /// after it. A step aside generates and kills nothing. It sweeps over the places forwards until no set
 /// grows, so a graph whose places are in the order of control takes one sweep for each depth of loops
 /// and two more. Its memory is a row of `bound / 8` bytes for each place and one more.
+/// The only error is want of memory.
 pub fn reaching(alloc: Global, flow: &Flow) -> Result<Rows, AllocError>
     requires { WellFormed flow.now }
     ensures { IfOk result (λ rows. IsReaching flow.now rows.rows.items) }

@@ -15,6 +15,7 @@ use cmm_values::{fits, misfit};
 use std::alloc::AllocError;
 
 /// Binds a name to a value, or says why the value does not fit it.
+/// The only error is want of memory.
 pub fn bind_value<'a>(
     end: u64,
     here: &mut Here<'a>,
@@ -68,7 +69,7 @@ pub fn first_misfit(end: u64, params: &[Param], values: &[Value]) -> Option<Kind
     None
 }
 
-/// Binds parameters to values, one after the other.
+/// Binds parameters to values, one after the other. The only error is want of memory.
 pub fn bind_params<'a>(
     here: &mut Here<'a>,
     params: &'a [Param],

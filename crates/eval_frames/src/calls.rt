@@ -18,7 +18,7 @@ use bs_words::{List, Obs, Ret, Value};
 use cmm_tree::Function;
 use std::alloc::{AllocError, Global};
 
-/// An activation of a function on these arguments.
+/// An activation of a function on these arguments. The only error is want of memory.
 pub fn activation<'a>(
     alloc: Global,
     function: &'a Function,
@@ -56,7 +56,7 @@ pub fn observed(layout: &Layout, value: Value) -> Obs
     }
 }
 
-/// What is seen of the arguments of an external call.
+/// What is seen of the arguments of an external call. The only error is want of memory.
 pub fn shown(alloc: Global, layout: &Layout, values: &[Value]) -> Result<List<Obs>, AllocError>
     ensures { IfOk result (λ seen. contents seen ≡ map (meaning.observed
         (layout_view layout.now)) values.now) }

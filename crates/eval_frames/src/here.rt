@@ -122,7 +122,7 @@ impl<'a> Here<'a> {
         }
     }
 
-    /// Binds a name, innermost.
+    /// Binds a name, innermost. The only error is want of memory.
     #[tactic(auto, using(crate::proofs::Bounds::bounds_push))]
     pub fn bind(
         &mut self,

@@ -77,7 +77,7 @@ impl ExternalRows {
         }
     }
 
-    /// Notes the row of a call, unless it is there.
+    /// Notes the row of a call, unless it is there. The only error is want of memory.
     pub fn note(
         &mut self,
         alloc: Global,
@@ -103,7 +103,7 @@ impl ExternalRows {
         Ok(())
     }
 
-    /// The number of a call's row, or of rows where it has none.
+    /// The number of a call's row, or of rows where it has none. The only error is want of memory.
     pub fn number_of(&self, alloc: Global, call: &External) -> Result<usize, AllocError>
         ensures { IfOk result (λ number. number ≡ number_of self.now (row_of call.now)) }
     {
@@ -117,7 +117,7 @@ impl ExternalRows {
         Ok(number.unwrap_or(self.rows.len()))
     }
 
-    /// A copy of the rows, as an image has them.
+    /// A copy of the rows, as an image has them. The only error is want of memory.
     pub fn to_list(&self, alloc: Global) -> Result<List<ExtRow>, AllocError>
         ensures { IfOk result (λ rows. map ext (contents rows) ≡ map ext_of self.now) }
     {

@@ -187,7 +187,8 @@ fn enter_point(
     Ok(())
 }
 
-/// Gives each frame point to which no walk comes a position, that with no trap pushed.
+/// Gives each frame point to which no walk comes a position, that with no trap pushed. The error is want
+/// of memory; more positions than 32 bits count are answered so too.
 pub fn enter_points(
     alloc: Global,
     lin: &Lin,
@@ -207,7 +208,7 @@ pub fn enter_points(
 }
 
 /// The frame points by their lines. Each has a place of the graph, in their order, which comes
-/// after those of positions.
+/// after those of positions. The only error is want of memory.
 pub fn add_points(
     alloc: Global,
     lin: &Lin,

@@ -70,6 +70,7 @@ fn describe(alloc: Global, frame: u32, point: Point, set: &Bits) -> Result<Descr
 }
 
 /// The descriptors of frame points. What is live after them is in the rows from `first` on.
+/// The only error is want of memory.
 pub fn describe_all(
     alloc: Global,
     frame: u32,

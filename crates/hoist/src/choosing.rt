@@ -53,6 +53,7 @@ fn written_once(
 /// end of these.
 ///
 /// Where no wide constant is made before the first call it takes no memory.
+/// The only error is want of memory.
 pub fn chosen(alloc: Global, mach: &Mach) -> Result<Vec<bool>, AllocError>
     requires formed { WellFormed mach.now }
     requires origins { (r : Reg) → IsRegister mach.now r → r.origin ≡ r.number }

@@ -54,7 +54,7 @@ fn note_exit(ends: &mut Table, op: &MachOp, after: usize) -> Result<(), AllocErr
     }
 }
 
-/// For each label the place after the last exit to it, or 0.
+/// For each label the place after the last exit to it, or 0. The only error is want of memory.
 pub fn last_exits(alloc: Global, code: &[Instr]) -> Result<Table, AllocError>
     ensures { IfOk result (λ ends. AreEnds code.now (entry ends)) }
 {
@@ -83,7 +83,7 @@ fn is_calm_wide(instr: &Instr, place: usize, reach: usize, calls: usize) -> bool
 }
 
 /// For each place before the first call whether a wide constant is made there, in a loop, and no loop
-/// round it comes to the call.
+/// round it comes to the call. The only error is want of memory.
 pub fn in_calm_loops(
     alloc: Global,
     code: &[Instr],

@@ -37,6 +37,7 @@ fn note_code(writes: &mut Table, code: &[Instr]) -> Result<(), AllocError>
 
 /// How often each register is written, by its number: 0, 1 or, for more, 2. The entry writes the
 /// parameters. What an instruction destroys is at a colour, and is not counted.
+/// The only error is want of memory.
 pub fn times_written(alloc: Global, mach: &Mach) -> Result<Table, AllocError>
     ensures { IfOk result (λ writes. (n : ℕ) → entry writes n ≡ times mach.now n) }
 {

@@ -135,6 +135,7 @@ fn joined_in(
 
 /// The pairs of registers of a function that are joined; their numbers are below `size`. The flow graph
 /// and what is live in it are made once, and are gone when the pairs are there.
+/// The only error is want of memory.
 pub fn joined_of(alloc: Global, mach: &Mach, size: u32) -> Result<Matrix, AllocError>
     requires numbers { (r : Reg) → IsRegister mach.now r → r.number < size }
     requires countable { IsCountable mach.now }

@@ -28,7 +28,7 @@ impl Model for Matrix {
 }
 
 impl Matrix {
-    /// No pairs, of numbers below `size`.
+    /// No pairs, of numbers below `size`. The only error is want of memory.
     pub fn new(alloc: Global, size: u32) -> Result<Self, AllocError>
         ensures len { IfOk result (λ matrix. length matrix ≡ size) }
         ensures none { IfOk result (λ matrix. (n k : ℕ) → has (row matrix n) k ≡ false) }

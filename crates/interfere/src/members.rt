@@ -6,6 +6,7 @@ use bs_bits::Bits;
 use std::alloc::{AllocError, Global};
 
 /// The members of the set, rising. The time is that of the members and of the words of the set.
+/// The only error is want of memory.
 pub fn members_of(alloc: Global, set: &Bits) -> Result<Vec<u32>, AllocError>
     ensures { IfOk result (λ members. AreMembers set.now members.items) }
 {

@@ -57,7 +57,7 @@ fn add_move(table: &mut Vec<Partners>, moved: Option<Move>) -> Result<(), AllocE
 }
 
 /// For each number below `size` the other registers of the moves in the code that take it from one or to
-/// one, in the order of the text.
+/// one, in the order of the text. The only error is want of memory.
 pub fn partners_of(alloc: Global, code: &[Instr], size: u32) -> Result<Vec<Partners>, AllocError>
     requires { (r : Reg) → InCode r code.now → r.number < size }
     ensures len { IfOk result (λ table. length table.items ≡ size) }

@@ -40,6 +40,7 @@ fn enter_code(table: &mut Vec<Option<Reg>>, code: &[Instr])
 }
 
 /// The registers of the function at their numbers, which are below `size`.
+/// The only error is want of memory.
 pub fn registers_of(alloc: Global, mach: &Mach, size: u32) -> Result<Vec<Option<Reg>>, AllocError>
     requires { (r : Reg) → IsRegister mach.now r → r.number < size }
     ensures { IfOk result (λ table. AreRegisters mach.now size table.items) }

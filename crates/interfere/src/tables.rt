@@ -45,7 +45,7 @@ fn uses_at(uses: &[u32], number: u32) -> u32
 }
 
 impl Tables {
-    /// The tables of a function.
+    /// The tables of a function. The only error is want of memory.
     pub fn of_function(alloc: Global, mach: &Mach) -> Result<Tables, AllocError>
         requires countable { IsCountable mach.now }
         ensures { IfOk result (AreTables mach.now) }
@@ -102,7 +102,7 @@ impl Tables {
         }
     }
 
-    /// The nodes of all registers, by rising number.
+    /// The nodes of all registers, by rising number. The only error is want of memory.
     pub fn nodes(&self, alloc: Global) -> Result<Vec<Node>, AllocError>
         requires { AreByNumber self.now }
         ensures { IfOk result (λ nodes.

@@ -58,7 +58,7 @@ fn places_after_flow(
     }
 }
 
-/// Where the line at the place goes on, conditions ignored.
+/// Where the line at the place goes on, conditions ignored. The only error is want of memory.
 pub fn places_after(
     alloc: Global,
     labels: &Labels,

@@ -44,7 +44,7 @@ pub struct Labels {
 }
 
 impl Labels {
-    /// The table of a function.
+    /// The table of a function. The only error is want of memory.
     pub fn of_function(alloc: Global, lin: &Lin) -> Result<Labels, AllocError>
         requires { length lin.now.code < 2 ^ 32 }
         ensures { IfOk result (AreLabelsOf lin.now) }

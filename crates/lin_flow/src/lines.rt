@@ -45,7 +45,7 @@ pub fn bound_of(slots: u32) -> u32
     slots + REGISTERS
 }
 
-/// The numbers of the locations that are read as val.
+/// The numbers of the locations that are read as val. The only error is want of memory.
 pub fn reads_of(alloc: Global, args: &[Spot]) -> Result<List<u32>, AllocError>
     requires { HaveSmall args.now }
     ensures { IfOk result (λ ns. contents ns ≡ val_numbers args.now) }
@@ -148,7 +148,7 @@ fn push_destroyed(numbers: &mut Vec<u32>, op: &LinOp) -> Result<(), AllocError>
 }
 
 /// The numbers of the locations that a line writes: those of its results, and the registers that it
-/// destroys.
+/// destroys. The only error is want of memory.
 pub fn writes_of(alloc: Global, line: &Line) -> Result<List<u32>, AllocError>
     requires { HaveSmall line.now.results }
     ensures { IfOk result (λ ns. contents ns ≡ written_numbers line.now) }

@@ -37,7 +37,7 @@ fn add_member(groups: &mut Vec<Group>, place: u32, member: u32) -> Result<(), Al
 }
 
 impl Search {
-    /// No position, where the last place has this number.
+    /// No position, where the last place has this number. The only error is want of memory.
     pub fn new(alloc: Global, last: usize) -> Result<Search, AllocError>
         requires { last < 4294967296 }
         ensures { IfOk result (Starts last) }
@@ -71,7 +71,7 @@ impl Search {
         self.positions.get(number as usize)
     }
 
-    /// A copy of the position that has the number.
+    /// A copy of the position that has the number. The only error is want of memory.
     pub fn copy_at(&self, number: usize) -> Result<Position, AllocError>
         requires { number < length (all_of self.now) }
         ensures { IfOk result (λ found. slice_get (all_of self.now) number ≡ Some found) }
@@ -121,7 +121,8 @@ impl Search {
         Ok(number)
     }
 
-    /// The number of the position, a new one if it has none yet.
+    /// The number of the position, a new one if it has none yet. The error is want of memory; more positions
+    /// than 32 bits count are answered so too.
     pub fn enter(&mut self, alloc: Global, place: u32, tries: &[u32]) -> Result<u32, AllocError>
         requires { place < length (groups_of self.old) }
         ensures { IfOk result (λ number.
@@ -133,7 +134,8 @@ impl Search {
         self.add(alloc, place, tries)
     }
 
-    /// The numbers of the positions at these places, with the same traps.
+    /// The numbers of the positions at these places, with the same traps. The error is want of memory; more
+    /// positions than 32 bits count are answered so too.
     pub fn enter_all(
         &mut self,
         alloc: Global,

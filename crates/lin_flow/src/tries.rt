@@ -49,7 +49,7 @@ fn after_flow(alloc: Global, flow: &Flow, tries: &[u32]) -> Result<Seq<u32>, All
     }
 }
 
-/// The traps that are pushed where a line goes on.
+/// The traps that are pushed where a line goes on. The only error is want of memory.
 pub fn tries_after(alloc: Global, op: &LinOp, tries: &[u32]) -> Result<Seq<u32>, AllocError>
     ensures { IfOk result (λ after. after ≡ tries_after op.now tries.now) }
 {

@@ -12,7 +12,7 @@ use mach_ir::page::{Page, right_of};
 use mach_ir::{Label, Right};
 use std::alloc::{AllocError, Global};
 
-/// The text of a function.
+/// The text of a function. The only error is want of memory.
 pub fn text(alloc: Global, lin: &Lin) -> Result<List<u8>, AllocError>
     ensures { IfOk result (λ text. contents text ≡ lin_text lin.now) }
 {

@@ -79,7 +79,7 @@ fn unset_lines(alloc: Global, code: Seq<Line>, flags: &[bool]) -> Result<Seq<Lin
     Ok(Seq::from_vec(left))
 }
 
-/// The function without the lines whose flags are set.
+/// The function without the lines whose flags are set. The only error is want of memory.
 pub fn leave_out(alloc: Global, lin: Lin, flags: &[bool]) -> Result<Lin, AllocError>
     requires { length flags.now ≡ length lin.code }
     ensures { IfOk result (λ left. left ≡ with_code lin (without (goes_by flags.now) lin.code)) }

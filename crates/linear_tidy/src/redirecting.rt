@@ -222,7 +222,7 @@ impl Targets {
 
 /// The function in which jumps, exits and branches go at once where the jumps lead to which they go.
 /// A jump that leads to an exit is an exit itself: so a turn of a loop that ended in such a jump has one
-/// instruction less.
+/// instruction less. The only error is want of memory.
 pub fn redirect_jumps(alloc: Global, lin: Lin) -> Result<Lin, AllocError>
     requires { length lin.code < 2 ^ 32 }
     ensures { IfOk result (λ redirected. redirected ≡ redirected_all lin) }

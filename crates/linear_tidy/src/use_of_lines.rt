@@ -155,6 +155,7 @@ fn by_labels(alloc: Global, lin: &Lin) -> Result<Vec<bool>, AllocError>
 }
 
 /// For each line, whether it has no use. What is read counts only for moves of a location to itself.
+/// The only error is want of memory.
 pub fn useless_lines(alloc: Global, lin: &Lin) -> Result<Vec<bool>, AllocError>
     requires countable { IsCountable lin.now }
     requires numbered { AreNumbered lin.now }
@@ -168,7 +169,7 @@ pub fn useless_lines(alloc: Global, lin: &Lin) -> Result<Vec<bool>, AllocError>
 }
 
 /// The same of what is left when lines without use have gone: walks come to all of it, and moves of
-/// a location to itself are still read if none of them went.
+/// a location to itself are still read if none of them went. The only error is want of memory.
 pub fn useless_lines_left(
     alloc: Global,
     lin: &Lin,

@@ -40,7 +40,7 @@ fn code_as_vals(alloc: Global, code: &[Line]) -> Result<Seq<Line>, AllocError>
     Ok(Seq::from_vec(made))
 }
 
-/// The function with every operand and result as val.
+/// The function with every operand and result as val. The only error is want of memory.
 pub fn as_vals(alloc: Global, lin: &Lin) -> Result<Lin, AllocError>
     ensures { IfOk result (λ made. made ≡ as_vals lin.now) }
 {

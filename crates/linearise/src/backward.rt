@@ -24,7 +24,7 @@ impl Model for Backward {
 }
 
 impl Backward {
-    /// No lines, with room for so many.
+    /// No lines, with room for so many. The only error is want of memory.
     pub fn with_room(alloc: Global, count: usize) -> Result<Self, AllocError>
         ensures { IfOk result (λ lines. lines ≡ []) }
     {

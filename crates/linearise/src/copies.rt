@@ -5,7 +5,7 @@ use bs_words::Name;
 use mach_ir::{Access, Callee, Calling, External, Op, Pure};
 use std::alloc::AllocError;
 
-/// The same name.
+/// The same name. The only error is want of memory.
 pub fn copy_name(name: &Name) -> Result<Name, AllocError>
     ensures { IfOk result (λ copy. copy ≡ name.now) }
 {
@@ -84,7 +84,7 @@ fn copy_calling(calling: &Calling) -> Result<Calling, AllocError>
     }
 }
 
-/// The same operation.
+/// The same operation. The only error is want of memory.
 pub fn copy_op(op: &Op) -> Result<Op, AllocError>
     ensures { IfOk result (λ copy. copy ≡ op.now) }
 {

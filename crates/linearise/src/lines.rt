@@ -158,7 +158,7 @@ fn push_op(
     lines.push(line)
 }
 
-/// Puts the lines of an instruction before the others.
+/// Puts the lines of an instruction before the others. The only error is want of memory.
 pub fn push_instr(
     alloc: Global,
     numbers: &[u32],

@@ -22,6 +22,7 @@ fn gather_regs(regs: &[Reg], slots: &mut Vec<u32>) -> Result<(), AllocError>
 }
 
 /// The numbers of the slots that occur in a function, some of them more than once.
+/// The only error is want of memory.
 pub fn gather(alloc: Global, mach: &Mach) -> Result<Vec<u32>, AllocError>
     ensures { IfOk result (λ slots. slots.items ≡ slots_of mach.now) }
 {
@@ -86,6 +87,7 @@ fn counts(alloc: Global, flags: &[bool]) -> Result<Vec<u32>, AllocError>
 }
 
 /// Whether the slots of a function, counted up to the greatest, have numbers.
+/// The only error is want of memory.
 pub fn has_room(alloc: Global, mach: &Mach) -> Result<bool, AllocError>
     ensures { IfOk result (λ yes. IsTrue yes ↔ limit_of (slots_of mach.now) < 2 ^ 32) }
 {
@@ -94,6 +96,7 @@ pub fn has_room(alloc: Global, mach: &Mach) -> Result<bool, AllocError>
 }
 
 /// How many of the slots, each counted once, are below each number up to their limit.
+/// The only error is want of memory.
 pub fn table(alloc: Global, slots: &[u32], limit: usize) -> Result<Vec<u32>, AllocError>
     requires limit { limit ≡ limit_of slots.now }
     requires small { limit < 2 ^ 32 }

@@ -32,7 +32,7 @@ fn spot(numbers: &[u32], reg: &Reg) -> Spot
     }
 }
 
-/// Registers as spots, in order.
+/// Registers as spots, in order. The only error is want of memory.
 pub fn spots(alloc: Global, numbers: &[u32], regs: &[Reg]) -> Result<Seq<Spot>, AllocError>
     ensures { IfOk result (λ made. made ≡ spots (number_in numbers.now) regs.now) }
 {
@@ -43,7 +43,7 @@ pub fn spots(alloc: Global, numbers: &[u32], regs: &[Reg]) -> Result<Seq<Spot>, 
     Ok(Seq::from_vec(made))
 }
 
-/// A line with the operands and results of an instruction.
+/// A line with the operands and results of an instruction. The only error is want of memory.
 pub fn line_of(alloc: Global, numbers: &[u32], op: LinOp, instr: &Instr) -> Result<Line, AllocError>
     ensures { IfOk result (λ line. line ≡ line_of (number_in numbers.now) op instr.now) }
 {

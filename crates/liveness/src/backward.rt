@@ -29,7 +29,7 @@ impl<T: Drop> Backward<T> {
         }
     }
 
-    /// No items, with room for so many.
+    /// No items, with room for so many. The only error is want of memory.
     pub fn with_capacity(alloc: Global, count: usize) -> Result<Self, AllocError>
         ensures { IfOk result (λ made. made ≡ []) }
     {
@@ -45,7 +45,7 @@ impl<T: Drop> Backward<T> {
         Ok(())
     }
 
-    /// Puts these items before the others, in their order.
+    /// Puts these items before the others, in their order. The only error is want of memory.
     pub fn push_all(&mut self, items: Vec<T>) -> Result<(), AllocError>
         ensures { IfOk result (λ _. self.new ≡ items.items ++ self.old) }
     {

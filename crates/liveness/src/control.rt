@@ -71,6 +71,7 @@ fn places_after_mark(
 }
 
 /// Where the instruction at the place goes on, conditions ignored.
+/// The only error is want of memory.
 pub fn places_after(
     alloc: Global,
     labels: &Labels,
@@ -88,6 +89,7 @@ pub fn places_after(
 }
 
 /// The place of the innermost handler, if the instruction may raise and there is one.
+/// The only error is want of memory.
 pub fn places_aside(
     alloc: Global,
     labels: &Labels,
@@ -107,7 +109,7 @@ pub fn places_aside(
 }
 
 /// The tries round an instruction, from those round the code after it: the innermost first, by the
-/// labels of their handlers.
+/// labels of their handlers. The only error is want of memory.
 pub fn pass_tries(tries: &mut Backward<u32>, op: &MachOp) -> Result<(), AllocError>
     ensures { IfOk result (λ _. tries.new ≡ tries_past op.now tries.old) }
 {

@@ -28,6 +28,7 @@ pub fn no_edges(alloc: Global, mach: &Mach) -> Edges
 }
 
 /// Where control goes from the instruction at the place, with these tries round it.
+/// The only error is want of memory.
 pub fn edges_of(
     alloc: Global,
     mach: &Mach,

@@ -41,6 +41,7 @@ fn nodes_of(alloc: Global, mach: &Mach, labels: &Labels) -> Result<Vec<Place>, A
 }
 
 /// The flow graph of the function. Its places are those of the text, and one after the last.
+/// The only error is want of memory.
 pub fn flow_of(alloc: Global, mach: &Mach) -> Result<Flow, AllocError>
     requires countable { IsCountable mach.now }
     ensures flow { IfOk result (IsFlowOf mach.now) }

@@ -55,7 +55,7 @@ pub struct Labels {
 }
 
 impl Labels {
-    /// The table of a function.
+    /// The table of a function. The only error is want of memory.
     pub fn of_function(alloc: Global, mach: &Mach) -> Result<Labels, AllocError>
         requires { length mach.now.code < 2 ^ 32 }
         ensures { IfOk result (AreLabelsOf mach.now) }

@@ -35,7 +35,7 @@ pub fn live_flow(alloc: Global, mach: &Mach) -> Result<LiveFlow, AllocError>
     Ok(LiveFlow { flow, live })
 }
 
-/// What is live alone, by `live_flow`.
+/// What is live alone, by `live_flow`. The only error is want of memory.
 pub fn live(alloc: Global, mach: &Mach) -> Result<LiveMap, AllocError>
     requires countable { IsCountable mach.now }
     ensures { IfOk result (IsLiveMap mach.now) }

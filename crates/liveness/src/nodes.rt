@@ -22,7 +22,7 @@ pub fn last_node(alloc: Global, mach: &Mach) -> Place
     }
 }
 
-/// The node of the instruction from which control goes so.
+/// The node of the instruction from which control goes so. The only error is want of memory.
 pub fn node_of(alloc: Global, mach: &Mach, instr: &Instr, edges: Edges) -> Result<Place, AllocError>
     ensures { IfOk result (IsNodeWith mach.now (register_uses mach.now) instr.now edges) }
 {

@@ -67,7 +67,7 @@ fn is_at_one_of(place: Loc, regs: &[Reg]) -> bool
     false
 }
 
-/// The numbers of registers, in their order.
+/// The numbers of registers, in their order. The only error is want of memory.
 pub fn numbers_of(alloc: Global, regs: &[Reg]) -> Result<Vec<u32>, AllocError>
     ensures { IfOk result (λ found. found.items ≡ numbers regs.now) }
 {
@@ -114,7 +114,7 @@ fn push_killed(
     Ok(())
 }
 
-/// The numbers of all registers that the instruction writes.
+/// The numbers of all registers that the instruction writes. The only error is want of memory.
 pub fn numbers_written(alloc: Global, mach: &Mach, instr: &Instr) -> Result<List<u32>, AllocError>
     ensures { IfOk result (λ found. contents found ≡ numbers (written mach.now instr.now)) }
 {

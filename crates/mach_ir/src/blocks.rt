@@ -33,7 +33,7 @@ impl Model for Blocks {
 }
 
 impl Blocks {
-    /// The one block.
+    /// The one block. The only error is want of memory.
     pub fn one(alloc: Global, block: NewBlock) -> Result<Self, AllocError>
         requires { block_bytes block < 4294967296 }
         ensures { IfOk result (λ blocks. blocks ≡ block ∷ []) }

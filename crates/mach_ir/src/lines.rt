@@ -29,7 +29,7 @@ pub enum Turn {
     Hides,
 }
 
-/// The text of a function.
+/// The text of a function. The only error is want of memory.
 pub fn text(alloc: Global, mach: &Mach) -> Result<List<u8>, AllocError>
     ensures { IfOk result (λ text. contents text ≡ mach_text mach.now) }
 {

@@ -39,7 +39,7 @@ impl Page {
         Ok(())
     }
 
-    /// Adds a number in decimal.
+    /// Adds a number in decimal. The only error is want of memory.
     pub fn put_number(&mut self, number: u64) -> Result<(), AllocError>
         ensures { IfOk result (λ _. Adds self.old self.new (decimal number)) }
     {
@@ -47,7 +47,7 @@ impl Page {
         self.put(digits.format(number).as_bytes())
     }
 
-    /// A word by its signed reading.
+    /// A word by its signed reading. The only error is want of memory.
     pub fn put_word(&mut self, word: u64) -> Result<(), AllocError>
         ensures { IfOk result (λ _. Adds self.old self.new (word_text word)) }
     {
@@ -55,7 +55,7 @@ impl Page {
         self.put(digits.format(signed(word)).as_bytes())
     }
 
-    /// Adds a label: `L` and its number.
+    /// Adds a label: `L` and its number. The only error is want of memory.
     pub fn put_label(&mut self, label: Label) -> Result<(), AllocError>
         ensures { IfOk result (λ _. Adds self.old self.new (label_text label)) }
     {
@@ -63,7 +63,7 @@ impl Page {
         self.put_number(u64::from(label.0))
     }
 
-    /// What is before an operand.
+    /// What is before an operand. The only error is want of memory.
     pub fn put_separator(&mut self, first: bool) -> Result<(), AllocError>
         ensures { IfOk result (λ _. Adds self.old self.new (separator first)) }
     {
@@ -77,7 +77,7 @@ impl Page {
         self.put_number(u64::from(number))
     }
 
-    /// The name of a register of the machine.
+    /// The name of a register of the machine. The only error is want of memory.
     pub fn put_register(&mut self, number: u8) -> Result<(), AllocError>
         ensures { IfOk result (λ _. Adds self.old self.new (register_name number)) }
     {
@@ -96,7 +96,7 @@ impl Page {
         }
     }
 
-    /// A slot.
+    /// A slot. The only error is want of memory.
     pub fn put_slot(&mut self, slot: u32) -> Result<(), AllocError>
         ensures { IfOk result (λ _.
             Adds self.old self.new (codes "[" ++ decimal slot ++ codes "]")) }
@@ -106,7 +106,7 @@ impl Page {
         self.put(b"]")
     }
 
-    /// The component of what is before it.
+    /// The component of what is before it. The only error is want of memory.
     pub fn put_comp(&mut self, comp: Comp) -> Result<(), AllocError>
         ensures { IfOk result (λ _. Adds self.old self.new (codes ":" ++ comp_letter comp)) }
     {
@@ -114,7 +114,7 @@ impl Page {
         self.put(letter_of(comp))
     }
 
-    /// The word of an operation.
+    /// The word of an operation. The only error is want of memory.
     pub fn put_op_word(&mut self, op: &Op) -> Result<(), AllocError>
         ensures { IfOk result (λ _. Adds self.old self.new (op_word op.now)) }
     {
@@ -142,7 +142,7 @@ impl Page {
         }
     }
 
-    /// The word of a test, after that of what tests.
+    /// The word of a test, after that of what tests. The only error is want of memory.
     pub fn put_test_word(&mut self, test: Test) -> Result<(), AllocError>
         ensures { IfOk result (λ _. Adds self.old self.new (test_word test)) }
     {
@@ -160,7 +160,7 @@ impl Page {
         }
     }
 
-    /// A right operand that is a constant.
+    /// A right operand that is a constant. The only error is want of memory.
     pub fn put_right(&mut self, first: bool, right: Right) -> Result<(), AllocError>
         ensures { IfOk result (λ _. Adds self.old self.new (right_text first right)) }
     {
@@ -240,7 +240,7 @@ impl Page {
         }
     }
 
-    /// The operands of an operation that are no registers.
+    /// The operands of an operation that are no registers. The only error is want of memory.
     pub fn put_op(&mut self, first: bool, op: &Op) -> Result<(), AllocError>
         ensures { IfOk result (λ _. Adds self.old self.new (op_text first op.now)) }
     {

@@ -37,6 +37,7 @@ impl Pending {
     }
 
     /// Adds a move, unless its source is its target. It is the next among those with its source.
+    /// The only error is want of memory.
     pub fn add(&mut self, alloc: Global, planned: Move) -> Result<(), AllocError>
         ensures { (moves : Moves) → Holds self.old.readers moves →
             OnOk result (Holds self.new.readers (added planned moves)) }
@@ -51,7 +52,7 @@ impl Pending {
         Ok(())
     }
 
-    /// Takes the next move that reads `source`, if there is one.
+    /// Takes the next move that reads `source`, if there is one. The only error is want of memory.
     pub fn take(&mut self, source: Loc) -> Result<Option<Move>, AllocError>
         ensures taken { (moves : Moves) → Holds self.old.readers moves → IfOk result (λ found.
             (found ≡ first_reader source moves) × Holds self.new.readers (others source moves)) }

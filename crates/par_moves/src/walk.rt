@@ -35,6 +35,7 @@ fn unwind(root: Move, last: Move, made: &mut Vec<Move>) -> Result<Move, AllocErr
 }
 
 /// Makes the root and every move that is reached from it, each after all that read its target.
+/// The only error is want of memory.
 pub fn walk(
     alloc: Global,
     root: Move,

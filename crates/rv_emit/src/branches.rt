@@ -44,7 +44,7 @@ impl Output {
         self.constant(Register::T2, word)
     }
 
-    /// Brings a right operand into its register.
+    /// Brings a right operand into its register. The only error is want of memory.
     pub fn right_words(&mut self, traps: u32, right: Right, args: &[Spot]) -> Result<(), AllocError>
         ensures { IfOk result (λ _. Adds self.old self.new (right_words traps right args.now)) }
     {
@@ -145,7 +145,7 @@ impl Output {
         }
     }
 
-    /// To the label where the test holds.
+    /// To the label where the test holds. The only error is want of memory.
     pub fn branch_part(
         &mut self,
         traps: u32,
@@ -162,7 +162,7 @@ impl Output {
         self.test_branch(test, args, register_of(Register::T1, left), label)
     }
 
-    /// What a location has becomes the value of t1.
+    /// What a location has becomes the value of t1. The only error is want of memory.
     pub fn value_words(&mut self, traps: u32, loc: Loc) -> Result<(), AllocError>
         ensures { IfOk result (λ _. Adds self.old self.new (value_words traps loc)) }
     {
@@ -207,7 +207,7 @@ impl Output {
         self.rows(labels)
     }
 
-    /// To the label of an index.
+    /// To the label of an index. The only error is want of memory.
     pub fn switch_part(
         &mut self,
         traps: u32,

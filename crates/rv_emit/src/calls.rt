@@ -54,7 +54,7 @@ fn external_service(frame: bool) -> u64
 }
 
 impl Output {
-    /// The mark of a return address, where it has a descriptor.
+    /// The mark of a return address, where it has a descriptor. The only error is want of memory.
     pub fn mark(&mut self, descriptor: Option<&Descr>) -> Result<(), AllocError>
         ensures { IfOk result (λ _.
             Adds self.old self.new (mark_of (option_copied descriptor.entry))) }
@@ -68,7 +68,7 @@ impl Output {
         }
     }
 
-    /// The value of a symbol becomes the register's value.
+    /// The value of a symbol becomes the register's value. The only error is want of memory.
     pub fn symbol_address(&mut self, to: Register, name: &Name) -> Result<(), AllocError>
         ensures { IfOk result (λ _. Adds self.old self.new (Piece.SymbolAddress to name.now ∷ [])) }
     {
@@ -76,7 +76,7 @@ impl Output {
         self.put(Piece::SymbolAddress { to, name })
     }
 
-    /// A call of a function.
+    /// A call of a function. The only error is want of memory.
     pub fn call_words(
         &mut self,
         traps: u32,
@@ -120,7 +120,7 @@ impl Output {
         }
     }
 
-    /// A call that takes the place of the function.
+    /// A call that takes the place of the function. The only error is want of memory.
     pub fn tail_call_part(
         &mut self,
         traps: u32,
@@ -136,7 +136,7 @@ impl Output {
         self.goes_to_callee(callee)
     }
 
-    /// An external call; `frame`: that it is a frame call.
+    /// An external call; `frame`: that it is a frame call. The only error is want of memory.
     pub fn external_words(&mut self, row: &External, frame: bool) -> Result<(), AllocError>
         ensures { IfOk result (λ _. Adds self.old self.new (external_words row.now frame)) }
     {
@@ -149,7 +149,7 @@ impl Output {
         self.ecall()
     }
 
-    /// The return from the function.
+    /// The return from the function. The only error is want of memory.
     pub fn return_part(&mut self, frame: FrameForm) -> Result<(), AllocError>
         ensures { IfOk result (λ _. Adds self.old self.new (return_part (form_of frame))) }
     {

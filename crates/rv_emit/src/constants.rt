@@ -106,7 +106,7 @@ impl Output {
         self.shifted(to, amount)
     }
 
-    /// The word becomes the register's value.
+    /// The word becomes the register's value. The only error is want of memory.
     #[tactic(auto, unfolding(emit_rules::specs::Constants::constant))]
     pub fn constant(&mut self, to: Register, word: u64) -> Result<(), AllocError>
         ensures { IfOk result (λ _. Adds self.old self.new (constant to word)) }
@@ -115,6 +115,7 @@ impl Output {
     }
 
     /// The sum of a register and so many bytes, fewer than 2^31, becomes the value of another.
+    /// The only error is want of memory.
     pub fn sum_to(
         &mut self,
         scratch: Register,
@@ -132,7 +133,7 @@ impl Output {
         }
     }
 
-    /// So many bytes, fewer than 2^31, are taken off a register.
+    /// So many bytes, fewer than 2^31, are taken off a register. The only error is want of memory.
     pub fn lowered(
         &mut self,
         scratch: Register,

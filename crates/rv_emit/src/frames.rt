@@ -39,7 +39,7 @@ impl Output {
         self.lowered(Register::T1, Register::Sp, u64::from(frame.bytes))
     }
 
-    /// The entry of a function.
+    /// The entry of a function. The only error is want of memory.
     pub fn entry(&mut self, frame: FrameForm) -> Result<(), AllocError>
         ensures { IfOk result (λ _. Adds self.old self.new (entry (form_of frame))) }
     {
@@ -75,7 +75,7 @@ impl Output {
         )
     }
 
-    /// The frame is given back, and ra is as it was at the entry.
+    /// The frame is given back, and ra is as it was at the entry. The only error is want of memory.
     pub fn given_back(&mut self, frame: FrameForm) -> Result<(), AllocError>
         ensures { IfOk result (λ _. Adds self.old self.new (given_back (form_of frame))) }
     {

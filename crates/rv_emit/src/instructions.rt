@@ -18,6 +18,7 @@ fn low_12(word: u64) -> u16
 
 impl Output {
     /// An operation of a register and a constant, of which the low 12 bits are taken.
+    /// The only error is want of memory.
     pub fn with_immediate(
         &mut self,
         op: AluImmOp,
@@ -36,20 +37,21 @@ impl Output {
     }
 
     /// A register and a constant, of which the low 12 bits are taken as a signed number: their sum.
+    /// The only error is want of memory.
     pub fn addi(&mut self, to: Register, from: Register, word: u64) -> Result<(), AllocError>
         ensures { IfOk result (λ _. Adds self.old self.new (addi to from word ∷ [])) }
     {
         self.with_immediate(AluImmOp::Addi, to, from, word)
     }
 
-    /// The value of one register in another.
+    /// The value of one register in another. The only error is want of memory.
     pub fn mv(&mut self, to: Register, from: Register) -> Result<(), AllocError>
         ensures { IfOk result (λ _. Adds self.old self.new (mv to from ∷ [])) }
     {
         self.addi(to, from, 0)
     }
 
-    /// An operation of two registers.
+    /// An operation of two registers. The only error is want of memory.
     pub fn operation(
         &mut self,
         op: AluOp,
@@ -67,14 +69,14 @@ impl Output {
         })
     }
 
-    /// The sum of two registers.
+    /// The sum of two registers. The only error is want of memory.
     pub fn add(&mut self, to: Register, left: Register, right: Register) -> Result<(), AllocError>
         ensures { IfOk result (λ _. Adds self.old self.new (add to left right ∷ [])) }
     {
         self.operation(AluOp::Add, to, left, right)
     }
 
-    /// A register shifted by so many bits, modulo 64.
+    /// A register shifted by so many bits, modulo 64. The only error is want of memory.
     pub fn shift(
         &mut self,
         op: ShiftOp,
@@ -93,6 +95,7 @@ impl Output {
     }
 
     /// `upper`: the upper bits; the field takes the lowest 20 of them.
+    /// The only error is want of memory.
     pub fn lui(&mut self, to: Register, upper: u64) -> Result<(), AllocError>
         ensures { IfOk result (λ _. Adds self.old self.new (lui to upper ∷ [])) }
     {
@@ -103,6 +106,7 @@ impl Output {
     }
 
     /// As `addi`, on words of 32 bits, whose sum is extended by its sign.
+    /// The only error is want of memory.
     pub fn addiw(&mut self, to: Register, from: Register, word: u64) -> Result<(), AllocError>
         ensures { IfOk result (λ _. Adds self.old self.new (addiw to from word ∷ [])) }
     {
@@ -113,7 +117,7 @@ impl Output {
         })
     }
 
-    /// The instruction's own address.
+    /// The instruction's own address. The only error is want of memory.
     pub fn auipc(&mut self, to: Register) -> Result<(), AllocError>
         ensures { IfOk result (λ _. Adds self.old self.new (auipc to ∷ [])) }
     {
@@ -124,6 +128,7 @@ impl Output {
     }
 
     /// The bytes from so many after the address in a register, extended as the width says.
+    /// The only error is want of memory.
     pub fn load(
         &mut self,
         width: LoadWidth,
@@ -142,6 +147,7 @@ impl Output {
     }
 
     /// The low bytes of a register, to so many after the address in another.
+    /// The only error is want of memory.
     pub fn store(
         &mut self,
         width: StoreWidth,
@@ -160,6 +166,7 @@ impl Output {
     }
 
     /// Goes so many bytes further than the branch where the condition holds.
+    /// The only error is want of memory.
     pub fn skip(
         &mut self,
         condition: Condition,
@@ -177,7 +184,7 @@ impl Output {
         })
     }
 
-    /// Goes to the address in a register and so many bytes more.
+    /// Goes to the address in a register and so many bytes more. The only error is want of memory.
     pub fn goes_to(&mut self, address: Register, offset: u64) -> Result<(), AllocError>
         ensures { IfOk result (λ _. Adds self.old self.new (goes_to address offset ∷ [])) }
     {
@@ -188,7 +195,7 @@ impl Output {
         })
     }
 
-    /// Calls the address in a register.
+    /// Calls the address in a register. The only error is want of memory.
     pub fn calls_at(&mut self, address: Register) -> Result<(), AllocError>
         ensures { IfOk result (λ _. Adds self.old self.new (calls_at address ∷ [])) }
     {
@@ -199,7 +206,7 @@ impl Output {
         })
     }
 
-    /// A call of the service whose number is in t2.
+    /// A call of the service whose number is in t2. The only error is want of memory.
     pub fn ecall(&mut self) -> Result<(), AllocError>
         ensures { IfOk result (λ _. Adds self.old self.new (ecall ∷ [])) }
     {

@@ -92,6 +92,7 @@ impl Output {
     }
 
     /// Loads through an address and an offset, into a register or a slot.
+    /// The only error is want of memory.
     pub fn load_part(
         &mut self,
         traps: u32,
@@ -111,6 +112,7 @@ impl Output {
     }
 
     /// Stores through an address and an offset, from a register or a slot.
+    /// The only error is want of memory.
     pub fn store_part(
         &mut self,
         traps: u32,
@@ -208,6 +210,7 @@ impl Output {
 
     /// Takes the blocks' bytes off the heap, asking the allocation service where there is no room for them, which is the
     /// frame point, and puts each block's address where its result is.
+    /// The only error is want of memory.
     pub fn alloc_part(
         &mut self,
         traps: u32,

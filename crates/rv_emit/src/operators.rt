@@ -60,7 +60,7 @@ impl Output {
         }
     }
 
-    /// An operator on two registers.
+    /// An operator on two registers. The only error is want of memory.
     pub fn operated(
         &mut self,
         op: IntOp,
@@ -141,7 +141,7 @@ impl Output {
         }
     }
 
-    /// An operator on a register and a constant.
+    /// An operator on a register and a constant. The only error is want of memory.
     pub fn operated_with(
         &mut self,
         op: IntOp,

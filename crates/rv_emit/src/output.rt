@@ -24,7 +24,7 @@ impl Output {
         }
     }
 
-    /// One piece.
+    /// One piece. The only error is want of memory.
     pub fn put(&mut self, piece: Piece) -> Result<(), AllocError>
         ensures { IfOk result (λ _. Adds self.old self.new (piece ∷ [])) }
     {
@@ -32,7 +32,7 @@ impl Output {
         Ok(())
     }
 
-    /// An instruction whose numbers are all known.
+    /// An instruction whose numbers are all known. The only error is want of memory.
     pub fn known(&mut self, instr: Instr) -> Result<(), AllocError>
         ensures { IfOk result (λ _. Adds self.old self.new (Piece.Known instr ∷ [])) }
     {

@@ -84,7 +84,7 @@ impl Output {
         self.add(scratch, scratch, Register::Sp)
     }
 
-    /// From so many bytes after sp.
+    /// From so many bytes after sp. The only error is want of memory.
     pub fn stack_load(
         &mut self,
         scratch: Register,
@@ -101,7 +101,7 @@ impl Output {
         }
     }
 
-    /// To so many bytes after sp.
+    /// To so many bytes after sp. The only error is want of memory.
     pub fn stack_store(
         &mut self,
         scratch: Register,
@@ -118,7 +118,7 @@ impl Output {
         }
     }
 
-    /// Brings what a slot has into the scratch register.
+    /// Brings what a slot has into the scratch register. The only error is want of memory.
     pub fn fetched(&mut self, traps: u32, scratch: Register, loc: Loc) -> Result<(), AllocError>
         ensures { IfOk result (λ _. Adds self.old self.new (fetched traps scratch loc)) }
     {
@@ -129,7 +129,7 @@ impl Output {
         }
     }
 
-    /// Takes a result that was made in t1 to its slot.
+    /// Takes a result that was made in t1 to its slot. The only error is want of memory.
     pub fn kept(&mut self, traps: u32, loc: Loc) -> Result<(), AllocError>
         ensures { IfOk result (λ _. Adds self.old self.new (kept traps loc)) }
     {
@@ -169,7 +169,7 @@ impl Output {
         }
     }
 
-    /// A copy, which is nothing from a location to itself.
+    /// A copy, which is nothing from a location to itself. The only error is want of memory.
     pub fn moved(&mut self, traps: u32, from: Loc, to: Loc) -> Result<(), AllocError>
         ensures { IfOk result (λ _. Adds self.old self.new (moved traps from to)) }
     {

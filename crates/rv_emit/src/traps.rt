@@ -15,7 +15,7 @@ use rv_pieces::Piece;
 use std::alloc::AllocError;
 
 impl Output {
-    /// To the handler of the innermost trap, which is popped.
+    /// To the handler of the innermost trap, which is popped. The only error is want of memory.
     pub fn raise_words(&mut self) -> Result<(), AllocError>
         ensures { IfOk result (λ _. Adds self.old self.new raise_words) }
     {
@@ -27,6 +27,7 @@ impl Output {
     }
 
     /// Pushes a trap: the handler of the label, and the trap before.
+    /// The only error is want of memory.
     pub fn push_part(&mut self, label: Label) -> Result<(), AllocError>
         ensures { IfOk result (λ _. Adds self.old self.new (push_part label)) }
     {
@@ -48,7 +49,7 @@ impl Output {
         self.load(LoadWidth::Ld, Register::S1, Register::Sp, 8)
     }
 
-    /// Pops the last trap: the one before is the last again.
+    /// Pops the last trap: the one before is the last again. The only error is want of memory.
     pub fn pop_part(&mut self) -> Result<(), AllocError>
         ensures { IfOk result (λ _. Adds self.old self.new pop_part) }
     {
@@ -56,7 +57,7 @@ impl Output {
         self.addi(Register::Sp, Register::Sp, 16)
     }
 
-    /// The entry of a handler: the raised value is in a0.
+    /// The entry of a handler: the raised value is in a0. The only error is want of memory.
     pub fn enter_part(&mut self, traps: u32, results: &[Spot]) -> Result<(), AllocError>
         ensures { IfOk result (λ _. Adds self.old self.new (enter_part traps results.now)) }
     {
@@ -70,7 +71,7 @@ impl Output {
         self.raise_words()
     }
 
-    /// Raises where the index is not below the bound.
+    /// Raises where the index is not below the bound. The only error is want of memory.
     pub fn check_part(&mut self, traps: u32, right: Right, args: &[Spot]) -> Result<(), AllocError>
         ensures { IfOk result (λ _. Adds self.old self.new (check_part traps right args.now)) }
     {

@@ -44,6 +44,7 @@ fn put_desc(
 }
 
 /// Puts the rows of the descriptors among pieces, the first of which is at this word of the code.
+/// The only error is want of memory.
 #[tactic(auto, using(crate::proofs::Steps::descs_step))]
 pub fn put_descs(
     alloc: Global,

@@ -181,6 +181,7 @@ fn grow(alloc: Global, code: &[Piece], forms: &[Form], labels: &Labels) -> Resul
 }
 
 /// The forms of a function's pieces: the least in which each branch and jump reaches its label.
+/// The only error is want of memory.
 pub fn forms_of(alloc: Global, code: &[Piece]) -> Result<Vec<Form>, AllocError>
     requires { length code.now < 2 ^ 48 }
     ensures { IfOk result (λ forms. AreForms code.now forms.items) }

@@ -239,7 +239,7 @@ fn jump(words: &mut Vec<u32>, form: Form, at: u64, to: u64) -> Result<(), AllocE
 }
 
 /// Puts the words of a piece that is at an address, in its form. `to` is what its name stands for:
-/// an address, or the number of an external call.
+/// an address, or the number of an external call. The only error is want of memory.
 pub fn put_piece(
     words: &mut Vec<u32>,
     piece: &Piece,

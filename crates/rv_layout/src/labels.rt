@@ -46,6 +46,7 @@ pub fn label_bound(code: &[Piece]) -> usize
 
 impl Labels {
     /// The labels of pieces that are in these forms. `bound` is above their numbers.
+    /// The only error is want of memory.
     pub fn of(
         alloc: Global,
         code: &[Piece],

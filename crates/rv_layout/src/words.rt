@@ -21,7 +21,7 @@ pub struct Placed<'a> {
     pub targets: &'a [u32],
 }
 
-/// Puts the words of pieces, the first of which is at an address.
+/// Puts the words of pieces, the first of which is at an address. The only error is want of memory.
 pub fn put_words(words: &mut Vec<u32>, placed: &Placed, from: u64) -> Result<(), AllocError>
     requires forms { length placed.now.forms.now ≡ length placed.now.code.now }
     requires targets { length placed.now.targets.now ≡ length placed.now.code.now }

@@ -20,7 +20,7 @@ pub struct Space {
 }
 
 impl Space {
-    /// The space for halves of so many bytes.
+    /// The space for halves of so many bytes. The only error is want of memory.
     pub fn new(alloc: Global, heap: u64) -> Result<Self, AllocError>
         requires aligned { heap % 16 ≡ 0 }
         requires most { heap ≤ most_room }

@@ -32,7 +32,7 @@ pub const STACK_BOTTOM: u64 = 0x3FFF_FFF0;
 /// What is in memory that holds nothing, and in destroyed registers.
 pub const FILLER: u64 = 0x5A5A_5A5A_5A5A_5A5A;
 
-/// A region of so many words that are all the same.
+/// A region of so many words that are all the same. The only error is want of memory.
 pub fn uniform(alloc: Global, start: u64, count: usize, word: u64) -> Result<Region, AllocError>
     requires aligned { start % 8 ≡ 0 }
     requires ends { start + 8 * count < 2 ^ 64 }
@@ -42,7 +42,7 @@ pub fn uniform(alloc: Global, start: u64, count: usize, word: u64) -> Result<Reg
     Ok(Region::new(start, 8 * count as u64, words))
 }
 
-/// The data region of those bytes.
+/// The data region of those bytes. The only error is want of memory.
 pub fn data_region(alloc: Global, bytes: &[u8]) -> Result<Region, AllocError>
     requires { length bytes.now ≤ data_limit }
     ensures { IfOk result (λ r. r ≡ data_region bytes.now) }
@@ -51,7 +51,7 @@ pub fn data_region(alloc: Global, bytes: &[u8]) -> Result<Region, AllocError>
     Ok(Region::new(DATA_START, bytes.len() as u64, words))
 }
 
-/// The domain page, with the limit word at rest.
+/// The domain page, with the limit word at rest. The only error is want of memory.
 pub fn domain_region(alloc: Global) -> Result<Region, AllocError>
     ensures { IfOk result (λ r. r ≡ domain_region) }
 {
@@ -60,7 +60,7 @@ pub fn domain_region(alloc: Global) -> Result<Region, AllocError>
     Ok(Region::new(DOMAIN_START, 4096, words))
 }
 
-/// The stack of so many bytes above the bottom trap frame.
+/// The stack of so many bytes above the bottom trap frame. The only error is want of memory.
 pub fn stack_region(alloc: Global, stack: u64) -> Result<Region, AllocError>
     requires aligned { stack % 16 ≡ 0 }
     requires most { stack ≤ most_room }

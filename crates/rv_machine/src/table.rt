@@ -29,7 +29,7 @@ impl Model for Table {
 }
 
 impl Table {
-    /// The table for halves of so many bytes, with no mark.
+    /// The table for halves of so many bytes, with no mark. The only error is want of memory.
     pub fn new(alloc: Global, heap: u64) -> Result<Self, AllocError>
         requires aligned { heap % 16 ≡ 0 }
         requires most { heap ≤ most_room }

@@ -111,7 +111,7 @@ fn form<F: Fn(&mut Scope, &mut Backwards, Place, &Expr) -> Result<(), AllocError
     }
 }
 
-/// Puts the code of an expression before what there is.
+/// Puts the code of an expression before what there is. The only error is want of memory.
 #[cycle(expr)]
 pub fn expr_at(
     scope: &mut Scope,

@@ -52,7 +52,7 @@ impl Backwards {
         Ok(())
     }
 
-    /// Puts an operation on these registers before the others.
+    /// Puts an operation on these registers before the others. The only error is want of memory.
     pub fn operation(&mut self, op: Op, args: &[Reg], results: &[Reg]) -> Result<(), AllocError>
         ensures { OnOk result (self.new ≡ emit.operation op args.now results.now ∷ self.old) }
     {
@@ -66,6 +66,7 @@ impl Backwards {
     }
 
     /// Puts an operation on these rows of registers before the others.
+    /// The only error is want of memory.
     pub fn on_rows(&mut self, op: Op, args: &Regs, results: &Regs) -> Result<(), AllocError>
         ensures { OnOk result (self.new ≡ emit.operation op args.now results.now ∷ self.old) }
     {
@@ -78,7 +79,7 @@ impl Backwards {
         })
     }
 
-    /// Puts a mark with these registers before the others.
+    /// Puts a mark with these registers before the others. The only error is want of memory.
     pub fn mark(&mut self, mark: Mark, args: &[Reg], results: &[Reg]) -> Result<(), AllocError>
         ensures { OnOk result (self.new ≡ record (emit.bare mark) {
           args = args.now;
@@ -94,7 +95,7 @@ impl Backwards {
         })
     }
 
-    /// Puts a mark without registers before the others.
+    /// Puts a mark without registers before the others. The only error is want of memory.
     pub fn bare(&mut self, mark: Mark) -> Result<(), AllocError>
         ensures { OnOk result (self.new ≡ emit.bare mark ∷ self.old) }
     {

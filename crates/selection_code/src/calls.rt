@@ -79,7 +79,7 @@ pub struct Call {
 }
 
 impl Backwards {
-    /// What is given goes from its seat to a register.
+    /// What is given goes from its seat to a register. The only error is want of memory.
     pub fn from_seat(&mut self, number: u32, given: Ret, to: Reg) -> Result<(), AllocError>
         ensures { OnOk result (self.new ≡ from_seat number given to self.old) }
     {
@@ -122,7 +122,7 @@ impl Backwards {
         self.on_rows(op, &all, &results)
     }
 
-    /// The call of a function whose arguments are in their seats.
+    /// The call of a function whose arguments are in their seats. The only error is want of memory.
     pub fn call(&mut self, call: Call, callee: &Expr, args: &Regs) -> Result<(), AllocError>
         ensures { OnOk result (self.new ≡ call_of call.tail call.valued call.written
             (symbol_of (expr_view callee.now)) call.register args.now call.given
@@ -135,7 +135,7 @@ impl Backwards {
         }
     }
 
-    /// An external call whose arguments are in their seats.
+    /// An external call whose arguments are in their seats. The only error is want of memory.
     pub fn external(
         &mut self,
         name: &Name,
@@ -157,6 +157,7 @@ impl Backwards {
     }
 
     /// An exit to a handler: the values go from these registers to its parameters. To none there is no code.
+    /// The only error is want of memory.
     pub fn exit_to(&mut self, target: Option<&Target>, from: &Regs) -> Result<(), AllocError>
         ensures { OnOk result (self.new ≡ exit_to (option_map target_view
             (option_copied target.entry)) from.now self.old) }
@@ -184,6 +185,7 @@ impl Backwards {
     }
 
     /// The end of the function, which has its value in this register.
+    /// The only error is want of memory.
     pub fn returns(&mut self, from: Reg, number: u32, given: Ret) -> Result<(), AllocError>
         requires { self.old ≡ [] }
         ensures { OnOk result (self.new ≡ returns from number given) }

@@ -19,28 +19,28 @@ use selection_scope::row::Regs;
 use std::alloc::AllocError;
 
 impl Backwards {
-    /// A copy of a name.
+    /// A copy of a name. The only error is want of memory.
     pub fn copy_of(&self, name: &Name) -> Result<Name, AllocError>
         ensures { IfOk result (λ copy. copy ≡ name.now) }
     {
         Ok(Name::from_vec(Vec::from_slice(self.alloc(), name.as_bytes())?))
     }
 
-    /// A move between registers.
+    /// A move between registers. The only error is want of memory.
     pub fn move_to(&mut self, from: Reg, to: Reg) -> Result<(), AllocError>
         ensures { OnOk result (self.new ≡ emit.move from to ∷ self.old) }
     {
         self.operation(Op::Pure(Pure::Copy(CopyKind::Move)), &[from], &[to])
     }
 
-    /// A word into a register.
+    /// A word into a register. The only error is want of memory.
     pub fn constant(&mut self, word: u64, to: Reg) -> Result<(), AllocError>
         ensures { OnOk result (self.new ≡ emit.constant word to ∷ self.old) }
     {
         self.operation(Op::Pure(Pure::Constant(word)), &[], &[to])
     }
 
-    /// The value of a symbol into a register.
+    /// The value of a symbol into a register. The only error is want of memory.
     pub fn symbol(&mut self, name: &Name, to: Reg) -> Result<(), AllocError>
         ensures { OnOk result (self.new ≡ emit.symbol name.now to ∷ self.old) }
     {
@@ -150,6 +150,7 @@ impl Backwards {
     }
 
     /// The operator whose operands have this shape, the left one in `x` and the right one in `y`.
+    /// The only error is want of memory.
     pub fn operator_code(
         &mut self,
         shape: Shape,
@@ -179,7 +180,7 @@ impl Backwards {
         self.mark(Mark::If { test, otherwise }, args, &[])
     }
 
-    /// The test of an `if` whose operands have this shape.
+    /// The test of an `if` whose operands have this shape. The only error is want of memory.
     pub fn branch(
         &mut self,
         shape: Shape,
@@ -199,7 +200,7 @@ impl Backwards {
         }
     }
 
-    /// The test of an `if` that holds where the register does.
+    /// The test of an `if` that holds where the register does. The only error is want of memory.
     pub fn branch_on(&mut self, otherwise: Label, condition: Reg) -> Result<(), AllocError>
         ensures { OnOk result (self.new ≡ emit.branch test.Holds otherwise
             (condition ∷ []) ∷ self.old) }
@@ -207,21 +208,21 @@ impl Backwards {
         self.branch_if(Test::Holds, otherwise, &[condition])
     }
 
-    /// A choice among labels by a register.
+    /// A choice among labels by a register. The only error is want of memory.
     pub fn choose(&mut self, labels: Seq<Label>, index: Reg) -> Result<(), AllocError>
         ensures { OnOk result (self.new ≡ emit.choose labels index ∷ self.old) }
     {
         self.mark(Mark::Switch(labels), &[index], &[])
     }
 
-    /// The place of a handler, to which the raised value comes.
+    /// The place of a handler, to which the raised value comes. The only error is want of memory.
     pub fn handler(&mut self, label: Label, raised: Reg) -> Result<(), AllocError>
         ensures { OnOk result (self.new ≡ emit.handler label raised ∷ self.old) }
     {
         self.mark(Mark::Handler { label }, &[], &[raised])
     }
 
-    /// A load.
+    /// A load. The only error is want of memory.
     pub fn load(
         &mut self,
         chunk: Chunk,
@@ -238,7 +239,7 @@ impl Backwards {
         )
     }
 
-    /// A store.
+    /// A store. The only error is want of memory.
     pub fn store(
         &mut self,
         chunk: Chunk,
@@ -256,6 +257,7 @@ impl Backwards {
     }
 
     /// An allocation of a block with this header and so many cells.
+    /// The only error is want of memory.
     pub fn allocate(&mut self, header: u64, cells: u32, to: Reg) -> Result<(), AllocError>
         requires { cells < most_numbers }
         ensures { OnOk result (self.new ≡ emit.alloc (record {
@@ -268,6 +270,7 @@ impl Backwards {
     }
 
     /// A bound test: its right operand is a constant, or is in `index`.
+    /// The only error is want of memory.
     pub fn checkbound(&mut self, right: Right, bound: Reg, index: Reg) -> Result<(), AllocError>
         ensures { OnOk result (self.new ≡ emit.checkbound right bound index ∷ self.old) }
     {
@@ -278,14 +281,14 @@ impl Backwards {
         }
     }
 
-    /// A raise.
+    /// A raise. The only error is want of memory.
     pub fn raising(&mut self, value: Reg) -> Result<(), AllocError>
         ensures { OnOk result (self.new ≡ emit.raising value ∷ self.old) }
     {
         self.operation(Op::Leaving(Leaving::Raise), &[value], &[])
     }
 
-    /// The end of the function, which gives these.
+    /// The end of the function, which gives these. The only error is want of memory.
     pub fn give_back(&mut self, values: &Regs) -> Result<(), AllocError>
         ensures { OnOk result (self.new ≡ emit.give_back values.now ∷ self.old) }
     {
@@ -293,7 +296,7 @@ impl Backwards {
         self.on_rows(Op::Leaving(Leaving::Return), values, &none)
     }
 
-    /// The value of a name, if it has a register, into another.
+    /// The value of a name, if it has a register, into another. The only error is want of memory.
     pub fn move_from(&mut self, from: Option<Reg>, to: Reg) -> Result<(), AllocError>
         ensures { OnOk result (self.new ≡ move_from from to self.old) }
     {
@@ -303,7 +306,7 @@ impl Backwards {
         }
     }
 
-    /// A value into the register of a name, if it has one.
+    /// A value into the register of a name, if it has one. The only error is want of memory.
     pub fn move_into(&mut self, from: Reg, to: Option<Reg>) -> Result<(), AllocError>
         ensures { OnOk result (self.new ≡ move_to from to self.old) }
     {
@@ -314,6 +317,7 @@ impl Backwards {
     }
 
     /// Moves between registers in pairs, the last first: the moves are as if all were made at once.
+    /// The only error is want of memory.
     pub fn moves_all(&mut self, from: &Regs, to: &Regs) -> Result<(), AllocError>
         ensures { OnOk result (self.new ≡ moves_all from.now to.now self.old) }
     {
@@ -331,6 +335,7 @@ impl Backwards {
     }
 
     /// The cells of a new block are written from the last one back.
+    /// The only error is want of memory.
     pub fn cell_stores(&mut self, chunk: Chunk, block: Reg, cells: &Regs) -> Result<(), AllocError>
         ensures { OnOk result (self.new ≡ cell_stores chunk block 0 cells.now self.old) }
     {

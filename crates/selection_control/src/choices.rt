@@ -33,7 +33,7 @@ use selection_scope::scope::Scope;
 use selection_scope::width::{behind, behind_cases, behind_row, width_of};
 use std::alloc::{AllocError, Global};
 
-/// An operator on two operands.
+/// An operator on two operands. The only error is want of memory.
 pub fn operator<F: Fn(&mut Scope, &mut Backwards, Place, &Expr) -> Result<(), AllocError>>(
     below: &Below<'_, F>,
     scope: &mut Scope,
@@ -229,7 +229,7 @@ fn condition<F: Fn(&mut Scope, &mut Backwards, Place, &Expr) -> Result<(), Alloc
     }
 }
 
-/// A choice of two.
+/// A choice of two. The only error is want of memory.
 pub fn if_else<F: Fn(&mut Scope, &mut Backwards, Place, &Expr) -> Result<(), AllocError>>(
     below: &Below<'_, F>,
     scope: &mut Scope,
@@ -299,7 +299,7 @@ fn dropped<F: Fn(&mut Scope, &mut Backwards, Place, &Expr) -> Result<(), AllocEr
     Ok(())
 }
 
-/// Expressions, one after the other.
+/// Expressions, one after the other. The only error is want of memory.
 pub fn seq<F: Fn(&mut Scope, &mut Backwards, Place, &Expr) -> Result<(), AllocError>>(
     below: &Below<'_, F>,
     scope: &mut Scope,
@@ -449,7 +449,7 @@ fn case_bodies<F: Fn(&mut Scope, &mut Backwards, Place, &Expr) -> Result<(), All
     Ok(())
 }
 
-/// A choice by a number.
+/// A choice by a number. The only error is want of memory.
 #[tactic(auto, using(crate::proofs::Rooms::cases_count, crate::proofs::Rooms::labels_count))]
 pub fn switch<F: Fn(&mut Scope, &mut Backwards, Place, &Expr) -> Result<(), AllocError>>(
     below: &Below<'_, F>,

@@ -25,7 +25,7 @@ use selection_scope::seats::seat;
 use selection_scope::width::{behind, behind_bindings, behind_handlers, behind_labels, width_of};
 use std::alloc::AllocError;
 
-/// A new value for a name.
+/// A new value for a name. The only error is want of memory.
 pub fn assign<F: Fn(&mut Scope, &mut Backwards, Place, &Expr) -> Result<(), AllocError>>(
     below: &Below<'_, F>,
     scope: &mut Scope,
@@ -108,7 +108,7 @@ fn values<F: Fn(&mut Scope, &mut Backwards, Place, &Expr) -> Result<(), AllocErr
     Ok(())
 }
 
-/// Bindings, one after the other, and what is in their scope.
+/// Bindings, one after the other, and what is in their scope. The only error is want of memory.
 pub fn let_in<F: Fn(&mut Scope, &mut Backwards, Place, &Expr) -> Result<(), AllocError>>(
     below: &Below<'_, F>,
     scope: &mut Scope,
@@ -210,7 +210,7 @@ fn handler_bodies<F: Fn(&mut Scope, &mut Backwards, Place, &Expr) -> Result<(), 
     Ok(())
 }
 
-/// A body, and handlers to which an exit may leave.
+/// A body, and handlers to which an exit may leave. The only error is want of memory.
 pub fn catch<F: Fn(&mut Scope, &mut Backwards, Place, &Expr) -> Result<(), AllocError>>(
     below: &Below<'_, F>,
     scope: &mut Scope,
@@ -304,7 +304,7 @@ fn in_try<F: Fn(&mut Scope, &mut Backwards, Place, &Expr) -> Result<(), AllocErr
     scope.leave_try()
 }
 
-/// A body, and what handles a raise out of it.
+/// A body, and what handles a raise out of it. The only error is want of memory.
 pub fn try_with<F: Fn(&mut Scope, &mut Backwards, Place, &Expr) -> Result<(), AllocError>>(
     below: &Below<'_, F>,
     scope: &mut Scope,

@@ -98,6 +98,7 @@ fn put_call(
 }
 
 /// A call. A callee that is a light address waits as an operand does.
+/// The only error is want of memory.
 #[tactic(auto, using(crate::proofs::Rooms::row_wide, crate::proofs::Rooms::row_count))]
 pub fn app<F: Fn(&mut Scope, &mut Backwards, Place, &Expr) -> Result<(), AllocError>>(
     below: &Below<'_, F>,
@@ -203,7 +204,7 @@ fn put_external(
     code.moves_all(&regs, &args)
 }
 
-/// An external call.
+/// An external call. The only error is want of memory.
 #[tactic(auto, using(crate::proofs::Rooms::row_wide, crate::proofs::Rooms::row_count))]
 pub fn extcall<F: Fn(&mut Scope, &mut Backwards, Place, &Expr) -> Result<(), AllocError>>(
     below: &Below<'_, F>,
@@ -254,7 +255,7 @@ fn put_exit(
     code.exit_to(scope.target_of(label), &regs)
 }
 
-/// An exit to a handler.
+/// An exit to a handler. The only error is want of memory.
 #[tactic(auto, using(crate::proofs::Rooms::row_wide, crate::proofs::Rooms::row_count))]
 pub fn exit<F: Fn(&mut Scope, &mut Backwards, Place, &Expr) -> Result<(), AllocError>>(
     below: &Below<'_, F>,
@@ -284,7 +285,7 @@ pub fn exit<F: Fn(&mut Scope, &mut Backwards, Place, &Expr) -> Result<(), AllocE
     waiting(below, scope, code, row, base, arguments)
 }
 
-/// A raise of a value.
+/// A raise of a value. The only error is want of memory.
 pub fn raise<F: Fn(&mut Scope, &mut Backwards, Place, &Expr) -> Result<(), AllocError>>(
     below: &Below<'_, F>,
     scope: &mut Scope,

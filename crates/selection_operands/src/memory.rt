@@ -63,7 +63,7 @@ fn address_of(address: &Expr) -> Address<'_>
     }
 }
 
-/// A load.
+/// A load. The only error is want of memory.
 pub fn load<F: Fn(&mut Scope, &mut Backwards, Place, &Expr) -> Result<(), AllocError>>(
     below: &Below<'_, F>,
     scope: &mut Scope,
@@ -91,7 +91,7 @@ pub fn load<F: Fn(&mut Scope, &mut Backwards, Place, &Expr) -> Result<(), AllocE
     one(below, scope, code, operand_at(register, first), at.base)
 }
 
-/// A store.
+/// A store. The only error is want of memory.
 pub fn store<F: Fn(&mut Scope, &mut Backwards, Place, &Expr) -> Result<(), AllocError>>(
     below: &Below<'_, F>,
     scope: &mut Scope,
@@ -135,7 +135,7 @@ pub fn store<F: Fn(&mut Scope, &mut Backwards, Place, &Expr) -> Result<(), Alloc
     both(below, scope, code, left_first, &left, &right)
 }
 
-/// A test of a bound.
+/// A test of a bound. The only error is want of memory.
 pub fn checkbound<F: Fn(&mut Scope, &mut Backwards, Place, &Expr) -> Result<(), AllocError>>(
     below: &Below<'_, F>,
     scope: &mut Scope,
@@ -208,6 +208,7 @@ fn put_cells(
 }
 
 /// A new block: its header is written before the operands that have waited, and its cells after them.
+/// The only error is want of memory.
 #[tactic(auto, using(crate::proofs::Rooms::row_wide, crate::proofs::Rooms::row_count))]
 pub fn alloc<F: Fn(&mut Scope, &mut Backwards, Place, &Expr) -> Result<(), AllocError>>(
     below: &Below<'_, F>,

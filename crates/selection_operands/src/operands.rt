@@ -36,7 +36,7 @@ pub struct Operand<'e> {
     pub needed: bool,
 }
 
-/// An expression.
+/// An expression. The only error is want of memory.
 pub fn one<F: Fn(&mut Scope, &mut Backwards, Place, &Expr) -> Result<(), AllocError>>(
     below: &Below<'_, F>,
     scope: &mut Scope,
@@ -56,7 +56,7 @@ pub fn one<F: Fn(&mut Scope, &mut Backwards, Place, &Expr) -> Result<(), AllocEr
     (below.select)(scope, code, place, expr)
 }
 
-/// An operand.
+/// An operand. The only error is want of memory.
 pub fn put_operand<F: Fn(&mut Scope, &mut Backwards, Place, &Expr) -> Result<(), AllocError>>(
     below: &Below<'_, F>,
     scope: &mut Scope,
@@ -79,7 +79,7 @@ pub fn put_operand<F: Fn(&mut Scope, &mut Backwards, Place, &Expr) -> Result<(),
     Ok(())
 }
 
-/// Two operands, the left one first or the right one.
+/// Two operands, the left one first or the right one. The only error is want of memory.
 pub fn both<F: Fn(&mut Scope, &mut Backwards, Place, &Expr) -> Result<(), AllocError>>(
     below: &Below<'_, F>,
     scope: &mut Scope,
@@ -111,7 +111,7 @@ pub fn both<F: Fn(&mut Scope, &mut Backwards, Place, &Expr) -> Result<(), AllocE
 }
 
 /// The operands that do not wait. Their registers have the numbers from `number` on, and their own numbers begin with
-/// `first`.
+/// `first`. The only error is want of memory.
 pub fn waiting<F: Fn(&mut Scope, &mut Backwards, Place, &Expr) -> Result<(), AllocError>>(
     below: &Below<'_, F>,
     scope: &mut Scope,
@@ -151,7 +151,7 @@ pub fn waiting<F: Fn(&mut Scope, &mut Backwards, Place, &Expr) -> Result<(), All
     Ok(())
 }
 
-/// The operands that have waited, as light addresses do.
+/// The operands that have waited, as light addresses do. The only error is want of memory.
 pub fn filled<F: Fn(&mut Scope, &mut Backwards, Place, &Expr) -> Result<(), AllocError>>(
     below: &Below<'_, F>,
     scope: &mut Scope,

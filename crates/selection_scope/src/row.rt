@@ -57,7 +57,7 @@ impl Regs {
         }
     }
 
-    /// Puts a register after the others.
+    /// Puts a register after the others. The only error is want of memory.
     pub fn push(&mut self, reg: Reg) -> Result<(), AllocError>
         ensures { OnOk result (self.new ≡ self.old ++ reg ∷ []) }
     {
@@ -72,7 +72,7 @@ impl Regs {
         self.items.as_slice()
     }
 
-    /// The registers as the list of an instruction.
+    /// The registers as the list of an instruction. The only error is want of memory.
     pub fn to_seq(&self, alloc: Global) -> Result<Seq<Reg>, AllocError>
         ensures { IfOk result (λ seq. seq ≡ self.now) }
     {

@@ -91,7 +91,7 @@ fn handler_for<'b>(labels: &'b [Target], label: &Label) -> Option<&'b Target>
     None
 }
 
-/// Registers for parameters, with the numbers from this one on.
+/// Registers for parameters, with the numbers from this one on. The only error is want of memory.
 pub fn params_from(alloc: Global, number: u32, params: &[Param]) -> Result<Regs, AllocError>
     requires { number + length params.now < most_numbers }
     ensures { IfOk result (λ regs. regs ≡ params_from number (params_view params.now)) }
@@ -225,7 +225,7 @@ impl Scope {
         }
     }
 
-    /// Binds a name, innermost.
+    /// Binds a name, innermost. The only error is want of memory.
     pub fn bind(&mut self, name: &Name, ty: Ty, mutable: bool, reg: Reg) -> Result<(), AllocError>
         ensures { OnOk result (self.new ≡ record self.old {
           names = record {
@@ -256,6 +256,7 @@ impl Scope {
     }
 
     /// Binds parameters to registers with the numbers from this one on, the last one innermost.
+    /// The only error is want of memory.
     pub fn bind_params(&mut self, params: &[Param], number: u32) -> Result<(), AllocError>
         requires { number + length params.now < most_numbers }
         ensures { OnOk result (self.new ≡ record self.old {
@@ -298,6 +299,7 @@ impl Scope {
     }
 
     /// Makes the labels of handlers visible, the first of which has this number, as the body of their catch sees them.
+    /// The only error is want of memory.
     pub fn enter_body(&mut self, handlers: &[Handler], number: u32) -> Result<(), AllocError>
         requires { number + width_labels (handlers_of handlers.now) < most_numbers }
         ensures { OnOk result (self.new ≡ record self.old {
@@ -309,6 +311,7 @@ impl Scope {
     }
 
     /// The same as the handlers see them: the bare label is not visible.
+    /// The only error is want of memory.
     pub fn enter_handlers(&mut self, handlers: &[Handler], number: u32) -> Result<(), AllocError>
         requires { number + width_labels (handlers_of handlers.now) < most_numbers }
         ensures { OnOk result (self.new ≡ record self.old {
@@ -336,6 +339,7 @@ impl Scope {
     }
 
     /// Enters the body of a try: one try more is between each handler and what is selected.
+    /// The only error is want of memory.
     pub fn enter_try(&mut self) -> Result<(), AllocError>
         requires { most_tries self.old.labels < most_numbers }
         ensures { OnOk result (self.new ≡ record self.old { labels = deeper self.old.labels }) }
@@ -344,7 +348,7 @@ impl Scope {
         put_back(&mut self.labels, inside)
     }
 
-    /// Leaves the body of a try.
+    /// Leaves the body of a try. The only error is want of memory.
     pub fn leave_try(&mut self) -> Result<(), AllocError>
         ensures { OnOk result (self.new ≡ record self.old { labels = higher self.old.labels }) }
     {

@@ -44,6 +44,7 @@ pub fn seat(position: u32, number: u32, comp: Comp) -> Reg
 }
 
 /// The seats of values in these registers, with the numbers from this one on.
+/// The only error is want of memory.
 pub fn seats(alloc: Global, number: u32, regs: &Regs) -> Result<Regs, AllocError>
     requires { number + length regs.now < most_numbers }
     ensures { IfOk result (λ made. made ≡ seats 0 number regs.now) }
@@ -61,7 +62,7 @@ pub fn seats(alloc: Global, number: u32, regs: &Regs) -> Result<Regs, AllocError
     Ok(made)
 }
 
-/// The seat of what a function gives, if it gives anything.
+/// The seat of what a function gives, if it gives anything. The only error is want of memory.
 pub fn result_seat(alloc: Global, number: u32, given: Ret) -> Result<Regs, AllocError>
     ensures { IfOk result (λ made. made ≡ result_seat number given) }
 {
@@ -74,6 +75,7 @@ pub fn result_seat(alloc: Global, number: u32, given: Ret) -> Result<Regs, Alloc
 }
 
 /// The registers of a row of operands, with the numbers from this one on.
+/// The only error is want of memory.
 pub fn regs_of(scope: &Scope, number: u32, exprs: &[Expr]) -> Result<Regs, AllocError>
     requires typed { AreAnnotated (names_in scope.now) exprs.now }
     requires room { number + length exprs.now < most_numbers }
@@ -90,7 +92,7 @@ pub fn regs_of(scope: &Scope, number: u32, exprs: &[Expr]) -> Result<Regs, Alloc
     Ok(made)
 }
 
-/// The components of the arguments of an external call.
+/// The components of the arguments of an external call. The only error is want of memory.
 pub fn comps_of_arguments(scope: &Scope, exprs: &[Expr]) -> Result<Seq<Comp>, AllocError>
     requires { AreAnnotated (names_in scope.now) exprs.now }
     ensures { IfOk result (λ comps. comps ≡ comps_of_arguments (names_in scope.now)
@@ -106,6 +108,7 @@ pub fn comps_of_arguments(scope: &Scope, exprs: &[Expr]) -> Result<Seq<Comp>, Al
 }
 
 /// For each colour a register that is there; their numbers are the first.
+/// The only error is want of memory.
 pub fn colour_regs(alloc: Global) -> Result<Seq<Reg>, AllocError>
     ensures { IfOk result (λ regs. regs ≡ colour_regs 0 colours) }
 {

@@ -67,7 +67,7 @@ fn move_at(
     }
 }
 
-/// The moves of all numbers, by their order.
+/// The moves of all numbers, by their order. The only error is want of memory.
 pub fn choose(
     alloc: Global,
     code: &[Instr],

@@ -155,7 +155,7 @@ fn stale_places(
     Ok(nodes.into_vec())
 }
 
-/// The graph of what is stale.
+/// The graph of what is stale. The only error is want of memory.
 pub fn stale_flow(
     alloc: Global,
     mach: &Mach,
@@ -209,6 +209,7 @@ fn turned_places(alloc: Global, places: Vec<Place>) -> Result<Vec<Place>, AllocE
 }
 
 /// The graph of what is fresh: a place generates what it writes, and kills what lives over it.
+/// The only error is want of memory.
 pub fn fresh_flow(alloc: Global, stale: Flow) -> Result<Flow, AllocError>
     requires { 0 < length (contents stale.places) }
     ensures bound { IfOk result (λ made. made.bound ≡ stale.bound) }

@@ -30,6 +30,7 @@ fn note_reads(mixed: &mut Bits, fresh: &Rows, stale: &Rows, place: usize, regs: 
 }
 
 /// The numbers below `size` that some instruction of the code reads where they are both fresh and stale.
+/// The only error is want of memory.
 pub fn mixed_reads(
     alloc: Global,
     code: &[Instr],

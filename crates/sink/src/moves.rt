@@ -49,7 +49,7 @@ fn push_instr(
     Ok(())
 }
 
-/// The code with its moves.
+/// The code with its moves. The only error is want of memory.
 pub fn move_code(alloc: Global, moves: &[Move], code: Seq<Instr>) -> Result<Seq<Instr>, AllocError>
     ensures { IfOk result (λ made. made ≡ code_at moves.now code code) }
 {

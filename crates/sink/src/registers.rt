@@ -18,6 +18,7 @@ fn enter(table: &mut Vec<Option<Reg>>, regs: &[Reg])
 }
 
 /// The registers that the code reads, by their numbers, which are below `size`.
+/// The only error is want of memory.
 pub fn registers_read(
     alloc: Global,
     code: &[Instr],

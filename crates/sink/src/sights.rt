@@ -54,7 +54,7 @@ fn note(sights: &mut Vec<Sight>, fresh: &Rows, place: usize, numbers: &[u32])
 }
 
 /// For each number, before which places it is fresh and lives over the instruction: those that the graph
-/// of what is fresh kills there.
+/// of what is fresh kills there. The only error is want of memory.
 pub fn sights(alloc: Global, fresh: &Rows, flow: &Flow) -> Result<Vec<Sight>, AllocError>
     requires { WellFormed flow.now }
     ensures { IfOk result (λ made. made.items

@@ -19,6 +19,7 @@ pub struct Solved {
 }
 
 /// Solves both over the flow graph of liveness, which is used up: its lists are those of the new graphs.
+/// The only error is want of memory.
 pub fn solve(alloc: Global, mach: &Mach, live: &LiveMap, flow: Flow) -> Result<Solved, AllocError>
     requires flow { IsFlowOf mach.now flow }
     requires formed { WellFormed flow }

@@ -82,7 +82,7 @@ fn push_instr(
     made.push_all(reloads)
 }
 
-/// The code with its stores and reloads.
+/// The code with its stores and reloads. The only error is want of memory.
 pub fn spill_code(
     alloc: Global,
     tables: &Tables,

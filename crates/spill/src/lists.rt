@@ -4,7 +4,7 @@ ghost use Rattle.std.specs.List.{Contains};
 
 use std::alloc::{AllocError, Global};
 
-/// The numbers of the one and then of the other.
+/// The numbers of the one and then of the other. The only error is want of memory.
 pub fn joined(alloc: Global, one: &[u32], other: &[u32]) -> Result<Vec<u32>, AllocError>
     ensures { IfOk result (λ made. made.items ≡ one.now ++ other.now) }
 {
@@ -14,7 +14,7 @@ pub fn joined(alloc: Global, one: &[u32], other: &[u32]) -> Result<Vec<u32>, All
     Ok(made)
 }
 
-/// The same numbers.
+/// The same numbers. The only error is want of memory.
 pub fn copy_of(alloc: Global, numbers: &[u32]) -> Result<Vec<u32>, AllocError>
     ensures { IfOk result (λ made. made.items ≡ numbers.now) }
 {

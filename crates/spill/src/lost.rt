@@ -109,6 +109,7 @@ fn lost_places(
 
 /// The registers that are lost before each place: those of which some walk leads there from where they
 /// have lived over a call, with no read and no write of them between.
+/// The only error is want of memory.
 pub fn lost(alloc: Global, mach: &Mach, live: &LiveMap, flow: &Flow) -> Result<Rows, AllocError>
     requires flow { IsFlowOf mach.now flow.now }
     requires formed { WellFormed flow.now }

@@ -89,7 +89,7 @@ fn wanted_places(
 }
 
 /// The registers that are wanted before each place: those of which some walk leads from there to where
-/// they are reloaded, with no write of them before.
+/// they are reloaded, with no write of them before. The only error is want of memory.
 pub fn wanted(alloc: Global, mach: &Mach, lost: &Rows, flow: &Flow) -> Result<Rows, AllocError>
     requires flow { IsFlowOf mach.now flow.now }
     requires formed { WellFormed flow.now }

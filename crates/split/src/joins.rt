@@ -83,6 +83,7 @@ fn join_reads(labels: &mut Vec<u32>, writes: &Writes, rows: &Rows, place: usize,
 }
 
 /// A label for each write, the index of the first of those that it is joined with.
+/// The only error is want of memory.
 pub fn webs_of(
     alloc: Global,
     mach: &Mach,

@@ -21,7 +21,7 @@ fn new_number(writes: &Writes, free: u32, number: u32, label: u32) -> u32
     }
 }
 
-/// The number of each write.
+/// The number of each write. The only error is want of memory.
 pub fn names_of(
     alloc: Global,
     writes: &Writes,

@@ -125,6 +125,7 @@ fn nodes_of(
 }
 
 /// Which writes of open registers come to each place of a function, by their indexes.
+/// The only error is want of memory.
 pub fn reach(alloc: Global, mach: &Mach, free: u32, writes: &Writes) -> Result<Rows, AllocError>
     requires fits { suc (length mach.now.code) < 2 ^ 32 }
     requires few { length (writes_of mach.now) < number_limit }

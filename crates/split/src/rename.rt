@@ -61,7 +61,7 @@ fn rename_instr(tables: &Tables, end: u32, left: u32, instr: Instr) -> Instr
     }
 }
 
-/// The code with its new numbers.
+/// The code with its new numbers. The only error is want of memory.
 pub fn rename_code(
     alloc: Global,
     tables: &Tables,

@@ -90,6 +90,7 @@ fn groups_of(alloc: Global, writes: &[Write], free: u32) -> Result<Vec<Group>, A
 
 impl Writes {
     /// The writes of a function, whose registers have numbers below `free`.
+    /// The only error is want of memory.
     pub fn of_function(alloc: Global, mach: &Mach, free: u32) -> Result<Writes, AllocError>
         requires few { length mach.now.code < 2 ^ 32 }
         requires writes { length (writes_of mach.now) < number_limit }

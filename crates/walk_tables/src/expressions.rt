@@ -30,7 +30,7 @@ impl<'a> Cells<'a> {
         Ok(cell)
     }
 
-    /// A raise.
+    /// A raise. The only error is want of memory.
     pub fn raises(&mut self, rest: usize) -> Result<usize, AllocError>
         ensures adds { IfOk result (λ cell. IsReady (cells self.old) rest →
             Adds (cells self.old) (cells self.new) cell (Raises ∷ []) rest) }
@@ -552,7 +552,7 @@ impl<'a> Cells<'a> {
         Ok(cell)
     }
 
-    /// The tasks of an expression.
+    /// The tasks of an expression. The only error is want of memory.
     pub fn form(
         &mut self,
         scope: usize,

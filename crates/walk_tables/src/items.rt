@@ -132,7 +132,7 @@ impl<'a> Cells<'a> {
         self.items.len()
     }
 
-    /// A further cell.
+    /// A further cell. The only error is want of memory.
     pub fn push(&mut self, item: Item<'a>) -> Result<usize, AllocError>
         ensures { IfOk result (λ cell. (cell ≡ length (cells self.old)) ×
             (cells self.new ≡ item.entry ∷ cells self.old)) }

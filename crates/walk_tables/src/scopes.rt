@@ -23,7 +23,7 @@ pub struct Found {
 }
 
 impl<'a> Cells<'a> {
-    /// The scope with one more name.
+    /// The scope with one more name. The only error is want of memory.
     pub fn bind(
         &mut self,
         outer: usize,
@@ -52,6 +52,7 @@ impl<'a> Cells<'a> {
     }
 
     /// The scope with these parameters, in slots from this one on.
+    /// The only error is want of memory.
     pub fn with_slots(
         &mut self,
         scope: usize,

@@ -263,7 +263,7 @@ impl<'a> Cells<'a> {
         Ok(node)
     }
 
-    /// The node of a cell.
+    /// The node of a cell. The only error is want of memory.
     pub fn step(&mut self, alloc: Global, item: Item<'a>) -> Result<Node, AllocError>
         requires sound { IsSound (cells self.old) }
         requires placed { free_in item ≤ length (cells self.old) }

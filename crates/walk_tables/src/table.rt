@@ -55,7 +55,7 @@ impl<'a> Cells<'a> {
     }
 }
 
-/// The table of a function whose nodes hold their types.
+/// The table of a function whose nodes hold their types. The only error is want of memory.
 pub fn make_table(alloc: Global, function: &Function) -> Result<Table, AllocError>
     requires { IsAnnotated (with_parameters (params_view
         (contents function.now.params)) []) function.now.body }

@@ -17,7 +17,7 @@ use cmm_types::{is_address, is_mutable, type_bound};
 use std::alloc::AllocError;
 
 impl<'a> Cells<'a> {
-    /// The event comes.
+    /// The event comes. The only error is want of memory.
     pub fn does(&mut self, action: Action, rest: usize) -> Result<usize, AllocError>
         ensures adds { IfOk result (λ cell. IsReady (cells self.old) rest →
             Adds (cells self.old) (cells self.new) cell (Does (event_of action) ∷ []) rest) }
@@ -28,6 +28,7 @@ impl<'a> Cells<'a> {
     }
 
     /// The expression is evaluated in this scope, with the slots from this one on free.
+    /// The only error is want of memory.
     pub fn eval(
         &mut self,
         scope: usize,
@@ -73,6 +74,7 @@ impl<'a> Cells<'a> {
     }
 
     /// The operation at this place takes so many operands, the first of them in this slot.
+    /// The only error is want of memory.
     pub fn takes(
         &mut self,
         at: u32,
@@ -95,7 +97,7 @@ impl<'a> Cells<'a> {
         Ok(cell)
     }
 
-    /// An operand, unless it is a light address.
+    /// An operand, unless it is a light address. The only error is want of memory.
     pub fn wait_one(
         &mut self,
         scope: usize,
@@ -117,7 +119,7 @@ impl<'a> Cells<'a> {
         Ok(cell)
     }
 
-    /// An operand, if it is a light address.
+    /// An operand, if it is a light address. The only error is want of memory.
     pub fn fill_one(
         &mut self,
         scope: usize,
@@ -139,7 +141,7 @@ impl<'a> Cells<'a> {
         Ok(rest)
     }
 
-    /// The operands that are no light addresses, right to left.
+    /// The operands that are no light addresses, right to left. The only error is want of memory.
     pub fn wait(
         &mut self,
         scope: usize,
@@ -166,7 +168,7 @@ impl<'a> Cells<'a> {
         }
     }
 
-    /// The light addresses, right to left.
+    /// The light addresses, right to left. The only error is want of memory.
     pub fn fill(
         &mut self,
         scope: usize,
@@ -193,7 +195,7 @@ impl<'a> Cells<'a> {
         }
     }
 
-    /// All operands, the first of them in this slot.
+    /// All operands, the first of them in this slot. The only error is want of memory.
     pub fn all_operands(
         &mut self,
         scope: usize,
@@ -214,7 +216,7 @@ impl<'a> Cells<'a> {
         Ok(cell)
     }
 
-    /// One expression after the other.
+    /// One expression after the other. The only error is want of memory.
     pub fn in_order(
         &mut self,
         scope: usize,
@@ -238,7 +240,7 @@ impl<'a> Cells<'a> {
         }
     }
 
-    /// Parameters are bound at their names.
+    /// Parameters are bound at their names. The only error is want of memory.
     pub fn parameters_bound(
         &mut self,
         slot: usize,
@@ -264,6 +266,7 @@ impl<'a> Cells<'a> {
     }
 
     /// The first binding of a let, and the others in its scope; then the body.
+    /// The only error is want of memory.
     pub fn entering(
         &mut self,
         scope: usize,
