@@ -43,7 +43,8 @@ use Rattle.rv_pieces.specs.declared.piece.Piece.TheVariants.{ExternalNumber}
 use Rattle.moving_laws.specs.Stands.{Among}
 use Rattle.linear_machine.specs.Arrival.{ArrivesIn, nothing}
 use Rattle.linear_machine.specs.Follows.{Agrees, IsAfter}
-use Rattle.linear_machine.specs.Outside.{IsAsking, Taken, counted, given, shown, taken_alone, taken_moving}
+use Rattle.linear_machine.specs.Outside.{IsAsking, Taken, counted, shown, taken_alone, taken_moving}
+use Rattle.cmm_meaning.specs.Run.{given_back}
 use Rattle.linear_machine.specs.Relation.{AreCarried, Below, IsDescribed, Laid, Within, all_of}
 use Rattle.linear_machine.specs.View.{Fixed, IsCode, Stands, View}
 use Rattle.linear_machine.proofs.Arriving.{leads_in}
@@ -246,7 +247,7 @@ module _ (s : Fixed) (n : Named) (laid : Laid) (live : List Line → Type 0) (en
               (shows 2 two_small (v.place + k) part whole xs read) a.memory
               (λ t u. IsAfter s laid live c (on_act place m alone next file a (after_external place.setting row.result false a t.doing)) u)
               (λ x answers fits. subst (λ q. IsAfter s laid live c (on_act place m alone next file a
-              (after_external place.setting row.result false a (Gave (given q x) a.memory))) (record {
+              (after_external place.setting row.result false a (Gave (given_back q x) a.memory))) (record {
                 place = w.place + 1;
                 registers = behind is.ext.result x w.registers;
                 memory = w.memory;
@@ -336,7 +337,7 @@ module _ (s : Fixed) (n : Named) (laid : Laid) (live : List Line → Type 0) (en
               (v.place + k) e) described
               saves fit whole none there (record { top = s.base; stack = 0; heap = heap_need a.memory }) refl a.memory P words
               (λ x answers u wu at ten. subst (λ q. IsAfter s laid live c (on_act place m framed next (poisoned (named (length next)) file) a
-              (after_external place.setting row.result true a (Gave (given q x) a.memory))) u) (sym is.result)
+              (after_external place.setting row.result true a (Gave (given_back q x) a.memory))) u) (sym is.result)
               (gave_after s laid live c place m next [] (poisoned (named (length next)) (dropped 5 held)) (poisoned (named
               (length next)) file) same_lost a none whole
               dead row true args row.result results typed seated x a.memory u wu (next_place ∙ sym at) (λ q f. ten q (is.result ∙ f))))

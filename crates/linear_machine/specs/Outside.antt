@@ -9,6 +9,7 @@ use Rattle.bs_words.specs.declared.values.Obs.{Obs}
 use Rattle.bs_words.specs.declared.values.Obs.TheVariants as obs
 use Rattle.bs_words.specs.declared.values.Value.{Value}
 use Rattle.bs_words.specs.declared.values.Value.TheVariants.{Word, Block, Function}
+use Rattle.cmm_meaning.specs.Run.{given_back}
 use Rattle.cmm_meaning.specs.State.{Doing, Gave, Threw}
 use Rattle.guarded_machine.specs.Guarded.{guarded_after}
 use Rattle.image_form.specs.Tables.{Tables, Ext}
@@ -26,10 +27,6 @@ pub record Taken : Type 0 where
   pub doing : Doing
   pub answers : List ℕ
 
-abbrev pub given : Ret → ℕ → Option Value
-given ret.Unit x = None
-given (ret.Comp t) x = Some (Word x)
-
 abbrev pub taken_alone : Memory → Ret → List ℕ → Option Taken
 taken_alone memory ret.Unit answers = Some (record { doing = Gave None memory; answers = answers })
 taken_alone memory (ret.Comp t) [] = None
@@ -40,7 +37,7 @@ abbrev pub taken_moving : Memory → Ret → List ℕ → Option Taken
 taken_moving memory result [] = None
 taken_moving memory result (first ∷ []) = None
 taken_moving memory result (zero ∷ x ∷ answers) =
-    Some (record { doing = Gave (given result x) memory; answers = answers })
+    Some (record { doing = Gave (given_back result x) memory; answers = answers })
 taken_moving memory result (suc n ∷ x ∷ answers) =
     Some (record { doing = Threw (Word x) memory; answers = answers })
 
