@@ -11,10 +11,10 @@ use Rattle.bs_words.specs.declared.values.Value.{Value}
 use Rattle.cmm_meaning.specs.State.{Gave, Outside}
 use Rattle.emit_rules.specs.Calls.{external_words}
 use Rattle.emit_rules.specs.Constants.{constant}
-use Rattle.emit_rules.specs.Instructions.{ecall}
+use Rattle.emit_rules.specs.Instructions.{ecall, low_12}
 use Rattle.image_form.specs.Image.{IsArgument, IsExt}
 use Rattle.layout_rules.specs.Laid.{address_of_place, desc_at}
-use Rattle.layout_rules.specs.Words.{Named, lower, upper}
+use Rattle.layout_rules.specs.Words.{Named, upper}
 use Rattle.layout_rules.proofs.Offsets.{number_lands}
 use Rattle.lin_ir.specs.Formed.{comps, places_of, spare}
 use Rattle.lin_ir.specs.Meaning.{Locations, NamedAt, after_label, are_vals, is_named, on_act, on_values, poisoned, step, unless_misnamed, values}
@@ -95,14 +95,14 @@ module _ (s : Fixed) (n : Named) (v : View) (are : AreRegisters v.registers) (ro
       (omega arith) (sext_word-below _ 32) in
       let u = one.changes.view in
       let here = arrived s v (v.place + 1) (5 ∷ []) v.memory _ one in
-      let sum : add_word (slice_index u.registers 5) (imm_i (lower number)) ≡ number =
-      ap (λ x. add_word x (imm_i (lower number))) one.changes.holds ∙ number_lands number (omega (arith, few)) in
+      let sum : add_word (slice_index u.registers 5) (imm_i (low_12 number)) ≡ number =
+      ap (λ x. add_word x (imm_i (low_12 number))) one.changes.holds ∙ number_lands number (omega (arith, few)) in
       let two = reaches_as s v (v.place + 1 + 1) (5 ∷ []) (5 ∷ 7 ∷ []) v.memory _ (λ w. slice_index w.registers 5 ≡ number)
       (λ q i. ⊎_elim (λ h. inl h) (λ z. absurd z) i) (λ w m p h. h.0)
       (reaches_more s v (v.place + 1) (v.place + 1 + 1) (5 ∷ []) (5 ∷ []) v.memory _ _ one (λ q i. i)
-      (reaches_set s u (v.place + 1 + 1) (OpImm Addi 5 5 (lower number)) 4 number
-      (subst (λ p. IsCode s p (OpImm Addi 5 5 (lower number))) (sym here) open'.code.1.0) (omega (arith, here)) (inl (λ q. omega (arith, q)))
-      (sets_as s u (OpImm Addi 5 5 (lower number)) 5 _ _ sum (sets_imm s u Addi 5 5 (lower number))) one.changes.past.are (omega arith) (omega
+      (reaches_set s u (v.place + 1 + 1) (OpImm Addi 5 5 (low_12 number)) 4 number
+      (subst (λ p. IsCode s p (OpImm Addi 5 5 (low_12 number))) (sym here) open'.code.1.0) (omega (arith, here)) (inl (λ q. omega (arith, q)))
+      (sets_as s u (OpImm Addi 5 5 (low_12 number)) 5 _ _ sum (sets_imm s u Addi 5 5 (low_12 number))) one.changes.past.are (omega arith) (omega
       (arith, few)))) in
       let z = two.changes.view in
       let at = arrived s v (v.place + 1 + 1) (5 ∷ 7 ∷ []) v.memory _ two in
