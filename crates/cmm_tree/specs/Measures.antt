@@ -77,6 +77,11 @@ own_values (Try at body name_at name handler) = 2
 own_values (Nothing at) = 0
 own_values _ = 1
 
+-- the number of indexes of a switch
+abbrev pub own_indexes : Expression → ℕ
+own_indexes (Switch at size_at size selector cases) = size
+own_indexes _ = 0
+
 -- the nodes of an expression, the tries among them, and the values and names in it
 abbrev pub nodes_in : Expression → ℕ
 nodes_in e = total counts_one e
