@@ -1,7 +1,7 @@
 -- How many numbers of registers and labels an expression may take, so that no sum of them passes 32 bits.
 use Rattle.std.specs.Prelude.{ℕ, ◌+◌, ◌<◌, max, List, [], ◌∷◌}
 use Rattle.cmm_tree.specs.Measures.{total, row_total, bindings_total, cases_total, handlers_total, own_indexes}
-use Rattle.cmm_tree.specs.Tree.{FunctionTree, Expression, Switch, Expressions, Bindings, Cases, Handlers}
+use Rattle.cmm_tree.specs.Tree.{FunctionTree, Expression, Expressions, Bindings, Cases, Handlers}
 use Rattle.selection_rules.specs.Select.{Label, selected, width}
 
 -- The numbers of a function are fewer, and with them the tries round a node and the indexes of its

@@ -4,7 +4,7 @@ use Rattle.bs_words.specs.declared.types.Comp.TheVariants as comp
 use Rattle.bs_words.specs.declared.types.Ret.{Ret}
 use Rattle.bs_words.specs.declared.types.Ret.TheVariants as ret
 use Rattle.bs_words.specs.declared.types.Ty.TheVariants as ty
-use Rattle.cmm_tree.specs.Measures.{row_total, bindings_total, cases_total, handlers_total, counts_one, nodes_in, own_indexes}
+use Rattle.cmm_tree.specs.Measures.{row_total, bindings_total, cases_total, handlers_total, counts_one, nodes_in, own_indexes, count_of}
 use Rattle.cmm_tree.specs.Tree.{FunctionTree, LabelTree, same_label, is_bare, Expression, Integer, Pointer, Symbol, Name, Nothing, Float, Let, Assign, Operator, Load, Store, Alloc, App, Extcall, Checkbound, Raise, Seq, If, Switch, Catch, Exit, Try, Expressions, NoMore, More, Bindings, NoBinding, Bind, Cases, NoCase, Choose, Handlers, NoHandler, Handle}
 use Rattle.cmm_types.specs.Light.{is_light_address}
 use Rattle.cmm_types.specs.Types.{result_of, body_type, type_of}
@@ -14,7 +14,7 @@ use Rattle.mach_ir.specs.Sizes.{operand_count}
 use Rattle.mach_ir.specs.declared.mach.Test.TheVariants as test
 use Rattle.mach_ir.specs.declared.reg.Reg.{Reg}
 use Rattle.selection_rules.specs.Instructions as emit
-use Rattle.selection_rules.specs.Select.{Code, shape_of, shape_op, shape_right, Named, Label, scopes, reg_of, label_of, moves_all, exit_to, symbol_of, right_of, bound_test, comparison, is_based, seat, select_base, select_test, count_of, regs_of, select, select_waiting, select_filled, select_bound, select_seq, select_cases, select_handlers, deeper, labels_from, in_handlers, unless_bare, switch_labels, returns, selected, first, is_no_value, fresh, seats}
+use Rattle.selection_rules.specs.Select.{Code, shape_of, shape_op, shape_right, Named, Label, scopes, reg_of, label_of, moves_all, exit_to, symbol_of, right_of, bound_test, comparison, is_based, seat, select_base, select_test, regs_of, select, select_waiting, select_filled, select_bound, select_seq, select_cases, select_handlers, deeper, labels_from, in_handlers, unless_bare, switch_labels, returns, selected, first, is_no_value, fresh, seats}
 use Rattle.selection_rules.proofs.Rows.{regs_length, seats_length}
 use Rattle.selection_rules.proofs.Exits.{params_length}
 use Rattle.selection_places.proofs.Whole.{moved_at, value_at, params_of, env_of}

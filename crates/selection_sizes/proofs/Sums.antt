@@ -1,10 +1,9 @@
 -- What an expression may weigh, and what a row of operands may, in two parts.
 use Rattle.std.proofs.Common.{◌≡◌, ℕ, ◌+◌, ◌-◌, ◌*◌, ◌≤◌, arith}
-use Rattle.cmm_tree.specs.Measures.{total, row_total, counts_one, nodes_in, own_indexes}
+use Rattle.cmm_tree.specs.Measures.{total, row_total, counts_one, nodes_in, own_indexes, count_of}
 use Rattle.cmm_tree.specs.Tree.{Expression, Integer, Pointer, Symbol, Name, Nothing, Float, Let, Assign, Operator, Load, Store, Alloc, App, Extcall, Checkbound, Raise, Seq, If, Switch, Catch, Exit, Try, Expressions, NoMore, More}
 use Rattle.correctness.specs.Measures.{is_frame_point}
 use Rattle.selection_places.proofs.Adds.{sum_of, sum_total}
-use Rattle.selection_rules.specs.Select.{count_of}
 
 -- a hundred words of it are left for what puts it to use
 abbrev pub most : Expression → ℕ
