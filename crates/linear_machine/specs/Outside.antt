@@ -11,6 +11,7 @@ use Rattle.bs_words.specs.declared.values.Value.{Value}
 use Rattle.bs_words.specs.declared.values.Value.TheVariants.{Word, Block, Function}
 use Rattle.cmm_meaning.specs.Run.{given_back}
 use Rattle.cmm_meaning.specs.State.{Doing, Gave, Threw}
+use Rattle.emit_rules.specs.Calls.{external_service}
 use Rattle.guarded_machine.specs.Guarded.{guarded_after}
 use Rattle.image_form.specs.Tables.{Tables, Ext}
 use Rattle.rv_isa.specs.declared.instr.Instr.TheVariants.{Ecall}
@@ -48,9 +49,6 @@ taken_of frame memory result answers =
 
 -- ---- the call
 
-abbrev pub service_of : Bool → ℕ
-service_of frame = cond frame 4 2
-
 -- what is observed of an argument
 abbrev pub shown : Tables → Value → Obs
 shown image (Word w) = obs.Word w
@@ -84,7 +82,7 @@ pub record IsAsking (s : Fixed) (needs : Needs) (row : External) (frame : Bool)
     pub params : ext.params ≡ row.params
     pub result : ext.result ≡ row.result
     pub code : IsCode s w.place Ecall
-    pub service : slice_index w.registers t2 ≡ service_of frame
+    pub service : slice_index w.registers t2 ≡ external_service frame
     pub made : (a : Machine) → Stands s a w → call_made ext a.hart ≡ counted s row arguments
     pub goes : (a : Machine) (t : Taken) → Stands s a w → AllWords w.answers →
         taken_of frame memory row.result w.answers ≡ Some t →
