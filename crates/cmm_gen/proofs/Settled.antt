@@ -9,7 +9,8 @@ use Rattle.cmm_types.specs.Light.{is_light_address}
 use Rattle.cmm_types.specs.Types.{Scoped, unless_float, type_of, is_address}
 use Rattle.cmm_types.proofs.Containing.{contains_none, contains_cases}
 use Rattle.walk_tables.specs.Walks
-use Rattle.walk_tables.specs.Walks.{Event, Binds, Uses, Passes, Slotted, names, slot_of, Task, Does, Evaluates, Enters, OneOf, MayRaise, Raises, Handles, operand, takes, count, waiting, filled, all_operands, used_at, tasks_of, entering, handling, behind_raise, Walk, walk_tasks}
+use Rattle.walk_tables.specs.Walks.{Event, Binds, Uses, Passes, Slotted, names, slot_of, Task, Does, Evaluates, Enters, OneOf, MayRaise, Raises, Handles, operand, takes, waiting, filled, all_operands, used_at, tasks_of, entering, handling, behind_raise, Walk, walk_tasks}
+use Rattle.cmm_tree.specs.Measures.{count_of}
 use Rattle.walk_tables.specs.AddrLive.{IsLive}
 use Rattle.cmm_gen.specs.Drawn.{Drawn, DrawnFunction}
 use Rattle.cmm_gen.proofs.Trees
@@ -103,7 +104,7 @@ are_filled scope free slot (More e rest) (AreSettled.more _ _ _ p word ps) =
 
 are_operands : (scope : List Slotted) (slot : ℕ) (es : Expressions) → AreSettled (names scope) es → AreTasks (all_operands scope slot es)
 are_operands scope slot es p =
-    joined _ _ (are_waiting scope (slot + count es) slot es p) (are_filled scope (slot + count es) slot es p)
+    joined _ _ (are_waiting scope (slot + count_of es) slot es p) (are_filled scope (slot + count_of es) slot es p)
 
 are_used : (at : ℕ) (o : Option ℕ) → AreTasks (used_at at o)
 are_used at None = none
@@ -131,13 +132,13 @@ are_tasks scope slot _ (operator _ at op left right p) =
 are_tasks scope slot _ (load _ at chunk address p) = joined _ _ (are_operands scope slot (More address NoMore) p) (taken at slot 1)
 are_tasks scope slot _ (alloc _ at header_at header operands p) =
     joined _ _
-    (are_waiting scope (slot + count operands) slot operands p)
+    (are_waiting scope (slot + count_of operands) slot operands p)
     (more _ _ (does _ (passes at))
-    (joined _ _ (are_filled scope (slot + count operands) slot operands p) (taken at slot (count operands))))
+    (joined _ _ (are_filled scope (slot + count_of operands) slot operands p) (taken at slot (count_of operands))))
 are_tasks scope slot _ (app _ at callee arguments result result_at p) =
     joined _ _
     (are_operands scope slot (More callee arguments) p)
-    (joined _ _ (taken at slot (suc (count arguments))) (more _ _ (does _ (passes at)) (one _ may_raise)))
+    (joined _ _ (taken at slot (suc (count_of arguments))) (more _ _ (does _ (passes at)) (one _ may_raise)))
 are_tasks scope slot _ (raise _ at value p) =
     joined _ _ (joined _ _ (are_operands scope slot (More value NoMore) p) (taken at slot 1)) (one _ raises)
 are_tasks scope slot _ (branch _ at test on_true on_false p q r) =

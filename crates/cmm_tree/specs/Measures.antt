@@ -1,5 +1,5 @@
 -- Measures of an expression, by recursion.
-use Rattle.std.specs.Prelude.{ℕ, ◌+◌, ◌^◌, ◌<◌, List, [], ◌∷◌, length, Option, Some, None}
+use Rattle.std.specs.Prelude.{ℕ, suc, ◌+◌, ◌^◌, ◌<◌, List, [], ◌∷◌, length, Option, Some, None}
 use Rattle.cmm_tree.specs.Tree.{Expression, Integer, Pointer, Symbol, Name, Nothing, Float, Let, Assign, Operator, Load, Store, Alloc, App, Extcall, Checkbound, Raise, Seq, If, Switch, Catch, Exit, Try, Expressions, NoMore, More, Bindings, NoBinding, Bind, Cases, NoCase, Choose, Handlers, NoHandler, Handle, Index, DatumTree, Byte, Half, Int, Val, Skip, Align, DataItemTree, DataListTree}
 
 -- the sum over the nodes of an expression of what each counts for
@@ -58,6 +58,11 @@ is_try _ = 0
 
 -- ---- values and names
 
+-- the number of expressions in a row
+abbrev pub count_of : Expressions → ℕ
+count_of NoMore = 0
+count_of (More e rest) = suc (count_of rest)
+
 abbrev pub names_in : Bindings → ℕ
 names_in NoBinding = 0
 names_in (Bind at name declared value rest) = 1 + names_in rest
@@ -76,6 +81,11 @@ own_values (Catch at body handlers) = 1 + params_in handlers
 own_values (Try at body name_at name handler) = 2
 own_values (Nothing at) = 0
 own_values _ = 1
+
+-- the number of indexes of a switch
+abbrev pub own_indexes : Expression → ℕ
+own_indexes (Switch at size_at size selector cases) = size
+own_indexes _ = 0
 
 -- the nodes of an expression, the tries among them, and the values and names in it
 abbrev pub nodes_in : Expression → ℕ

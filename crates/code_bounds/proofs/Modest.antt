@@ -4,9 +4,9 @@ use Rattle.std.proofs.lemmas.Bool.{leb-true, and_parts}
 use Rattle.bs_fault.specs.Limits.{most_indexes}
 use Rattle.bs_fault.specs.Reported.{Faultless}
 use Rattle.cmm_limits.specs.Limits.{faults_in, row_faults, binding_faults, case_faults, handler_faults, size_faults}
-use Rattle.cmm_tree.specs.Measures.{total, row_total, bindings_total, cases_total, handlers_total, counts_one}
+use Rattle.cmm_tree.specs.Measures.{total, row_total, bindings_total, cases_total, handlers_total, counts_one, own_indexes}
 use Rattle.cmm_tree.specs.Tree.{Expression, Integer, Pointer, Symbol, Name, Nothing, Float, Let, Assign, Operator, Load, Store, Alloc, App, Extcall, Checkbound, Raise, Seq, If, Switch, Catch, Exit, Try, Expressions, NoMore, More, Bindings, NoBinding, Bind, Cases, NoCase, Choose, Handlers, NoHandler, Handle}
-use Rattle.correctness.specs.Measures.{is_frame_point, indexes_of}
+use Rattle.correctness.specs.Measures.{is_frame_point}
 use Rattle.selection_laws.proofs.Accepting.{left, right, holds_if}
 
 -- ---- frame points
@@ -61,7 +61,7 @@ size_few at size none =
     leb-true size 4096 both.1
 
 mutual
-  pub few_indexes : (e : Expression) → Faultless (faults_in e) → total indexes_of e ≤ 4096 * total counts_one e
+  pub few_indexes : (e : Expression) → Faultless (faults_in e) → total own_indexes e ≤ 4096 * total counts_one e
   few_indexes (Integer at word) none = omega arith
   few_indexes (Pointer at word) none = omega arith
   few_indexes (Symbol at name) none = omega arith
@@ -88,18 +88,18 @@ mutual
   few_indexes (Exit at label_at label arguments) none = omega (arith, row_indexes arguments none)
   few_indexes (Try at body name_at name handler) none = omega (arith, few_indexes body (left none), few_indexes handler (right none))
 
-  row_indexes : (es : Expressions) → Faultless (row_faults es) → row_total indexes_of es ≤ 4096 * row_total counts_one es
+  row_indexes : (es : Expressions) → Faultless (row_faults es) → row_total own_indexes es ≤ 4096 * row_total counts_one es
   row_indexes NoMore none = omega arith
   row_indexes (More e rest) none = omega (arith, few_indexes e (left none), row_indexes rest (right none))
 
-  bound_indexes : (bs : Bindings) → Faultless (binding_faults bs) → bindings_total indexes_of bs ≤ 4096 * bindings_total counts_one bs
+  bound_indexes : (bs : Bindings) → Faultless (binding_faults bs) → bindings_total own_indexes bs ≤ 4096 * bindings_total counts_one bs
   bound_indexes NoBinding none = omega arith
   bound_indexes (Bind at name declared value rest) none = omega (arith, few_indexes value (left none), bound_indexes rest (right none))
 
-  case_indexes : (size : ℕ) (cs : Cases) → Faultless (case_faults size cs) → cases_total indexes_of cs ≤ 4096 * cases_total counts_one cs
+  case_indexes : (size : ℕ) (cs : Cases) → Faultless (case_faults size cs) → cases_total own_indexes cs ≤ 4096 * cases_total counts_one cs
   case_indexes size NoCase none = omega arith
   case_indexes size (Choose indexes body rest) none = omega (arith, few_indexes body (left (right none)), case_indexes size rest (right (right none)))
 
-  handler_indexes : (hs : Handlers) → Faultless (handler_faults hs) → handlers_total indexes_of hs ≤ 4096 * handlers_total counts_one hs
+  handler_indexes : (hs : Handlers) → Faultless (handler_faults hs) → handlers_total own_indexes hs ≤ 4096 * handlers_total counts_one hs
   handler_indexes NoHandler none = omega arith
   handler_indexes (Handle at label params body rest) none = omega (arith, few_indexes body (left none), handler_indexes rest (right none))

@@ -1,6 +1,6 @@
 -- Measures of a text, by which an image is bounded.
 use Rattle.std.specs.Prelude.{ℕ, ◌+◌, max, true}
-use Rattle.cmm_tree.specs.Measures.{total}
+use Rattle.cmm_tree.specs.Measures.{total, own_indexes}
 use Rattle.cmm_tree.specs.Tree.{Expression, Integer, Pointer, Symbol, Name, Nothing, Float, Let, Assign, Operator, Load, Store, Alloc, App, Extcall, Checkbound, Raise, Seq, If, Switch, Catch, Exit, Try, Expressions, NoMore, More, Bindings, NoBinding, Bind, Cases, NoCase, Choose, Handlers, NoHandler, Handle, FunctionTree}
 
 -- a frame point is an application, an allocation or a frame call
@@ -10,17 +10,12 @@ is_frame_point (Alloc at header_at header operands) = 1
 is_frame_point (Extcall at true name arguments result result_at) = 1
 is_frame_point _ = 0
 
--- the number of indexes of a switch
-abbrev pub indexes_of : Expression → ℕ
-indexes_of (Switch at size_at size selector cases) = size
-indexes_of _ = 0
-
 -- the frame points of a function's body, and the sizes of its switches
 abbrev pub frame_points : FunctionTree → ℕ
 frame_points f = total is_frame_point f.body
 
 abbrev pub switch_indexes : FunctionTree → ℕ
-switch_indexes f = total indexes_of f.body
+switch_indexes f = total own_indexes f.body
 
 -- the most tries that are around one point of an expression
 abbrev mutual

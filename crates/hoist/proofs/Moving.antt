@@ -24,12 +24,12 @@ use Rattle.hoist_rules.specs.Hoisted.{makes, FitsAlways, an_int, an_odd_val, May
 use Rattle.hoist_rules.specs.Chosen.{IsLoopRound, IsWide, IsMoved}
 use Rattle.mach_laws.proofs.Places.{shorter, results_in}
 use Rattle.mach_laws.proofs.Among.{split_among, left_among}
-use Rattle.hoist.specs.Constants.{is_wide, fits_always, constant_of, can_hold, are_none, holds_wide, makes_wide}
+use Rattle.hoist.specs.Constants.{is_wide, fits_always, constant_of, can_hold, holds_wide, makes_wide}
 use Rattle.hoist.specs.Loops.{exit_of, EndsFrom, IsFirstCall, IsCalmWide}
 use Rattle.hoist.specs.Written.{noted, times, is_once}
 use Rattle.hoist.proofs.Reaching.{same_item}
 use Rattle.hoist.proofs.Once.{open_stays, no_param, only_here, times_once}
-use Rattle.mach_ir.specs.Places.{is_open}
+use Rattle.mach_ir.specs.Places.{is_open, are_none}
 
 -- ---- places
 

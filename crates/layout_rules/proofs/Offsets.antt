@@ -4,7 +4,8 @@ use Rattle.std.proofs.lemmas.Bool.{cases_lt}
 use Rattle.bs_words.specs.Word.{add_word}
 use Rattle.bs_words.proofs.Word.{sext-high, sext-low}
 use Rattle.correctness.proofs.Known.{by_12, by_20, Extended}
-use Rattle.layout_rules.specs.Words.{distance, branch_offset, jal_offset, upper, lower}
+use Rattle.layout_rules.specs.Words.{distance, branch_offset, jal_offset, upper}
+use Rattle.emit_rules.specs.Instructions.{low_12}
 use Rattle.rv_machine.specs.Arithmetic.{imm_i, imm_b, imm_j, imm_u}
 
 low_13 : (x : ℕ) → x < 4096 → imm_b x ≡ x
@@ -102,12 +103,12 @@ parts_by n high low x y h eh el bx by' = ⊎_elim
     upper_half (inr a) (inr b) l = let a0 = a.0 in let a1 = a.1 in let b0 = b.0 in let b1 = b.1 in omega arith
 
 pub parts : (n : ℕ) → n < 2 ^ 32 →
-    ((n < 2 ^ 31 - 2048) × ((imm_u (upper n) + imm_i (lower n)) % 2 ^ 64 ≡ n)) ⊎ ((2 ^ 31 - 2048 ≤ n) × ((imm_u (upper n) + imm_i (lower n)) % 2 ^ 64 ≡ n + (2 ^ 64 - 2 ^ 32)))
-parts n h = parts_by n (upper n) (lower n) (imm_u (upper n)) (imm_i (lower n)) h refl refl (by_20 (upper n) (omega arith)) (by_12 (lower n) (omega arith))
+    ((n < 2 ^ 31 - 2048) × ((imm_u (upper n) + imm_i (low_12 n)) % 2 ^ 64 ≡ n)) ⊎ ((2 ^ 31 - 2048 ≤ n) × ((imm_u (upper n) + imm_i (low_12 n)) % 2 ^ 64 ≡ n + (2 ^ 64 - 2 ^ 32)))
+parts n h = parts_by n (upper n) (low_12 n) (imm_u (upper n)) (imm_i (low_12 n)) h refl refl (by_20 (upper n) (omega arith)) (by_12 (low_12 n) (omega arith))
 
 -- A number comes into a register by its two parts.
-pub number_lands : (n : ℕ) → n < 2 ^ 31 - 2048 → add_word (imm_u (upper n)) (imm_i (lower n)) ≡ n
-number_lands n h = sum_of_two (imm_u (upper n)) (imm_i (lower n)) n (⊎_elim (λ a. a.1) (λ a. absurd (omega (arith, h, a.0))) (parts n (omega (arith, h))))
+pub number_lands : (n : ℕ) → n < 2 ^ 31 - 2048 → add_word (imm_u (upper n)) (imm_i (low_12 n)) ≡ n
+number_lands n h = sum_of_two (imm_u (upper n)) (imm_i (low_12 n)) n (⊎_elim (λ a. a.1) (λ a. absurd (omega (arith, h, a.0))) (parts n (omega (arith, h))))
 
 far_by : (from to d x y : ℕ) → from < 2 ^ 30 → to < 2 ^ 30 →
     (((from ≤ to) × (d + from ≡ to)) ⊎ ((to < from) × (d + from ≡ to + 2 ^ 32))) →
@@ -120,8 +121,8 @@ far_by from to d x y f t (inr a) (inr b) = let a0 = a.0 in let a1 = a.1 in let b
 
 -- An auipc and what adds the lower part come to any address of the code and the data from any other.
 pub far_lands : (from to : ℕ) → from < 2 ^ 30 → to < 2 ^ 30 →
-    add_word (add_word from (imm_u (upper (distance from to)))) (imm_i (lower (distance from to))) ≡ to
+    add_word (add_word from (imm_u (upper (distance from to)))) (imm_i (low_12 (distance from to))) ≡ to
 far_lands from to f t =
     let d = distance from to in
-    sum_of_three from (imm_u (upper d)) (imm_i (lower d)) to
-    (far_by from to d (imm_u (upper d)) (imm_i (lower d)) f t (far_apart from to (omega (arith, f)) (omega (arith, t))) (parts d (omega arith)))
+    sum_of_three from (imm_u (upper d)) (imm_i (low_12 d)) to
+    (far_by from to d (imm_u (upper d)) (imm_i (low_12 d)) f t (far_apart from to (omega (arith, f)) (omega (arith, t))) (parts d (omega arith)))

@@ -1,6 +1,7 @@
 -- The instructions of pieces, once it is known where everything lies.
 use Rattle.std.specs.Prelude.{ℕ, ◌+◌, ◌-◌, ◌*◌, ◌/◌, ◌%◌, ◌^◌, List, [], ◌∷◌, ◌++◌, map}
 use Rattle.bs_words.specs.External.{External}
+use Rattle.emit_rules.specs.Instructions.{low_12}
 use Rattle.layout_rules.specs.declared.form.Form.{Form}
 use Rattle.layout_rules.specs.declared.form.Form.TheVariants.{Near, Middle, Far}
 use Rattle.layout_rules.specs.Forms.{words_of}
@@ -43,9 +44,6 @@ jal_offset from to = distance from to % 2 ^ 21
 abbrev pub upper : ℕ → ℕ
 upper n = (n + 2048) / 4096 % 2 ^ 20
 
-abbrev pub lower : ℕ → ℕ
-lower n = n % 4096
-
 -- ---- instructions
 
 abbrev pub inverted : Condition → Condition
@@ -60,11 +58,11 @@ inverted Bgeu = Bltu
 abbrev pub far_jump : (link through from to : ℕ) → List Instr
 far_jump link through from to =
     instr.Auipc through (upper (distance from to))
-    ∷ instr.Jalr link through (lower (distance from to)) ∷ []
+    ∷ instr.Jalr link through (low_12 (distance from to)) ∷ []
 
 -- a number below 2 ^ 31 into a register
 abbrev pub number_into : (rd n : ℕ) → List Instr
-number_into rd n = instr.Lui rd (upper n) ∷ instr.OpImm Addi rd rd (lower n) ∷ []
+number_into rd n = instr.Lui rd (upper n) ∷ instr.OpImm Addi rd rd (low_12 n) ∷ []
 
 -- A branch at an address. The far forms use t1 once the inverted branch has read its operands.
 abbrev pub branch_code : Form → Condition → (left right : Register) → (at to : ℕ) → List Instr
@@ -98,7 +96,7 @@ target_of n (Descriptor d) = 0
 abbrev pub address_into : (rd at to : ℕ) → List Instr
 address_into rd at to =
     instr.Auipc rd (upper (distance at to))
-    ∷ instr.OpImm Addi rd rd (lower (distance at to)) ∷ []
+    ∷ instr.OpImm Addi rd rd (low_12 (distance at to)) ∷ []
 
 -- the instructions of a piece that is at an address, where its name stands for `to`
 abbrev pub code_to : (at to : ℕ) → Piece → Form → List Instr

@@ -2,7 +2,8 @@
 use Rattle.std.proofs.Common.{◌≡◌, ℕ, ◌+◌, ◌*◌, ◌^◌, ◌<◌, inl, List, [], ◌∷◌, slice_index, slice_set, ap, arith, ◌∙◌, subst, set-set, get_or-set_same}
 use Rattle.bs_words.specs.Word.{add_word}
 use Rattle.layout_rules.specs.Laid.{address_of_place}
-use Rattle.layout_rules.specs.Words.{Named, distance, lower, upper}
+use Rattle.layout_rules.specs.Words.{Named, distance, upper}
+use Rattle.emit_rules.specs.Instructions.{low_12}
 use Rattle.layout_rules.proofs.Offsets.{far_lands}
 use Rattle.rv_isa.specs.declared.instr.Instr.TheVariants.{Auipc, Jalr}
 use Rattle.rv_machine.specs.Arithmetic.{imm_i, imm_u}
@@ -30,7 +31,7 @@ module _ (s : Fixed) (n : Named) (v : View) (are : AreRegisters v.registers) (na
   apart = distance (address_of_place v.place) (n.symbol name)
 
   code : HasCode s v.place (Auipc 1 (upper (distance (address_of_place v.place) (n.symbol name)))
-      ∷ Jalr 1 1 (lower (distance (address_of_place v.place) (n.symbol name))) ∷ []) × (to ≡ v.place + 2)
+      ∷ Jalr 1 1 (low_12 (distance (address_of_place v.place) (n.symbol name))) ∷ []) × (to ≡ v.place + 2)
   code = let b = begins s n v.place to (Call name) [] st in (b.code, nothing_more s n (v.place + 2) to b.rest)
 
   abbrev half : ℕ
@@ -54,8 +55,8 @@ module _ (s : Fixed) (n : Named) (v : View) (are : AreRegisters v.registers) (na
   })
   second =
       let near = place_near s v.place _ code.0.0 in
-      call_leads s (set_in 1 half v) 1 (lower apart) dest code.0.1.0
-      (ap (λ x. add_word x (imm_i (lower apart))) in_ra ∙ far_lands (address_of_place v.place) (n.symbol name) (omega (arith, near)) (omega
+      call_leads s (set_in 1 half v) 1 (low_12 apart) dest code.0.1.0
+      (ap (λ x. add_word x (imm_i (low_12 apart))) in_ra ∙ far_lands (address_of_place v.place) (n.symbol name) (omega (arith, near)) (omega
       (arith, address, low))
       ∙ address)
 

@@ -11,10 +11,10 @@ use Rattle.bs_words.specs.declared.values.Value.{Value}
 use Rattle.cmm_meaning.specs.State.{Gave, Outside}
 use Rattle.emit_rules.specs.Calls.{external_words}
 use Rattle.emit_rules.specs.Constants.{constant}
-use Rattle.emit_rules.specs.Instructions.{ecall}
+use Rattle.emit_rules.specs.Instructions.{ecall, low_12}
 use Rattle.image_form.specs.Image.{IsArgument, IsExt}
 use Rattle.layout_rules.specs.Laid.{address_of_place, desc_at}
-use Rattle.layout_rules.specs.Words.{Named, lower, upper}
+use Rattle.layout_rules.specs.Words.{Named, upper}
 use Rattle.layout_rules.proofs.Offsets.{number_lands}
 use Rattle.lin_ir.specs.Formed.{comps, places_of, spare}
 use Rattle.lin_ir.specs.Meaning.{Locations, NamedAt, after_label, are_vals, is_named, on_act, on_values, poisoned, step, unless_misnamed, values}
@@ -43,7 +43,8 @@ use Rattle.rv_pieces.specs.declared.piece.Piece.TheVariants.{ExternalNumber}
 use Rattle.moving_laws.specs.Stands.{Among}
 use Rattle.linear_machine.specs.Arrival.{ArrivesIn, nothing}
 use Rattle.linear_machine.specs.Follows.{Agrees, IsAfter}
-use Rattle.linear_machine.specs.Outside.{IsAsking, Taken, counted, given, shown, taken_alone, taken_moving}
+use Rattle.linear_machine.specs.Outside.{IsAsking, Taken, counted, shown, taken_alone, taken_moving}
+use Rattle.cmm_meaning.specs.Run.{given_back}
 use Rattle.linear_machine.specs.Relation.{AreCarried, Below, IsDescribed, Laid, Within, all_of}
 use Rattle.linear_machine.specs.View.{Fixed, IsCode, Stands, View}
 use Rattle.linear_machine.proofs.Arriving.{leads_in}
@@ -94,14 +95,14 @@ module _ (s : Fixed) (n : Named) (v : View) (are : AreRegisters v.registers) (ro
       (omega arith) (sext_word-below _ 32) in
       let u = one.changes.view in
       let here = arrived s v (v.place + 1) (5 ∷ []) v.memory _ one in
-      let sum : add_word (slice_index u.registers 5) (imm_i (lower number)) ≡ number =
-      ap (λ x. add_word x (imm_i (lower number))) one.changes.holds ∙ number_lands number (omega (arith, few)) in
+      let sum : add_word (slice_index u.registers 5) (imm_i (low_12 number)) ≡ number =
+      ap (λ x. add_word x (imm_i (low_12 number))) one.changes.holds ∙ number_lands number (omega (arith, few)) in
       let two = reaches_as s v (v.place + 1 + 1) (5 ∷ []) (5 ∷ 7 ∷ []) v.memory _ (λ w. slice_index w.registers 5 ≡ number)
       (λ q i. ⊎_elim (λ h. inl h) (λ z. absurd z) i) (λ w m p h. h.0)
       (reaches_more s v (v.place + 1) (v.place + 1 + 1) (5 ∷ []) (5 ∷ []) v.memory _ _ one (λ q i. i)
-      (reaches_set s u (v.place + 1 + 1) (OpImm Addi 5 5 (lower number)) 4 number
-      (subst (λ p. IsCode s p (OpImm Addi 5 5 (lower number))) (sym here) open'.code.1.0) (omega (arith, here)) (inl (λ q. omega (arith, q)))
-      (sets_as s u (OpImm Addi 5 5 (lower number)) 5 _ _ sum (sets_imm s u Addi 5 5 (lower number))) one.changes.past.are (omega arith) (omega
+      (reaches_set s u (v.place + 1 + 1) (OpImm Addi 5 5 (low_12 number)) 4 number
+      (subst (λ p. IsCode s p (OpImm Addi 5 5 (low_12 number))) (sym here) open'.code.1.0) (omega (arith, here)) (inl (λ q. omega (arith, q)))
+      (sets_as s u (OpImm Addi 5 5 (low_12 number)) 5 _ _ sum (sets_imm s u Addi 5 5 (low_12 number))) one.changes.past.are (omega arith) (omega
       (arith, few)))) in
       let z = two.changes.view in
       let at = arrived s v (v.place + 1 + 1) (5 ∷ 7 ∷ []) v.memory _ two in
@@ -246,7 +247,7 @@ module _ (s : Fixed) (n : Named) (laid : Laid) (live : List Line → Type 0) (en
               (shows 2 two_small (v.place + k) part whole xs read) a.memory
               (λ t u. IsAfter s laid live c (on_act place m alone next file a (after_external place.setting row.result false a t.doing)) u)
               (λ x answers fits. subst (λ q. IsAfter s laid live c (on_act place m alone next file a
-              (after_external place.setting row.result false a (Gave (given q x) a.memory))) (record {
+              (after_external place.setting row.result false a (Gave (given_back q x) a.memory))) (record {
                 place = w.place + 1;
                 registers = behind is.ext.result x w.registers;
                 memory = w.memory;
@@ -336,7 +337,7 @@ module _ (s : Fixed) (n : Named) (laid : Laid) (live : List Line → Type 0) (en
               (v.place + k) e) described
               saves fit whole none there (record { top = s.base; stack = 0; heap = heap_need a.memory }) refl a.memory P words
               (λ x answers u wu at ten. subst (λ q. IsAfter s laid live c (on_act place m framed next (poisoned (named (length next)) file) a
-              (after_external place.setting row.result true a (Gave (given q x) a.memory))) u) (sym is.result)
+              (after_external place.setting row.result true a (Gave (given_back q x) a.memory))) u) (sym is.result)
               (gave_after s laid live c place m next [] (poisoned (named (length next)) (dropped 5 held)) (poisoned (named
               (length next)) file) same_lost a none whole
               dead row true args row.result results typed seated x a.memory u wu (next_place ∙ sym at) (λ q f. ten q (is.result ∙ f))))

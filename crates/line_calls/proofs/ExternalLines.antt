@@ -28,7 +28,7 @@ use Rattle.rv_machine.specs.Memory.{code_start, word}
 use Rattle.layout_rules.specs.Laid.{address_of_place}
 use Rattle.linear_machine.specs.Files.{IsPut}
 use Rattle.linear_machine.specs.Follows.{IsAfter, IsAt}
-use Rattle.linear_machine.specs.Outside.{given}
+use Rattle.cmm_meaning.specs.Run.{given_back}
 use Rattle.linear_machine.specs.Relation.{Below, Laid, StandsFor, Within, all_of}
 use Rattle.linear_machine.specs.Straight.{Differs}
 use Rattle.linear_machine.specs.View.{Fixed, View}
@@ -55,7 +55,7 @@ module _ (s : Fixed) (laid : Laid) (live : List Line → Type 0) (c : Below) (pl
       AreSeated (InOrder result_places) (places_of results) → (x : ℕ) (memory : Memory) (z : View) → Within s laid z young 0 (clear Temporaries held) a c →
       laid.part (length next) ≡ z.place → ((t : _) → r ≡ ret.Comp t → slice_index z.registers 10 ≡ x) →
       IsAfter s laid live c (on_act place m (record { op = lin.Op (op.Calling (calling.External row frame)); args = args; results = results }) next file a
-      (after_external place.setting r frame a (Gave (given r x) memory))) z
+      (after_external place.setting r frame a (Gave (given_back r x) memory))) z
   gave_after row frame args ret.Unit [] typed seats x memory z within at ten = (
     young,
     clear Temporaries held,
@@ -68,7 +68,7 @@ module _ (s : Fixed) (laid : Laid) (live : List Line → Type 0) (c : Below) (pl
       let one = first_seated p ps seats in
       subst (λ q. IsAfter s laid live c (on_act place m (record { op = lin.Op (op.Calling (calling.External row frame)); args = args; results = p ∷ q })
       next file a
-      (after_external place.setting (ret.Comp t) frame a (Gave (given (ret.Comp t) x) memory))) z) (sym one.1)
+      (after_external place.setting (ret.Comp t) frame a (Gave (given_back (ret.Comp t) x) memory))) z) (sym one.1)
       (by_fit one.0 (fits place.setting.end (type_of_comp t) (Word x)))
     where
       stands : StandsFor s (all_of z young) (slice_index z.registers 10) (Word x)

@@ -31,7 +31,8 @@ use Rattle.machine_laws.proofs.Words.{other_register, with_registers}
 use Rattle.machine_laws.proofs.Serving.{filled_are}
 use Rattle.moving_laws.proofs.Words.{same_or_not}
 use Rattle.linear_machine.specs.Arrival.{Gone, Needs}
-use Rattle.linear_machine.specs.Outside.{GoesOn, Taken, given, taken_moving}
+use Rattle.linear_machine.specs.Outside.{GoesOn, Taken, taken_moving}
+use Rattle.cmm_meaning.specs.Run.{given_back}
 use Rattle.linear_machine.specs.Relation.{Below, IsDescribed, Laid, Within, all_of}
 use Rattle.linear_machine.specs.Straight.{Differs}
 use Rattle.linear_machine.specs.View.{Fixed, IsCode, Stands, View}
@@ -278,7 +279,7 @@ module _ (s : Fixed) (w : View) (code : IsCode s w.place Ecall) (service : slice
     pub frame_goes :
         (needs : Needs) → needs.heap ≡ heap_need a.memory → (memory : Memory) (P : Taken → View → Type 0) → AllWords w.answers →
         ((x : ℕ) (answers : List ℕ) (u : View) → Within s laid u [] 0 (clear Temporaries (poisoned point held)) a c → u.place ≡ w.place + 1 →
-        ((t : _) → e.result ≡ ret.Comp t → slice_index u.registers 10 ≡ x) → P (record { doing = Gave (given e.result x) memory; answers = answers }) u) →
+        ((t : _) → e.result ≡ ret.Comp t → slice_index u.registers 10 ≡ x) → P (record { doing = Gave (given_back e.result x) memory; answers = answers }) u) →
         ((x : ℕ) (answers : List ℕ) (v u : View) → Within s laid v [] 0 (clear Temporaries (poisoned point held)) a c →
         Differs (2 ∷ 6 ∷ 7 ∷ 9 ∷ []) v.memory v u →
         slice_index u.registers 2 ≡ slice_index v.registers 9 + 16 → slice_index u.registers 9 ≡ word v.memory (slice_index v.registers 9 + 8) →
@@ -320,13 +321,13 @@ module _ (s : Fixed) (w : View) (code : IsCode s w.place Ecall) (service : slice
         by_answers [] g all taken = absurd (cc)
         by_answers (k1 ∷ []) g all taken = absurd (cc)
         by_answers (zero ∷ x ∷ answers) g all taken =
-            let same : record { doing = Gave (given e.result x) memory; answers = answers } ≡ t = cc in
+            let same : record { doing = Gave (given_back e.result x) memory; answers = answers } ≡ t = cc in
             let ok = ready_stands s first w st in
             ⊎_elim (λ lack. inr (full 0 x answers g lack))
             (λ fits.
             let m = moves (ready s first) ok fits in
             inl (subst (λ t. GoesOn s first (w.calls ++ call ∷ []) t.answers (P t)) same
-            (gives_at (ready s first) ok m e.result x answers (P (record { doing = Gave (given e.result x) memory; answers = answers })) first (all 1)
+            (gives_at (ready s first) ok m e.result x answers (P (record { doing = Gave (given_back e.result x) memory; answers = answers })) first (all 1)
             (concludes 0 x answers g m)
             (λ u wu at ten. gives x answers u wu at (λ q f. ten ∙ ap (λ r. slice_index (behind r x m.new.registers) 10) f
             ∙ behind_result q x m.new.registers m.stands.own.are)))))

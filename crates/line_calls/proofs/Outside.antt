@@ -24,7 +24,8 @@ use Rattle.machine_laws.proofs.Words.{other_register, with_registers}
 use Rattle.machine_laws.proofs.Serving.{filled_are}
 use Rattle.moving_laws.specs.Stands.{Among}
 use Rattle.linear_machine.specs.Files.{HoldsLess}
-use Rattle.linear_machine.specs.Outside.{GoesOn, Taken, given, taken_alone}
+use Rattle.linear_machine.specs.Outside.{GoesOn, Taken, taken_alone}
+use Rattle.cmm_meaning.specs.Run.{given_back}
 use Rattle.linear_machine.specs.Relation.{Below, Laid, ReturnStands, Within}
 use Rattle.linear_machine.specs.View.{Fixed, IsCode, Stands, View}
 use Rattle.linear_machine.proofs.Standing.{IsFree, within_changed}
@@ -250,7 +251,7 @@ module _ (s : Fixed) (w : View) (code : IsCode s w.place Ecall) (service : slice
   -- Whatever answers there are, it goes on with what they say.
   pub alone_goes :
       (memory : Memory) (P : Taken → View → Type 0) →
-      ((x : ℕ) (answers : List ℕ) → x < 2 ^ 64 → P (record { doing = Gave (given e.result x) memory; answers = answers })
+      ((x : ℕ) (answers : List ℕ) → x < 2 ^ 64 → P (record { doing = Gave (given_back e.result x) memory; answers = answers })
       (view_behind (behind e.result x w.registers) answers)) → AllWords w.answers →
       (a : Machine) (t : Taken) → Stands s a w → taken_alone memory e.result w.answers ≡ Some t → GoesOn s a (w.calls ++ call ∷ []) t.answers (P t)
   alone_goes memory P holds words a t st taken = by_result e.result refl w.answers refl words taken
@@ -263,7 +264,7 @@ module _ (s : Fixed) (w : View) (code : IsCode s w.place Ecall) (service : slice
           (goes_behind a st ret.Unit 0 answers (P (record { doing = Gave None memory; answers = answers }))
           (λ j k q. to_answered a st j k q ∙ ap (λ r. guarded_after s.schedule k (answered r call w.answers (ready s a))) f
           ∙ ap (λ y. guarded_after s.schedule k (answered ret.Unit call y (ready s a))) g)
-          (subst (λ r. P (record { doing = Gave (given r 0) memory; answers = answers }) (view_behind (behind r 0 w.registers) answers)) f
+          (subst (λ r. P (record { doing = Gave (given_back r 0) memory; answers = answers }) (view_behind (behind r 0 w.registers) answers)) f
           (holds 0 answers (omega arith))))
       by_result (ret.Comp c) f [] g all taken = absurd (cc)
       by_result (ret.Comp c) f (x ∷ answers) g all taken =
@@ -272,5 +273,5 @@ module _ (s : Fixed) (w : View) (code : IsCode s w.place Ecall) (service : slice
           (goes_behind a st (ret.Comp c) x answers (P (record { doing = Gave (Some (Word x)) memory; answers = answers }))
           (λ j k q. to_answered a st j k q ∙ ap (λ r. guarded_after s.schedule k (answered r call w.answers (ready s a))) f
           ∙ ap (λ y. guarded_after s.schedule k (answered (ret.Comp c) call y (ready s a))) g)
-          (subst (λ r. P (record { doing = Gave (given r x) memory; answers = answers }) (view_behind (behind r x w.registers) answers)) f
+          (subst (λ r. P (record { doing = Gave (given_back r x) memory; answers = answers }) (view_behind (behind r x w.registers) answers)) f
           (holds x answers (all 0))))

@@ -7,7 +7,8 @@ use Rattle.bs_words.specs.declared.types.Loc.TheVariants as loc
 use Rattle.bs_words.specs.declared.values.Value.{Value}
 use Rattle.emit_rules.specs.Entry.{given_back}
 use Rattle.layout_rules.specs.Laid.{address_of_place}
-use Rattle.layout_rules.specs.Words.{Named, distance, lower, upper}
+use Rattle.layout_rules.specs.Words.{Named, distance, upper}
+use Rattle.emit_rules.specs.Instructions.{low_12}
 use Rattle.layout_rules.proofs.Offsets.{far_lands}
 use Rattle.lin_ir.specs.Meaning.{Locations}
 use Rattle.mach_ir.specs.Acts.{Around, is_complete}
@@ -134,8 +135,8 @@ module _ (s : Fixed) (n : Named) (laid : Laid) (v : View) (young : List Placed) 
       (add_word-below _ _)) in
       let z = both.changes.view in
       let six : slice_index z.registers 6 ≡ half = both.changes.holds.0 in
-      let lands : add_word (slice_index z.registers 6) (imm_i (lower d)) ≡ code_start + 4 * entry f =
-      subst (λ x. add_word x (imm_i (lower d)) ≡ add_word half (imm_i (lower d))) (sym six) refl ∙ far_lands from (n.symbol name) (omega (arith, near))
+      let lands : add_word (slice_index z.registers 6) (imm_i (low_12 d)) ≡ code_start + 4 * entry f =
+      subst (λ x. add_word x (imm_i (low_12 d)) ≡ add_word half (imm_i (low_12 d))) (sym six) refl ∙ far_lands from (n.symbol name) (omega (arith, near))
       (omega (arith, address, far)) ∙ address in
       let k = both.lands in
       record {
@@ -143,7 +144,7 @@ module _ (s : Fixed) (n : Named) (laid : Laid) (v : View) (young : List Placed) 
         lands = omega (arith, past, k);
         some = omega arith;
         view = at_place (entry f) z;
-        leads = jump_behind s v (parts.middle + 1) (1 ∷ 2 ∷ 6 ∷ 7 ∷ []) v.memory _ both 6 (lower d) (entry f) call.code.1.0 lands;
+        leads = jump_behind s v (parts.middle + 1) (1 ∷ 2 ∷ 6 ∷ 7 ∷ []) v.memory _ both 6 (low_12 d) (entry f) call.code.1.0 lands;
         holds = replaces s laid v (at_place (entry f) z) young held a c within
             (record {
               are = both.changes.past.are;

@@ -2,10 +2,10 @@
 use Rattle.std.proofs.Common.{◌≡◌, ◌≢◌, ℕ, ◌+◌, ◌-◌, ◌*◌, ◌%◌, ◌<◌, ◌≤◌, inl, inr, List, [], ◌∷◌, ◌++◌, map, slice_index, refl, ap, arith, ◌∙◌, sym, subst, ⊎_elim}
 use Rattle.bs_words.specs.Word.{add_word}
 use Rattle.bs_words.proofs.Below.{add_word-below}
-use Rattle.emit_rules.specs.Instructions.{addi, mv, store}
+use Rattle.emit_rules.specs.Instructions.{addi, mv, store, low_12}
 use Rattle.emit_rules.specs.Traps.{pop_part, push_part, raise_words}
 use Rattle.layout_rules.specs.Laid.{address_of_place}
-use Rattle.layout_rules.specs.Words.{Named, distance, lower, upper}
+use Rattle.layout_rules.specs.Words.{Named, distance, upper}
 use Rattle.layout_rules.proofs.Offsets.{far_lands}
 use Rattle.lin_ir.specs.Meaning.{Locations}
 use Rattle.mach_ir.specs.Acts.{Around}
@@ -87,7 +87,7 @@ module _ (s : Fixed) (n : Named) (laid : Laid) (v : View) (young : List Placed) 
     abbrev pub d : ℕ
     d = distance (address_of_place v.place) (n.label l)
 
-    words : HasCode s v.place (Auipc 6 (upper d) ∷ OpImm Addi 6 6 (lower d) ∷ OpImm Addi 2 2 4080 ∷ Store Sd 2 6 0 ∷ Store Sd 2 9 8 ∷ OpImm Addi 9 2 0 ∷ [])
+    words : HasCode s v.place (Auipc 6 (upper d) ∷ OpImm Addi 6 6 (low_12 d) ∷ OpImm Addi 2 2 4080 ∷ Store Sd 2 6 0 ∷ Store Sd 2 9 8 ∷ OpImm Addi 9 2 0 ∷ [])
         × (to ≡ v.place + 1 + 1 + 1 + 1 + 1 + 1)
     words =
         let a1 = begins s n v.place to (LabelAddress T1 l) _ st in
@@ -110,15 +110,15 @@ module _ (s : Fixed) (n : Named) (laid : Laid) (v : View) (young : List Placed) 
         within.own.are (omega arith) (add_word-below _ _) in
         let u = first.changes.view in
         let here = arrived s v (v.place + 1) (6 ∷ []) v.memory _ first in
-        let sum : add_word (slice_index u.registers 6) (imm_i (lower d)) ≡ laid.handler l =
-        ap (λ x. add_word x (imm_i (lower d))) first.changes.holds ∙ far_lands (address_of_place v.place) (n.label l) (omega (arith, near))
+        let sum : add_word (slice_index u.registers 6) (imm_i (low_12 d)) ≡ laid.handler l =
+        ap (λ x. add_word x (imm_i (low_12 d))) first.changes.holds ∙ far_lands (address_of_place v.place) (n.label l) (omega (arith, near))
         (omega (arith, handler, high)) ∙ handler in
         reaches_as s v (v.place + 1 + 1) (6 ∷ []) (2 ∷ 6 ∷ 7 ∷ 9 ∷ []) v.memory _ _ (λ q i. ⊎_elim (λ h. inr (inl h)) (λ z. absurd z) i)
         (λ w m p h. (h.0, λ q other. p.others q (λ i. ⊎_elim other (λ z. z) i)))
         (reaches_more s v (v.place + 1) (v.place + 1 + 1) (6 ∷ []) (6 ∷ []) v.memory _ _ first (λ q i. i)
-        (reaches_set s u (v.place + 1 + 1) (OpImm Addi 6 6 (lower d)) 5 (laid.handler l) (subst (λ q. IsCode s q (OpImm Addi 6 6 (lower d)))
+        (reaches_set s u (v.place + 1 + 1) (OpImm Addi 6 6 (low_12 d)) 5 (laid.handler l) (subst (λ q. IsCode s q (OpImm Addi 6 6 (low_12 d)))
         (sym here) words.0.1.0)
-        (omega (arith, here)) (inl (λ q. omega (arith, q))) (sets_as s u (OpImm Addi 6 6 (lower d)) 6 _ _ sum (sets_imm s u Addi 6 6 (lower d)))
+        (omega (arith, here)) (inl (λ q. omega (arith, q))) (sets_as s u (OpImm Addi 6 6 (low_12 d)) 6 _ _ sum (sets_imm s u Addi 6 6 (low_12 d)))
         first.changes.past.are (omega arith) (omega (arith, high))))
 
     at_named : named.changes.view.place ≡ v.place + 1 + 1

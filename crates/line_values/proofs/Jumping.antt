@@ -7,7 +7,8 @@ use Rattle.bs_words.specs.Word.{add_word}
 use Rattle.bs_words.proofs.Below.{add_word-below}
 use Rattle.layout_rules.specs.Forms.{branch_form, branch_reaches, branch_words, jal_reaches, jump_form, rank}
 use Rattle.layout_rules.specs.Laid.{address_of_place}
-use Rattle.layout_rules.specs.Words.{branch_code, branch_offset, distance, far_jump, inverted, jal_offset, jump_code, lower, upper}
+use Rattle.layout_rules.specs.Words.{branch_code, branch_offset, distance, far_jump, inverted, jal_offset, jump_code, upper}
+use Rattle.emit_rules.specs.Instructions.{low_12}
 use Rattle.layout_rules.specs.declared.form.Form.{Form}
 use Rattle.layout_rules.specs.declared.form.Form.TheVariants.{Near, Middle, Far}
 use Rattle.layout_rules.proofs.Offsets.{branch_lands, by_13, far_lands, jal_lands}
@@ -72,7 +73,7 @@ module _ (s : Fixed) (u : View) (are : AreRegisters u.registers) (to : ℕ) (nea
   far_goes code =
       let d : ℕ = distance (address_of_place u.place) (address_of_place to) in
       let high : ℕ = upper d in
-      let low : ℕ = lower d in
+      let low : ℕ = low_12 d in
       let x : ℕ = add_word (code_start + 4 * u.place) (imm_u high) in
       let first = set_changes s u (Auipc 6 high) 5 x code.0 (inl (λ q. omega (arith, q))) (sets_auipc s u 6 high) are (omega arith)
       (add_word-below (code_start + 4 * u.place) (imm_u high)) in

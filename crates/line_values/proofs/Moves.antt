@@ -9,9 +9,9 @@ use Rattle.bs_words.specs.declared.values.Value.{Value}
 use Rattle.bs_words.specs.declared.values.Value.TheVariants.{Word, Block, Function}
 use Rattle.emit_rules.specs.Constants.{above_12, constant}
 use Rattle.emit_rules.specs.Emitted.{pure_part}
-use Rattle.emit_rules.specs.Instructions.{load}
+use Rattle.emit_rules.specs.Instructions.{load, low_12}
 use Rattle.emit_rules.specs.Slots.{copied, far_stack, kept, stack_load, target}
-use Rattle.layout_rules.specs.Words.{Named, lower, upper}
+use Rattle.layout_rules.specs.Words.{Named, upper}
 use Rattle.layout_rules.proofs.Offsets.{number_lands}
 use Rattle.lin_ir.specs.Formed.{IsLocation}
 use Rattle.lin_ir.specs.Meaning.{Locations, NamedAt, on_act, put, same_loc, step}
@@ -40,7 +40,7 @@ use Rattle.linear_machine.specs.Straight.{Changes, Comes}
 use Rattle.linear_machine.specs.View.{Fixed, View, HasCode, IsCode}
 use Rattle.linear_machine.proofs.Following.{PassesSpare, result_follows, same_loc-true}
 use Rattle.linear_machine.proofs.Formats.{sets_imm, sets_lui}
-use Rattle.machine_laws.proofs.Immediates.{low_12, up}
+use Rattle.machine_laws.proofs.Immediates.{low_12 as small_12, up}
 use Rattle.linear_machine.proofs.Locations.{read_far, read_near, read_register}
 use Rattle.linear_machine.proofs.Operating.{worked}
 use Rattle.linear_machine.proofs.Pure.{Reads, constant_follows, copy_follows, copy_nothing}
@@ -92,15 +92,15 @@ module _ (s : Fixed) (n : Named) (laid : Laid) (m : Lin) (slots : m.slots ≡ la
 
   -- the two instructions of an address below 2^30
   number_comes : (t : ℕ) → suc t < 32 → suc t ≢ 2 → (x : ℕ) → x < 2 ^ 30 → HasCode s v.place (Lui (suc t) (upper x)
-      ∷ OpImm Addi (suc t) (suc t) (lower x) ∷ []) →
+      ∷ OpImm Addi (suc t) (suc t) (low_12 x) ∷ []) →
       Changes s v 2 (suc t ∷ []) v.memory (λ w. slice_index w.registers (suc t) ≡ x)
   number_comes t fits no_sp x small code =
-      set_then s v 1 (suc t ∷ []) v.memory (λ w. slice_index w.registers (suc t) ≡ imm_u (upper x)) (OpImm Addi (suc t) (suc t) (lower x)) t x
+      set_then s v 1 (suc t ∷ []) v.memory (λ w. slice_index w.registers (suc t) ≡ imm_u (upper x)) (OpImm Addi (suc t) (suc t) (low_12 x)) t x
       (set_changes s v (Lui (suc t) (upper x)) t (imm_u (upper x)) code.0 (inl no_sp) (sets_lui s v (suc t) (upper x)) within.own.are fits
       (sext_word-below _ 32))
       (inl refl)
-      (λ w past e. sets_as s w (OpImm Addi (suc t) (suc t) (lower x)) (suc t) _ x
-      (ap (λ y. add_word y (imm_i (lower x))) e ∙ number_lands x (omega (arith, small))) (sets_imm s w Addi (suc t) (suc t) (lower x)))
+      (λ w past e. sets_as s w (OpImm Addi (suc t) (suc t) (low_12 x)) (suc t) _ x
+      (ap (λ y. add_word y (imm_i (low_12 x))) e ∙ number_lands x (omega (arith, small))) (sets_imm s w Addi (suc t) (suc t) (low_12 x)))
       code.1.0 (inl no_sp) fits (omega (arith, small))
 
   pub symbol_line :
@@ -125,8 +125,8 @@ module _ (s : Fixed) (n : Named) (laid : Laid) (m : Lin) (slots : m.slots ≡ la
           let g = starts s n v.place k (SymbolAddress (target r.loc) name) (kept (length a.tries) r.loc) part in
           let sum = g.sum in
           let known = symbol x e in
-          let code : HasCode s v.place (Lui (suc tg.t) (upper (n.symbol name)) ∷ OpImm Addi (suc tg.t) (suc tg.t) (lower (n.symbol name)) ∷ []) =
-          subst (λ z. HasCode s v.place (Lui z (upper (n.symbol name)) ∷ OpImm Addi z z (lower (n.symbol name)) ∷ [])) tg.is g.code in
+          let code : HasCode s v.place (Lui (suc tg.t) (upper (n.symbol name)) ∷ OpImm Addi (suc tg.t) (suc tg.t) (low_12 (n.symbol name)) ∷ []) =
+          subst (λ z. HasCode s v.place (Lui z (upper (n.symbol name)) ∷ OpImm Addi z z (low_12 (n.symbol name)) ∷ [])) tg.is g.code in
           result_follows s laid live entry c v next before k place.setting.end r x young held file a behind agrees passes
           (λ fit. subst (λ z. Comes s v z (λ w. Within s laid w young 0 (put r x held) a c)) (sym g.sum)
           (worked s laid young a c none held tg.rest (put r x held) v.place 2 (suc tg.t) (suc tg.t ∷ []) x tg.makes (alone (suc tg.t)) g.others
@@ -209,7 +209,7 @@ module _ (s : Fixed) (n : Named) (laid : Laid) (m : Lin) (slots : m.slots ≡ la
       (subst (λ z. IsCode s v.place (OpImm Addi (number (register_at o)) z 0)) (u.number_is ∙ same) g.code) in
       let w : ℕ = slice_index v.registers (suc (q - 1)) in
       let small = within.own.are.words (suc (q - 1)) in
-      let sum : add_word w (imm_i 0) ≡ w = ap (add_word w) (low_12 0 (omega arith)) ∙ up w 0 w (omega arith) small in
+      let sum : add_word w (imm_i 0) ≡ w = ap (add_word w) (small_12 0 (omega arith)) ∙ up w 0 w (omega arith) small in
       subst (λ z. Comes s v z (λ w. Within s laid w young 0 (put r x held) a c)) (sym g.sum)
       (worked s laid young a c none held tg.rest (put r x held) v.place 1 (suc tg.t) (suc tg.t ∷ []) x tg.makes (alone (suc tg.t)) g.others
       (tg.keeps r e x (v.place + 1) g.others g.rest) v refl within

@@ -9,7 +9,9 @@ use Rattle.bs_words.specs.declared.values.Obs.{Obs}
 use Rattle.bs_words.specs.declared.values.Obs.TheVariants as obs
 use Rattle.bs_words.specs.declared.values.Value.{Value}
 use Rattle.bs_words.specs.declared.values.Value.TheVariants.{Word, Block, Function}
+use Rattle.cmm_meaning.specs.Run.{given_back}
 use Rattle.cmm_meaning.specs.State.{Doing, Gave, Threw}
+use Rattle.emit_rules.specs.Calls.{external_service}
 use Rattle.guarded_machine.specs.Guarded.{guarded_after}
 use Rattle.image_form.specs.Tables.{Tables, Ext}
 use Rattle.rv_isa.specs.declared.instr.Instr.TheVariants.{Ecall}
@@ -26,10 +28,6 @@ pub record Taken : Type 0 where
   pub doing : Doing
   pub answers : List ℕ
 
-abbrev pub given : Ret → ℕ → Option Value
-given ret.Unit x = None
-given (ret.Comp t) x = Some (Word x)
-
 abbrev pub taken_alone : Memory → Ret → List ℕ → Option Taken
 taken_alone memory ret.Unit answers = Some (record { doing = Gave None memory; answers = answers })
 taken_alone memory (ret.Comp t) [] = None
@@ -40,7 +38,7 @@ abbrev pub taken_moving : Memory → Ret → List ℕ → Option Taken
 taken_moving memory result [] = None
 taken_moving memory result (first ∷ []) = None
 taken_moving memory result (zero ∷ x ∷ answers) =
-    Some (record { doing = Gave (given result x) memory; answers = answers })
+    Some (record { doing = Gave (given_back result x) memory; answers = answers })
 taken_moving memory result (suc n ∷ x ∷ answers) =
     Some (record { doing = Threw (Word x) memory; answers = answers })
 
@@ -50,9 +48,6 @@ taken_of frame memory result answers =
     cond frame (taken_moving memory result answers) (taken_alone memory result answers)
 
 -- ---- the call
-
-abbrev pub service_of : Bool → ℕ
-service_of frame = cond frame 4 2
 
 -- what is observed of an argument
 abbrev pub shown : Tables → Value → Obs
@@ -87,7 +82,7 @@ pub record IsAsking (s : Fixed) (needs : Needs) (row : External) (frame : Bool)
     pub params : ext.params ≡ row.params
     pub result : ext.result ≡ row.result
     pub code : IsCode s w.place Ecall
-    pub service : slice_index w.registers t2 ≡ service_of frame
+    pub service : slice_index w.registers t2 ≡ external_service frame
     pub made : (a : Machine) → Stands s a w → call_made ext a.hart ≡ counted s row arguments
     pub goes : (a : Machine) (t : Taken) → Stands s a w → AllWords w.answers →
         taken_of frame memory row.result w.answers ≡ Some t →

@@ -11,15 +11,14 @@ use Rattle.linear_rules.specs.Lowered.{slots_of, limit_of, slot_number, lowered}
 use Rattle.linear_rules.specs.Sizes.{HasLineRoom}
 use Rattle.linear_rules.proofs.Lowering.{lowered_lines, lowered_labels}
 use Rattle.linear_rules.proofs.Slots.{count_within}
-use Rattle.linear_tidy.specs.Known.{next_free}
 use Rattle.linear_tidy.proofs.Known.{lowered_regular, turned_shape, ways_few}
 use Rattle.linear_tidy.specs.Sizes.{HasRoom}
 
 -- the first free number is above no more than all labels are below
-free_low : (ls : List ℕ) (n : ℕ) → All (λ l. l < n) ls → next_free ls ≤ n
+free_low : (ls : List ℕ) (n : ℕ) → All (λ l. l < n) ls → limit_of ls ≤ n
 free_low [] n h = omega arith
 free_low (l ∷ ls) n h =
-    by (next_free ls) (All-head (λ l. l < n) l ls h) (free_low ls n (All-tail (λ l. l < n) l ls h))
+    by (limit_of ls) (All-head (λ l. l < n) l ls h) (free_low ls n (All-tail (λ l. l < n) l ls h))
   where
     by : (k : ℕ) → l < n → k ≤ n → max (suc l) k ≤ n
     by k lt le = omega (arith, lt, le)
@@ -34,7 +33,7 @@ module _ (p : Mach) (room : HasLineRoom p) where
       let lines = shape.lines in
       let ways = ways_few (slot_number p) p.code in
       let first = lowered_lines p in
-      let same : next_free (labels_in (lowered p).code) ≡ next_free (mach_formed.labels_in p.code) = ap next_free (lowered_labels p) in
+      let same : limit_of (labels_in (lowered p).code) ≡ limit_of (mach_formed.labels_in p.code) = ap limit_of (lowered_labels p) in
       let free = free_low (mach_formed.labels_in p.code) p.labels well.labels_below in
       let labels = room.labels in
       let few = count_within p in

@@ -18,8 +18,8 @@ use Rattle.lin_laws.proofs.Places.{ends_label, place_is}
 use Rattle.lin_flow.specs.Labels.{place_in, AreLabelsOf}
 use Rattle.lin_flow.specs.declared.labels.Labels.{Labels}
 use Rattle.tidy_rules.specs.Leaving.{bare, with_code}
-use Rattle.linear_rules.specs.Lowered.{opposite_test}
-use Rattle.tidy_rules.specs.Turning.{Head, Turn, branch_line, turned_line, turned_lines, tested_again, label_put, next_free, label_here, label_on, head_by, head_at, stands_first, exit_head, turn_for, line_turn, turn_at, is_on, is_led_to, opened_at, turned_all}
+use Rattle.linear_rules.specs.Lowered.{opposite_test, limit_of}
+use Rattle.tidy_rules.specs.Turning.{Head, Turn, branch_line, turned_line, turned_lines, tested_again, label_put, label_here, label_on, head_by, head_at, stands_first, exit_head, turn_for, line_turn, turn_at, is_on, is_led_to, opened_at, turned_all}
 use Rattle.tidy_rules.specs.Redirecting.{exits_to}
 use Rattle.tidy_rules.proofs.Following.{exit_is}
 use Rattle.bs_words.proofs.Lists.{head_same, tail_same}
@@ -71,21 +71,21 @@ if_ok P Q (Err e) f h = h
 
 -- ---- the first free label
 
-pub free_begun : (code : List Line) → max 0 (next_free (labels_in code)) ≡ next_free (labels_in code)
+pub free_begun : (code : List Line) → max 0 (limit_of (labels_in code)) ≡ limit_of (labels_in code)
 free_begun code = omega arith
 
 pub free_more : (code : List Line) (k free above : ℕ) (i : Line) → k < length code → i ≡ get_or code k i →
-    ((ls : List ℕ) → max above (next_free ls) ≡ max free (next_free (label_of i.op ++ ls))) →
-    max free (next_free (labels_in (drop k code))) ≡ next_free (labels_in code) →
-    max above (next_free (labels_in (drop (k + 1) code))) ≡ next_free (labels_in code)
+    ((ls : List ℕ) → max above (limit_of ls) ≡ max free (limit_of (label_of i.op ++ ls))) →
+    max free (limit_of (labels_in (drop k code))) ≡ limit_of (labels_in code) →
+    max above (limit_of (labels_in (drop (k + 1) code))) ≡ limit_of (labels_in code)
 free_more code k free above i lt e more h =
-    more (labels_in (drop (k + 1) code)) ∙ sym (ap (λ is. max free (next_free (labels_in is))) (drop_line code k i lt e)) ∙ h
+    more (labels_in (drop (k + 1) code)) ∙ sym (ap (λ is. max free (limit_of (labels_in is))) (drop_line code k i lt e)) ∙ h
 
 pub free_all : (code : List Line) (k free : ℕ) → length code ≤ k →
-    max free (next_free (labels_in (drop k code))) ≡ next_free (labels_in code) → free ≡ next_free (labels_in code)
+    max free (limit_of (labels_in (drop k code))) ≡ limit_of (labels_in code) → free ≡ limit_of (labels_in code)
 free_all code k free le h =
     let none : max free 0 ≡ free = omega arith in
-    sym none ∙ sym (ap (λ is. max free (next_free (labels_in is))) (all_dropped code k le)) ∙ h
+    sym none ∙ sym (ap (λ is. max free (limit_of (labels_in is))) (all_dropped code k le)) ∙ h
 
 -- ---- where an exit leads
 
@@ -247,13 +247,13 @@ turns_count m free [] = refl
 turns_count m free (i ∷ next) = ap suc (turns_count m free next)
 
 -- there are numbers for the labels of all lines
-pub change_room : (m : Lin) (free : ℕ) (c : Changes) → free ≡ next_free (labels_in m.code) → AreChanges m free m.code c →
-    suc (next_free (labels_in m.code) + 2 * length m.code) < 4294967296 → suc (free + 2 * length (turns_in c)) < 4294967296
+pub change_room : (m : Lin) (free : ℕ) (c : Changes) → free ≡ limit_of (labels_in m.code) → AreChanges m free m.code c →
+    suc (limit_of (labels_in m.code) + 2 * length m.code) < 4294967296 → suc (free + 2 * length (turns_in c)) < 4294967296
 change_room m free c is are room =
     let len : length (turns_in c) ≡ length m.code = ap length are.turns ∙ turns_count m free m.code in
     omega (arith, is, len, room)
 
-pub all_changed : (m : Lin) (free : ℕ) (c : Changes) (code : List Line) → free ≡ next_free (labels_in m.code) → AreChanges m free m.code c →
+pub all_changed : (m : Lin) (free : ℕ) (c : Changes) (code : List Line) → free ≡ limit_of (labels_in m.code) → AreChanges m free m.code c →
     code ≡ turned_by (opened_in c free) (turns_in c) m.code → with_code m code ≡ turned_all m
 all_changed m free c code is h made =
     ap (with_code m)
@@ -405,7 +405,7 @@ module _ (P : List Spot → Type 0) (none : P []) where
 
 pub turned_numbered : (m : Lin) → AreNumbered m → AreNumbered (turned_all m)
 turned_numbered m h =
-    let free = next_free (labels_in m.code) in
+    let free = limit_of (labels_in m.code) in
     let opens = opened_at m free in
     let same = turned_same m free opens m.code in
     record {

@@ -2,4 +2,3 @@
 pub use Rattle.tidy_rules.specs.Redirecting.{Tidies}
 pub use Rattle.tidy_rules.specs.Regular.{AtHomes, IsRegular, IsTidy}
 pub use Rattle.tidy_rules.specs.Tidied.{IsTidied}
-pub use Rattle.tidy_rules.specs.Turning.{next_free}

@@ -4,11 +4,12 @@ use Rattle.mach_ir.specs.Sizes.{number_limit}
 use Rattle.lin_ir.specs.Formed.{labels_in}
 use Rattle.lin_ir.specs.declared.lin.Lin.{Lin}
 use Rattle.tidy_rules.specs.Redirecting.{redirected_all}
-use Rattle.tidy_rules.specs.Turning.{next_free, turned_all}
+use Rattle.tidy_rules.specs.Turning.{turned_all}
+use Rattle.linear_rules.specs.Lowered.{limit_of}
 
 -- There are numbers for two new labels for each line.
 abbrev pub HasLabels : Lin → Type 0
-HasLabels m = suc (next_free (labels_in m.code) + 2 * length m.code) < number_limit
+HasLabels m = suc (limit_of (labels_in m.code) + 2 * length m.code) < number_limit
 
 -- There are numbers of 32 bits for all that the function becomes as it is made tidy.
 pub record HasRoom (m : Lin) : Type 0 where

@@ -4,7 +4,8 @@ ghost use Rattle.std.specs.Prelude.{◌≡◌, ◌+◌, ◌*◌, ◌++◌, ◌<�
 ghost use Rattle.lin_ir.specs.Formed.{label_of, labels_in};
 ghost use Rattle.lin_ir.specs.declared.lin.Line.{Line};
 ghost use Rattle.lin_flow.specs.Labels.{AreLabelsOf};
-ghost use Rattle.tidy_rules.specs.Turning.{next_free, label_here, label_on, head_by, head_at, comes_first, stands_first, exit_head};
+ghost use Rattle.tidy_rules.specs.Turning.{label_here, label_on, head_by, head_at, comes_first, stands_first, exit_head};
+ghost use Rattle.linear_rules.specs.Lowered.{limit_of};
 ghost use Rattle.tidy_rules.specs.Turning.{is_on, line_turn, branch_line, tested_again, label_put, turned_line, turned_all};
 ghost use Rattle.linear_tidy.specs.Sizes.{HasLabels};
 ghost use Rattle.linear_tidy.specs.Loops.{head_view, turn_view, turns_in, is_opened, opened_in, first_of, others_of, turned_by, AreChanges};
@@ -20,7 +21,7 @@ use std::collections::BTreeSet;
 /// What is free above these labels and that of one more line.
 fn free_above(free: usize, op: &LinOp) -> usize
     ensures { (ls : List ℕ) →
-        max result (next_free ls) ≡ max free (next_free (label_of op.now ++ ls)) }
+        max result (limit_of ls) ≡ max free (limit_of (label_of op.now ++ ls)) }
 {
     match own_label(op) {
         None => free,
@@ -36,7 +37,7 @@ fn free_above(free: usize, op: &LinOp) -> usize
 
 /// The first number above all labels of the code.
 pub fn first_free(code: &[Line]) -> usize
-    ensures { result ≡ next_free (labels_in code.now) }
+    ensures { result ≡ limit_of (labels_in code.now) }
 {
     let mut free = 0;
     for line in code {

@@ -39,7 +39,8 @@ use Rattle.rv_machine.specs.Services as machine
 use Rattle.rv_machine.specs.Sound.{IsStackBase}
 use Rattle.linear_machine.specs.Arrival.{Gone}
 use Rattle.linear_machine.specs.Follows as follows
-use Rattle.linear_machine.specs.Outside.{Taken, taken_of, service_of, counted, GoesOn, IsAsking}
+use Rattle.linear_machine.specs.Outside.{Taken, taken_of, counted, GoesOn, IsAsking}
+use Rattle.emit_rules.specs.Calls.{external_service}
 use Rattle.linear_machine.specs.Relation.{Below, Laid}
 use Rattle.linear_machine.specs.View.{Fixed, View, Stands}
 use Rattle.linear_machine.proofs.Steps.{ready, ready_stands, one_step, other_number}
@@ -53,7 +54,7 @@ use Rattle.linking_machine.specs.Emitted.{IsEmitted}
 use Rattle.linking_machine.specs.Standing.{Shows}
 use Rattle.linking_machine.proofs.Carrying.{values_shown, words_all, fixed, at_, entry_, back_, After, after_shows, comes_free}
 
-no_allocation : (frame : Bool) → service_of frame ≢ 3
+no_allocation : (frame : Bool) → external_service frame ≢ 3
 no_allocation true e = omega (arith, e)
 no_allocation false e = omega (arith, e)
 
@@ -142,12 +143,12 @@ module _ (file : FileTree) (image : Tables) (lins : ℕ → Lin) (named : ℕ �
       r_stands : Stands s r sh.view
       r_stands = ready_stands s sh.machine sh.view sh.stands
 
-      to_service : guarded_after run.schedule 1 (Going sh.machine) ≡ served run.schedule.plan (service_of frame) r
+      to_service : guarded_after run.schedule 1 (Going sh.machine) ≡ served run.schedule.plan (external_service frame) r
       to_service =
           let ask = sh.holds in
-          let t : slice_index r.hart.registers 7 ≡ service_of frame = ap (λ xs. slice_index xs 7) r_stands.registers ∙ ask.service in
+          let t : slice_index r.hart.registers 7 ≡ external_service frame = ap (λ xs. slice_index xs 7) r_stands.registers ∙ ask.service in
           one_step s sh.machine sh.view Ecall (hart.Service r.hart) sh.stands ask.code
-          (other_number s sh.machine sh.view (service_of frame) sh.stands ask.service (no_allocation frame)) refl 1 0 (omega arith)
+          (other_number s sh.machine sh.view (external_service frame) sh.stands ask.service (no_allocation frame)) refl 1 0 (omega arith)
           ∙ ap (λ n. served run.schedule.plan n r) t
 
       ext_there : external_at r.hart ≡ Some (sh.holds).ext
@@ -178,7 +179,7 @@ module _ (file : FileTree) (image : Tables) (lins : ℕ → Lin) (named : ℕ �
       external_asks t is result none =
           let ask = sh.holds in
           let gone : r.answers ≡ [] = r_stands.answers ∙ sh.answers ∙ none in
-          to_service ∙ ap (λ b. served run.schedule.plan (service_of b) r) is
+          to_service ∙ ap (λ b. served run.schedule.plan (external_service b) r) is
           ∙ ap (λ o. external o r) ext_there
           ∙ ap (λ q. machine.answered q (call_made ask.ext r.hart) r.answers r) (ask.result ∙ result)
           ∙ ap (λ l. machine.answered (ret.Comp t) (call_made ask.ext r.hart) l r) gone
@@ -190,7 +191,7 @@ module _ (file : FileTree) (image : Tables) (lins : ℕ → Lin) (named : ℕ �
       frame_asks is l few over =
           let ask = sh.holds in
           let gone : r.answers ≡ l = r_stands.answers ∙ sh.answers ∙ few in
-          to_service ∙ ap (λ b. served run.schedule.plan (service_of b) r) is
+          to_service ∙ ap (λ b. served run.schedule.plan (external_service b) r) is
           ∙ ap (λ o. frame_call (run.schedule.plan r.hart.services) o r) ext_there
           ∙ ap (λ l. machine.frame_answered (run.schedule.plan r.hart.services) ask.ext.result (call_made ask.ext r.hart) l r) gone ∙ over
 

@@ -1,9 +1,10 @@
 -- Places and components of registers, compared.
-use Rattle.std.specs.Prelude.{Bool, true, false}
+use Rattle.std.specs.Prelude.{Bool, true, false, List, [], ◌∷◌}
 use Rattle.bs_words.specs.declared.types.Comp.{Comp}
 use Rattle.bs_words.specs.declared.types.Comp.TheVariants as comp
 use Rattle.bs_words.specs.declared.types.Loc.{Loc}
 use Rattle.bs_words.specs.declared.types.Loc.TheVariants as loc
+use Rattle.mach_ir.specs.declared.reg.Reg.{Reg}
 
 -- whether no place is chosen yet
 abbrev pub is_open : Loc → Bool
@@ -17,3 +18,8 @@ same_comp comp.Val comp.Val = true
 same_comp comp.Addr comp.Addr = true
 same_comp comp.Float comp.Float = true
 same_comp _ _ = false
+
+-- whether there are no registers
+abbrev pub are_none : List Reg → Bool
+are_none [] = true
+are_none (r ∷ rs) = false

@@ -1,6 +1,7 @@
 -- The text of a Mach function: its name, and a line for each instruction.
 use Rattle.std.specs.Prelude.{ℕ, ◌-◌, Bool, true, false, List, [], ◌∷◌, ◌++◌, codes, length, take}
 use Rattle.std.specs.Fmt.{decimal}
+use Rattle.mach_ir.specs.Places.{are_none}
 use Rattle.mach_ir.specs.Words.{comp_letter, place_text, label_text, separator, op_word, op_text, test_word, test_right, right_text}
 use Rattle.mach_ir.specs.declared.lines.Turn.{Turn}
 use Rattle.mach_ir.specs.declared.lines.Turn.TheVariants as turn
@@ -25,10 +26,6 @@ regs_text first (r ∷ rs) = separator first ++ reg_text r ++ regs_text false rs
 abbrev pub results_text : List Reg → List ℕ
 results_text [] = []
 results_text (r ∷ rs) = reg_text r ++ regs_text false rs ++ codes " = "
-
-abbrev pub is_first : List Reg → Bool
-is_first [] = true
-is_first (r ∷ rs) = false
 
 abbrev pub numbers_text : Bool → List ℕ → List ℕ
 numbers_text first [] = []
@@ -117,7 +114,7 @@ indent_on turn.Hides indent = indent
 abbrev pub line_text : List ℕ → Instr → List ℕ
 line_text indent i =
     indent ++ results_text i.results ++ instr_word i.op ++ regs_text true i.args
-    ++ instr_text (is_first i.args) i.op ++ codes "\n"
+    ++ instr_text (are_none i.args) i.op ++ codes "\n"
 
 -- the end of a try's body is seen by its `with` alone
 abbrev pub shown : Turn → List ℕ → List ℕ

@@ -2,7 +2,8 @@
 ghost use Rattle.std.specs.Prelude.{◌≡◌, ◌+◌, ◌%◌, ◌<◌, ◌^◌, [], ◌∷◌, ◌++◌, map, OnOk};
 ghost use Rattle.layout_rules.specs.Conditions.{LeadsTo};
 ghost use Rattle.rv_pieces.specs.Named.{PieceFits};
-ghost use Rattle.layout_rules.specs.Words.{distance, branch_offset, jal_offset, upper, lower, inverted, far_jump};
+ghost use Rattle.layout_rules.specs.Words.{distance, branch_offset, jal_offset, upper, inverted, far_jump};
+ghost use Rattle.layout_rules.specs.Known.{low_12};
 ghost use Rattle.layout_rules.specs.Words.{number_into, address_into, branch_code, jump_code, code_to};
 ghost use Rattle.rv_isa.specs.Encoding.{encoded, InstrFits};
 ghost use Rattle.rv_isa.specs.Registers.{number};
@@ -33,7 +34,7 @@ fn upper(number: u32) -> u32
 }
 
 fn lower(number: u32) -> u16
-    ensures exact { result ≡ lower number }
+    ensures exact { result ≡ low_12 number }
     ensures fits { result < 4096 }
 {
     (number % 4096) as u16
@@ -155,7 +156,7 @@ fn number_into(words: &mut Vec<u32>, register: Register, value: u32) -> Result<(
 /// Adds the lower part of a number to a register.
 fn add(register: Register, addend: u32) -> Instr
     ensures exact { result
-        ≡ Instr.OpImm AluImmOp.Addi (number register) (number register) (lower addend) }
+        ≡ Instr.OpImm AluImmOp.Addi (number register) (number register) (low_12 addend) }
     ensures fits { InstrFits result }
 {
     Instr::OpImm {

@@ -43,7 +43,8 @@ use Rattle.selection_rules.proofs.Commuting.{IsExponent, no_power, power, expone
 use Rattle.selection_laws.specs.Fits.{IsWord, NoAddress}
 use Rattle.selection_rules.specs.Instructions.{bare, right_regs}
 use Rattle.selection_rules.specs.Instructions as emit
-use Rattle.selection_rules.specs.Select.{Immediate, exponent_if, exponent_from, shift_by, immediate_if, immediate_of, commuted, right_immediate, if_commuted, left_immediate, power_of, power_shape, Shape, InRegisters, ConstantRight, ConstantLeft, PowerRight, shape, shape_of, shape_op, shape_right, shape_args, right_of, bound_test, comparison, Named, scopes, seat, seats, result_seat, callee_of, callee_regs, count_of, regs_of, comp_of}
+use Rattle.selection_rules.specs.Select.{Immediate, exponent_if, exponent_from, shift_by, immediate_if, immediate_of, commuted, right_immediate, if_commuted, left_immediate, power_of, power_shape, Shape, InRegisters, ConstantRight, ConstantLeft, PowerRight, shape, shape_of, shape_op, shape_right, shape_args, right_of, bound_test, comparison, Named, scopes, seat, seats, result_seat, callee_of, callee_regs, regs_of, comp_of}
+use Rattle.cmm_tree.specs.Measures.{count_of}
 use Rattle.selection_rules.proofs.Rows.{row_count}
 use Rattle.std.proofs.lemmas.Option.{none-some}
 use Rattle.mach_laws.proofs.Among.{none_distinct}

@@ -1,8 +1,8 @@
 -- The numbers that the code of an expression takes are few: seven for each node, and one for each value and name.
 use Rattle.std.proofs.Common.{◌+◌, ◌*◌, ◌≤◌, arith}
-use Rattle.cmm_tree.specs.Measures.{counts_one, own_values, row_total, bindings_total, cases_total, handlers_total, params_in, nodes_in, values_in}
+use Rattle.cmm_tree.specs.Measures.{counts_one, own_values, row_total, bindings_total, cases_total, handlers_total, params_in, nodes_in, values_in, count_of}
 use Rattle.cmm_tree.specs.Tree.{Expression, Integer, Pointer, Symbol, Name, Nothing, Float, Let, Assign, Operator, Load, Store, Alloc, App, Extcall, Checkbound, Raise, Seq, If, Switch, Catch, Exit, Try, Expressions, NoMore, More, Bindings, NoBinding, Bind, Cases, NoCase, Choose, Handlers, NoHandler, Handle}
-use Rattle.selection_rules.specs.Select.{width, width_row, width_bound, width_cases, width_handlers, width_labels, count_cases, count_of}
+use Rattle.selection_rules.specs.Select.{width, width_row, width_bound, width_cases, width_handlers, width_labels, count_cases}
 
 mutual
   pub few_numbers : (e : Expression) → width e + 2 ≤ 7 * nodes_in e + values_in e

@@ -3,7 +3,8 @@ use Rattle.std.proofs.Common.{◌≡◌, ℕ, suc, ◌+◌, ◌<◌, ◌≤◌, 
 use Rattle.cmm_tree.specs.Rows.{row_of}
 use Rattle.cmm_tree.specs.View.{expr_view}
 use Rattle.cmm_tree.specs.declared.expr.Expr.{Expr}
-use Rattle.selection_rules.specs.Select.{width, width_row, count_of, regs_of, Named}
+use Rattle.selection_rules.specs.Select.{width, width_row, regs_of, Named}
+use Rattle.cmm_tree.specs.Measures.{count_of}
 use Rattle.selection_scope.proofs.Counts.{count-row}
 use Rattle.selection_scope.specs.Room.{HasRoom, indexes_in, indexes_in_row, most_numbers}
 

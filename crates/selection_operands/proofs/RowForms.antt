@@ -17,7 +17,8 @@ use Rattle.cmm_meaning.specs.Evaluation.{comps_of_arguments}
 use Rattle.mach_ir.specs.declared.mach.Instr.{Instr}
 use Rattle.mach_ir.specs.declared.reg.Reg.{Reg}
 use Rattle.selection_rules.specs.Instructions as emit
-use Rattle.selection_rules.specs.Select.{Label, Code, fresh, inner_dest, inner_valued, select, select_waiting, select_filled, only_when, unless_symbol, symbol_of, call_of, moves_all, seats, result_seat, from_seat, regs_of, label_of, exit_to, cell_stores, chunk_for, header_offset, count_of, width}
+use Rattle.selection_rules.specs.Select.{Label, Code, fresh, inner_dest, inner_valued, select, select_waiting, select_filled, only_when, unless_symbol, symbol_of, call_of, moves_all, seats, result_seat, from_seat, regs_of, label_of, exit_to, cell_stores, chunk_for, header_offset, width}
+use Rattle.cmm_tree.specs.Measures.{count_of}
 use Rattle.selection_scope.proofs.Counts.{count-row}
 use Rattle.selection_operands.proofs.Waiting.{called-here}
 use Rattle.selection_operands.specs.Below.{node_code}

@@ -4,7 +4,7 @@ use Rattle.bs_fault.specs.Reported.{Faultless, here}
 use Rattle.bs_fault.specs.declared.fault.Fault.TheVariants as fault
 use Rattle.bs_words.specs.declared.types.Ty.{Ty}
 use Rattle.bs_words.specs.declared.types.Ty.TheVariants as ty
-use Rattle.cmm_tree.specs.Measures.{values_in, all_tries, row_total, bindings_total, cases_total, handlers_total, own_values, names_in, params_in}
+use Rattle.cmm_tree.specs.Measures.{values_in, all_tries, row_total, bindings_total, cases_total, handlers_total, own_values, names_in, params_in, count_of}
 use Rattle.cmm_tree.specs.Place.{place_of}
 use Rattle.cmm_tree.specs.Symbols.{DefinedSymbol}
 use Rattle.cmm_tree.specs.Tree.{FunctionTree, Expression, Integer, Pointer, Symbol, Name, Nothing, Float, Let, Assign, Operator, Load, Store, Alloc, App, Extcall, Checkbound, Raise, Seq, If, Switch, Catch, Exit, Try, Expressions, NoMore, More, Bindings, NoBinding, Bind, Cases, NoCase, Choose, Handlers, NoHandler, Handle}
@@ -13,7 +13,7 @@ use Rattle.cmm_types.specs.Standing.{Visible, labels_of, lasting_labels_of}
 use Rattle.cmm_types.specs.Types.{type_of}
 use Rattle.cmm_types.specs.declared.role.Role.TheVariants as role
 use Rattle.mach_ir.specs.Sizes.{OpenAtMost}
-use Rattle.selection_rules.specs.Select.{Named, scopes, params_from, with_params, width, width_bound, width_labels, bound_name, env_after, count_of, count_cases, raised_name, is_based, selected}
+use Rattle.selection_rules.specs.Select.{Named, scopes, params_from, with_params, width, width_bound, width_labels, bound_name, env_after, count_cases, raised_name, is_based, selected}
 use Rattle.selection_laws.specs.Fits.{FunctionFits}
 use Rattle.selection_laws.proofs.Accepting.{left as former, right as latter}
 use Rattle.selection_rules.proofs.Exits.{scopes_params, scopes_after}

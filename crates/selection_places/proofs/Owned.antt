@@ -17,7 +17,8 @@ use Rattle.cmm_types.proofs.Containing.{contains_head, contains_tail}
 use Rattle.mach_ir.specs.Placed.{colours}
 use Rattle.mach_ir.specs.Seats.{argument_places}
 use Rattle.mach_ir.specs.declared.reg.Reg.{Reg}
-use Rattle.selection_rules.specs.Select.{Named, scopes, fresh, seat, seats, result_seat, params_from, with_params, width, width_row, width_bound, width_labels, width_handlers, width_cases, count_of, count_cases, bound_name, env_after, regs_of, raised_name, is_based, base_of}
+use Rattle.selection_rules.specs.Select.{Named, scopes, fresh, seat, seats, result_seat, params_from, with_params, width, width_row, width_bound, width_labels, width_handlers, width_cases, count_cases, bound_name, env_after, regs_of, raised_name, is_based, base_of}
+use Rattle.cmm_tree.specs.Measures.{count_of}
 use Rattle.selection_places.proofs.Sets.{Role, Plain, New, Seated, PlaceOf, is_seated, Both, One, it, Listed, Block, block_in, block_few, block_from, block_then, block_one, no_block}
 use Rattle.selection_rules.proofs.Rows.{regs_length}
 use Rattle.selection_rules.proofs.Once.{row_sum, row_width}

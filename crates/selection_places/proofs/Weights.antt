@@ -25,7 +25,8 @@ use Rattle.mach_ir.specs.declared.op.Right.TheVariants as right
 use Rattle.mach_ir.specs.declared.reg.Reg.{Reg}
 use Rattle.selection_rules.specs.Instructions.{bare}
 use Rattle.selection_rules.specs.Instructions as emit
-use Rattle.selection_rules.specs.Select.{Code, Shape, InRegisters, ConstantRight, ConstantLeft, PowerRight, shape_of, shape_op, shape_right, shape_args, power_code, operator_code, Named, Label, scopes, reg_of, label_of, move_from, move_to, moves_all, exit_to, only_when, from_seat, symbol_of, callee_regs, right_of, bound_test, comparison, select_test, is_based, base_of, inner_dest, seat, select_base, call_of, count_of, count_cases, regs_of, width, width_row, width_bound, width_cases, width_handlers, width_labels, select, select_waiting, select_filled, select_bound, select_seq, select_cases, select_handlers, deeper, cell_stores, returns, selected, first, is_no_value, fresh, seats, result_seat}
+use Rattle.selection_rules.specs.Select.{Code, Shape, InRegisters, ConstantRight, ConstantLeft, PowerRight, shape_of, shape_op, shape_right, shape_args, power_code, operator_code, Named, Label, scopes, reg_of, label_of, move_from, move_to, moves_all, exit_to, only_when, from_seat, symbol_of, callee_regs, right_of, bound_test, comparison, select_test, is_based, base_of, inner_dest, seat, select_base, call_of, count_cases, regs_of, width, width_row, width_bound, width_cases, width_handlers, width_labels, select, select_waiting, select_filled, select_bound, select_seq, select_cases, select_handlers, deeper, cell_stores, returns, selected, first, is_no_value, fresh, seats, result_seat}
+use Rattle.cmm_tree.specs.Measures.{count_of}
 use Rattle.selection_places.proofs.Adds as adds
 use Rattle.selection_places.proofs.Adds.{Adds, part, part_both, now_of, later_of, in_parts}
 use Rattle.selection_rules.proofs.Once.{row_width}

@@ -22,7 +22,8 @@ use Rattle.mach_ir.specs.Runs.{Place, Continues}
 use Rattle.mach_ir.specs.Meaning.{State, File, with_held, on_act, put}
 use Rattle.mach_ir.specs.Acts.{Around, Goes, On, moved_by, access_act, stored_act, first_written, header_written, after_store, only_if, is_among, without, same_cell, cells_from}
 use Rattle.selection_rules.specs.Kept.{on_values}
-use Rattle.selection_rules.specs.Select.{Named, Label, scopes, fresh, inner_valued, inner_dest, regs_of, count_of, chunk_for, cell_stores, select, select_filled, width, header_offset}
+use Rattle.selection_rules.specs.Select.{Named, Label, scopes, fresh, inner_valued, inner_dest, regs_of, chunk_for, cell_stores, select, select_filled, width, header_offset}
+use Rattle.cmm_tree.specs.Measures.{count_of}
 use Rattle.selection_rules.specs.Follow.{Follows, walks, fails}
 use Rattle.selection_rules.proofs.Files.{Holds, put_same, holds_put, under_more, named_under, IsNamed, Stands, stands_put}
 use Rattle.selection_rules.proofs.Parts.{Placed, lower_more, Stable, stable_inner, new, And, stable_and, at, Level, any, After, after_typed, node_follows, Ready, lands}

@@ -29,7 +29,8 @@ use Rattle.mach_ir.specs.declared.mach.Instr.{Instr}
 use Rattle.mach_ir.specs.declared.mach.Mach.{Mach}
 use Rattle.selection_rules.specs.Instructions as emit
 use Rattle.selection_rules.specs.Kept.{on_values}
-use Rattle.selection_rules.specs.Select.{Named, Label, scopes, fresh, inner_valued, inner_dest, width, width_row, regs_of, count_of, only_when, seat, seats, result_seat, from_seat, moves_all, symbol_of, unless_symbol, callee_of, callee_regs, tail_result, call_of, select, select_filled}
+use Rattle.selection_rules.specs.Select.{Named, Label, scopes, fresh, inner_valued, inner_dest, width, width_row, regs_of, only_when, seat, seats, result_seat, from_seat, moves_all, symbol_of, unless_symbol, callee_of, callee_regs, tail_result, call_of, select, select_filled}
+use Rattle.cmm_tree.specs.Measures.{count_of}
 use Rattle.selection_rules.specs.Follow.{text_of, RaisesVal, Follows, walks, pays, fails, calls, replaces}
 use Rattle.selection_rules.specs.Follow as follow
 use Rattle.selection_rules.proofs.Files.{Holds, put_same, Low, survives_call, Under, under_more, IsNamed, named_under, Stands, stands_put, stands_survives, scope_is}

@@ -16,7 +16,8 @@ use Rattle.mach_ir.specs.declared.mach.Mach.{Mach}
 use Rattle.mach_ir.specs.Runs.{Place, Continues}
 use Rattle.mach_ir.specs.Meaning.{File, put_if, put_all, wrote, after_label}
 use Rattle.mach_ir.specs.Acts.{drop_tries}
-use Rattle.selection_rules.specs.Select.{Named, Label, scopes, fresh, width, regs_of, count_of, moves_all, exit_to, label_of, params_from, with_params, select, select_filled, env_after, bound_name}
+use Rattle.selection_rules.specs.Select.{Named, Label, scopes, fresh, width, regs_of, moves_all, exit_to, label_of, params_from, with_params, select, select_filled, env_after, bound_name}
+use Rattle.cmm_tree.specs.Measures.{count_of}
 use Rattle.std.specs.Prelude.{length}
 use Rattle.selection_rules.specs.Follow.{Follows, walks, jumps, jumps_wrong}
 use Rattle.selection_rules.proofs.Files.{Under, under_more, named_under, Stands, one, stands_put}

@@ -25,7 +25,8 @@ use Rattle.mach_ir.specs.Acts.{Around, if_known}
 use Rattle.selection_rules.specs.Bounded.{BoundedState}
 use Rattle.selection_rules.specs.Kept.{on_values}
 use Rattle.selection_rules.specs.Kept as machine
-use Rattle.selection_rules.specs.Select.{Shape, InRegisters, shape_of, operator_code, unless_left, unless_right, Named, Label, scopes, comp_of, fresh, reg_of, move_from, inner_dest, width, ordered, only_when, count_of, regs_of, select, select_filled}
+use Rattle.selection_rules.specs.Select.{Shape, InRegisters, shape_of, operator_code, unless_left, unless_right, Named, Label, scopes, comp_of, fresh, reg_of, move_from, inner_dest, width, ordered, only_when, regs_of, select, select_filled}
+use Rattle.cmm_tree.specs.Measures.{count_of}
 use Rattle.selection_rules.specs.Follow.{Follows, walks, pays, fails, no_words}
 use Rattle.selection_rules.proofs.Files.{Holds, put_same, Looked, unknown, known as a_known, looked_up as name_stands, Under, under_more, named_under, Stands, stands_put, scope_is, IsNamed}
 use Rattle.selection_rules.proofs.Parts.{new, Stable, stable_inner, stable_same, dest, And as Also, stable_and}

@@ -14,7 +14,8 @@ use Rattle.mach_ir.specs.declared.mach.Instr.{Instr}
 use Rattle.mach_ir.specs.declared.mach.Mach.{Mach}
 use Rattle.mach_ir.specs.Runs.{Place, Continues}
 use Rattle.mach_ir.specs.Meaning.{File, put, values, with_held}
-use Rattle.selection_rules.specs.Select.{Named, Label, scopes, fresh, width, regs_of, count_of, seat, seats, only_when, select, select_waiting, select_filled, width_row, result_seat}
+use Rattle.selection_rules.specs.Select.{Named, Label, scopes, fresh, width, regs_of, seat, seats, only_when, select, select_waiting, select_filled, width_row, result_seat}
+use Rattle.cmm_tree.specs.Measures.{count_of}
 use Rattle.selection_rules.specs.Follow.{Follows}
 use Rattle.selection_rules.proofs.Files.{Holds, put_same, holds_put, holds_survives, Survives, Under, under_more, named_under, Stands, scope_is}
 use Rattle.selection_rules.proofs.Parts.{Placed, placed_in, AllUnder, no_reg, a_reg, Lower, lower_more, Stable, stable_inner, stable_same, May, new, dest, name, at, Level, Outs}

@@ -15,6 +15,7 @@ use Rattle.bs_words.specs.declared.types.Ret.{Ret}
 use Rattle.bs_words.specs.declared.types.Ret.TheVariants as ret
 use Rattle.bs_words.specs.declared.types.Ty.{Ty}
 use Rattle.bs_words.specs.declared.types.Ty.TheVariants as ty
+use Rattle.cmm_tree.specs.Measures.{count_of}
 use Rattle.cmm_tree.specs.Tree.{FunctionTree, LabelTree, same_label, is_bare, Parameter, Declaration, Expression, Integer, Pointer, Symbol, Name, Nothing, Let, Assign, Operator, Load, Store, Alloc, App, Extcall, Checkbound, Raise, Seq, If, Switch, Catch, Exit, Try, Expressions, NoMore, More, Bindings, NoBinding, Bind, Cases, NoCase, Choose, Handlers, NoHandler, Handle}
 use Rattle.cmm_types.specs.Light.{is_light_address}
 use Rattle.cmm_types.specs.Types.{Scoped, type_of, type_bound, is_mutable, body_type, result_of}
@@ -415,10 +416,6 @@ chunk_for false = chunk.Int
 abbrev pub cell_stores : Chunk → Reg → ℕ → List Reg → Code
 cell_stores k p i [] next = next
 cell_stores k p i (r ∷ rs) next = emit.store k (8 * i) p r ∷ cell_stores k p (suc i) rs next
-
-abbrev pub count_of : Expressions → ℕ
-count_of NoMore = 0
-count_of (More e rest) = suc (count_of rest)
 
 -- so many numbers of registers and labels
 abbrev mutual

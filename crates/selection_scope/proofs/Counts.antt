@@ -3,7 +3,8 @@ use Rattle.std.proofs.Common.{◌≡◌, suc, List, [], ◌∷◌, length, refl,
 use Rattle.cmm_tree.specs.Rows.{row_of, cases_of}
 use Rattle.cmm_tree.specs.declared.expr.Case.{Case}
 use Rattle.cmm_tree.specs.declared.expr.Expr.{Expr}
-use Rattle.selection_rules.specs.Select.{count_cases, count_of}
+use Rattle.selection_rules.specs.Select.{count_cases}
+use Rattle.cmm_tree.specs.Measures.{count_of}
 
 pub count-cases : (xs : List Case) → count_cases (cases_of xs) ≡ length xs
 count-cases [] = refl

@@ -1,7 +1,7 @@
 -- How many numbers of registers and labels an expression may take, so that no sum of them passes 32 bits.
 use Rattle.std.specs.Prelude.{ℕ, ◌+◌, ◌<◌, max, List, [], ◌∷◌}
-use Rattle.cmm_tree.specs.Measures.{total, row_total, bindings_total, cases_total, handlers_total}
-use Rattle.cmm_tree.specs.Tree.{FunctionTree, Expression, Switch, Expressions, Bindings, Cases, Handlers}
+use Rattle.cmm_tree.specs.Measures.{total, row_total, bindings_total, cases_total, handlers_total, own_indexes}
+use Rattle.cmm_tree.specs.Tree.{FunctionTree, Expression, Expressions, Bindings, Cases, Handlers}
 use Rattle.selection_rules.specs.Select.{Label, selected, width}
 
 -- The numbers of a function are fewer, and with them the tries round a node and the indexes of its
@@ -13,11 +13,6 @@ most_numbers = 0x1FFFFFFF
 abbrev pub most_tries : List Label → ℕ
 most_tries [] = 0
 most_tries (t ∷ labels) = max t.tries (most_tries labels)
-
--- the indexes of a switch
-abbrev pub own_indexes : Expression → ℕ
-own_indexes (Switch at size_at size selector cases) = size
-own_indexes _ = 0
 
 -- those of all switches in it
 abbrev pub indexes_in : Expression → ℕ

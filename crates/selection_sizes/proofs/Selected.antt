@@ -4,17 +4,17 @@ use Rattle.bs_words.specs.declared.types.Comp.TheVariants as comp
 use Rattle.bs_words.specs.declared.types.Ret.{Ret}
 use Rattle.bs_words.specs.declared.types.Ret.TheVariants as ret
 use Rattle.bs_words.specs.declared.types.Ty.TheVariants as ty
-use Rattle.cmm_tree.specs.Measures.{row_total, bindings_total, cases_total, handlers_total, counts_one, nodes_in}
+use Rattle.cmm_tree.specs.Measures.{row_total, bindings_total, cases_total, handlers_total, counts_one, nodes_in, own_indexes, count_of}
 use Rattle.cmm_tree.specs.Tree.{FunctionTree, LabelTree, same_label, is_bare, Expression, Integer, Pointer, Symbol, Name, Nothing, Float, Let, Assign, Operator, Load, Store, Alloc, App, Extcall, Checkbound, Raise, Seq, If, Switch, Catch, Exit, Try, Expressions, NoMore, More, Bindings, NoBinding, Bind, Cases, NoCase, Choose, Handlers, NoHandler, Handle}
 use Rattle.cmm_types.specs.Light.{is_light_address}
 use Rattle.cmm_types.specs.Types.{result_of, body_type, type_of}
 use Rattle.cmm_meaning.specs.Evaluation.{is_left_first}
-use Rattle.correctness.specs.Measures.{indexes_of, is_frame_point, frame_points, switch_indexes, tries_in, tries_in_row, tries_in_bindings, tries_in_cases, tries_in_handlers, tries}
+use Rattle.correctness.specs.Measures.{is_frame_point, frame_points, switch_indexes, tries_in, tries_in_row, tries_in_bindings, tries_in_cases, tries_in_handlers, tries}
 use Rattle.mach_ir.specs.Sizes.{operand_count}
 use Rattle.mach_ir.specs.declared.mach.Test.TheVariants as test
 use Rattle.mach_ir.specs.declared.reg.Reg.{Reg}
 use Rattle.selection_rules.specs.Instructions as emit
-use Rattle.selection_rules.specs.Select.{Code, shape_of, shape_op, shape_right, Named, Label, scopes, reg_of, label_of, moves_all, exit_to, symbol_of, right_of, bound_test, comparison, is_based, seat, select_base, select_test, count_of, regs_of, select, select_waiting, select_filled, select_bound, select_seq, select_cases, select_handlers, deeper, labels_from, in_handlers, unless_bare, switch_labels, returns, selected, first, is_no_value, fresh, seats}
+use Rattle.selection_rules.specs.Select.{Code, shape_of, shape_op, shape_right, Named, Label, scopes, reg_of, label_of, moves_all, exit_to, symbol_of, right_of, bound_test, comparison, is_based, seat, select_base, select_test, regs_of, select, select_waiting, select_filled, select_bound, select_seq, select_cases, select_handlers, deeper, labels_from, in_handlers, unless_bare, switch_labels, returns, selected, first, is_no_value, fresh, seats}
 use Rattle.selection_rules.proofs.Rows.{regs_length, seats_length}
 use Rattle.selection_rules.proofs.Exits.{params_length}
 use Rattle.selection_places.proofs.Whole.{moved_at, value_at, params_of, env_of}
@@ -210,7 +210,7 @@ mutual
 
   w_cases : (k : ℕ) (env : List Named) (labels : List Label) (valued tail : Bool) (d : Reg) (all : List ℕ) (end l b : ℕ) (cs : Cases) → Shallow k labels →
       k + tries_in_cases cs ≤ 250 →
-      Weighs (640 * cases_total counts_one cs + 4 * cases_total indexes_of cs) (cases_total is_frame_point cs)
+      Weighs (640 * cases_total counts_one cs + 4 * cases_total own_indexes cs) (cases_total is_frame_point cs)
       (select_cases env labels valued tail d all end l b cs)
   w_cases k env labels valued tail d all end l b NoCase s few = w_up (omega arith) (omega arith) w_none
   w_cases k env labels valued tail d all end l b (Choose indexes body rest) s few =
@@ -236,7 +236,7 @@ mutual
       (w_select k env labels false false _ i e s (omega (arith, few)))))
 
   w_bound : (k : ℕ) (env : List Named) (labels : List Label) (b : ℕ) (bs : Bindings) → Shallow k labels → k + tries_in_bindings bs ≤ 250 →
-      Weighs (640 * bindings_total counts_one bs + 4 * bindings_total indexes_of bs) (bindings_total is_frame_point bs) (select_bound env labels b bs)
+      Weighs (640 * bindings_total counts_one bs + 4 * bindings_total own_indexes bs) (bindings_total is_frame_point bs) (select_bound env labels b bs)
   w_bound k env labels b NoBinding s few = w_up (omega arith) (omega arith) w_none
   w_bound k env labels b (Bind at name declared e rest) s few =
       w_up (omega arith) (omega arith)
@@ -244,7 +244,7 @@ mutual
 
   w_seq : (k : ℕ) (env : List Named) (labels : List Label) (valued tail : Bool) (d : Reg) (b : ℕ) (es : Expressions) → Shallow k labels →
       k + tries_in_row es ≤ 250 →
-      Weighs (640 * row_total counts_one es + 4 * row_total indexes_of es) (row_total is_frame_point es) (select_seq env labels valued tail d b es)
+      Weighs (640 * row_total counts_one es + 4 * row_total own_indexes es) (row_total is_frame_point es) (select_seq env labels valued tail d b es)
   w_seq k env labels valued tail d b NoMore s few = w_up (omega arith) (omega arith) w_none
   w_seq k env labels valued tail d b (More e NoMore) s few =
       w_up (omega arith) (omega arith) (w_select k env labels valued tail d (suc b) e s (omega (arith, few)))
@@ -254,7 +254,7 @@ mutual
 
   w_handlers : (k : ℕ) (env : List Named) (labels : List Label) (valued tail : Bool) (d : Reg) (end l b : ℕ) (hs : Handlers) → Shallow k labels →
       k + tries_in_handlers hs ≤ 250 →
-      Weighs (640 * handlers_total counts_one hs + 4 * handlers_total indexes_of hs) (handlers_total is_frame_point hs)
+      Weighs (640 * handlers_total counts_one hs + 4 * handlers_total own_indexes hs) (handlers_total is_frame_point hs)
       (select_handlers env labels valued tail d end l b hs)
   w_handlers k env labels valued tail d end l b NoHandler s few = w_up (omega arith) (omega arith) w_none
   w_handlers k env labels valued tail d end l b (Handle at label params body rest) s few =

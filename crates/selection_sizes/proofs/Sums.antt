@@ -1,14 +1,13 @@
 -- What an expression may weigh, and what a row of operands may, in two parts.
 use Rattle.std.proofs.Common.{◌≡◌, ℕ, ◌+◌, ◌-◌, ◌*◌, ◌≤◌, arith}
-use Rattle.cmm_tree.specs.Measures.{total, row_total, counts_one, nodes_in}
+use Rattle.cmm_tree.specs.Measures.{total, row_total, counts_one, nodes_in, own_indexes, count_of}
 use Rattle.cmm_tree.specs.Tree.{Expression, Integer, Pointer, Symbol, Name, Nothing, Float, Let, Assign, Operator, Load, Store, Alloc, App, Extcall, Checkbound, Raise, Seq, If, Switch, Catch, Exit, Try, Expressions, NoMore, More}
-use Rattle.correctness.specs.Measures.{indexes_of, is_frame_point}
+use Rattle.correctness.specs.Measures.{is_frame_point}
 use Rattle.selection_places.proofs.Adds.{sum_of, sum_total}
-use Rattle.selection_rules.specs.Select.{count_of}
 
 -- a hundred words of it are left for what puts it to use
 abbrev pub most : Expression → ℕ
-most e = 640 * nodes_in e + 4 * total indexes_of e - 100
+most e = 640 * nodes_in e + 4 * total own_indexes e - 100
 
 abbrev pub points : Expression → ℕ
 points e = total is_frame_point e
@@ -42,7 +41,7 @@ some_nodes (Try at body name_at name handler) = omega arith
 pub row_points : (es : Expressions) → sum_of points es ≡ row_total is_frame_point es
 row_points es = sum_total is_frame_point es
 
-pub row_most : (es : Expressions) → sum_of most es + 100 * count_of es ≤ 640 * row_total counts_one es + 4 * row_total indexes_of es
+pub row_most : (es : Expressions) → sum_of most es + 100 * count_of es ≤ 640 * row_total counts_one es + 4 * row_total own_indexes es
 row_most NoMore = omega arith
 row_most (More e rest) =
     let others = row_most rest in

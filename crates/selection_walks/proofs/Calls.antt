@@ -7,6 +7,7 @@ use Rattle.bs_words.specs.declared.types.Ret.TheVariants as ret
 use Rattle.bs_words.specs.declared.types.Ty.TheVariants as ty
 use Rattle.bs_fault.specs.Reported.{Faultless}
 use Rattle.cmm_tree.specs.Symbols.{DefinedSymbol}
+use Rattle.cmm_tree.specs.Measures.{count_of}
 use Rattle.cmm_tree.specs.Tree.{Expression, Symbol, Expressions, More}
 use Rattle.cmm_types.specs.Light.{is_light_address}
 use Rattle.cmm_types.specs.Types.{Scoped, type_of}
@@ -42,14 +43,14 @@ module _ (m : Mach) (n : ℕ) (defined : List ℕ → Option DefinedSymbol) wher
   abbrev pub Waits : Expressions → Type 0
   Waits es =
       (k : ℕ) (ts : List ℕ) (w : Option ℕ) (b slot : ℕ) (env : List Named) (scope : List Slotted) (labels : List Label) (vis : List Visible) (r : Role)
-      (i free : ℕ) → Takes r → b + walk.count es ≤ i → slot + walk.count es ≤ free → Scene m n w b slot env scope labels vis →
+      (i free : ℕ) → Takes r → b + count_of es ≤ i → slot + count_of es ≤ free → Scene m n w b slot env scope labels vis →
       Faultless (row_faults r defined (scopes env) vis es) → RowFits (scopes env) es →
       Step m n k ts labels w (waited n (scopes env) b slot es w) (select_waiting env labels b i es) (walk.waiting scope free slot es)
 
   abbrev pub Fills : Expressions → Type 0
   Fills es =
       (k : ℕ) (ts : List ℕ) (w : Option ℕ) (b slot : ℕ) (env : List Named) (scope : List Slotted) (labels : List Label) (vis : List Visible) (r : Role)
-      (i free : ℕ) → Takes r → b + walk.count es ≤ i → slot + walk.count es ≤ free → Scene m n w b slot env scope labels vis →
+      (i free : ℕ) → Takes r → b + count_of es ≤ i → slot + count_of es ≤ free → Scene m n w b slot env scope labels vis →
       Faultless (row_faults r defined (scopes env) vis es) → RowFits (scopes env) es →
       Step m n k ts labels (waited n (scopes env) b slot es w) (all_held n b slot es w) (select_filled env labels b i es) (walk.filled scope free slot es)
 
@@ -96,13 +97,13 @@ module _ (m : Mach) (n : ℕ) (defined : List ℕ → Option DefinedSymbol) wher
 
   -- all operands of a row
   pub row_steps : {k : ℕ} {ts : List ℕ} {w : Option ℕ} {b slot : ℕ} {env : List Named} {scope : List Slotted} {labels : List Label} {vis : List Visible}
-      (es : Expressions) → Waits es → Fills es → (r : Role) (i : ℕ) → Takes r → b + walk.count es ≤ i → Scene m n w b slot env scope labels vis →
+      (es : Expressions) → Waits es → Fills es → (r : Role) (i : ℕ) → Takes r → b + count_of es ≤ i → Scene m n w b slot env scope labels vis →
       Faultless (row_faults r defined (scopes env) vis es) → RowFits (scopes env) es →
       Step m n k ts labels w (all_held n b slot es w) (λ next. select_waiting env labels b i es (select_filled env labels b i es next))
       (all_operands scope slot es)
   row_steps {k} {ts} {w} {b} {slot} {env} {scope} {labels} {vis} es waits fills r i taking li at ff fits =
-      joined m n (waits k ts w b slot env scope labels vis r i (slot + walk.count es) taking li (omega arith) at ff fits)
-      (fills k ts w b slot env scope labels vis r i (slot + walk.count es) taking li (omega arith) at ff fits)
+      joined m n (waits k ts w b slot env scope labels vis r i (slot + count_of es) taking li (omega arith) at ff fits)
+      (fills k ts w b slot env scope labels vis r i (slot + count_of es) taking li (omega arith) at ff fits)
 
   -- what a callee holds
   abbrev callee_holds : Option (List ℕ) → ℕ → ℕ → Option ℕ → Option ℕ
@@ -119,7 +120,7 @@ module _ (m : Mach) (n : ℕ) (defined : List ℕ → Option DefinedSymbol) wher
 
   pub call_steps : {k : ℕ} {ts : List ℕ} {w : Option ℕ} {b slot : ℕ} {env : List Named} {scope : List Slotted} {labels : List Label} {vis : List Visible}
       (callee : Expression) (es : Expressions) → Claim m n defined true callee → Waits es → Fills es → (r : Role) (base : ℕ) → Takes r →
-      suc b + walk.count es ≤ base → Scene m n w b slot env scope labels vis →
+      suc b + count_of es ≤ base → Scene m n w b slot env scope labels vis →
       Faultless (faults_in defined (scopes env) vis callee) → Fits (scopes env) callee → (type_of (scopes env) callee ≡ ty.NoValue → ⊥) →
       Faultless (row_faults r defined (scopes env) vis es) → RowFits (scopes env) es → (o : Option (List ℕ)) → symbol_of callee ≡ o →
       Step m n k ts labels w (all_held n (suc b) (suc slot) es (callee_holds o b slot w))
@@ -141,7 +142,7 @@ module _ (m : Mach) (n : ℕ) (defined : List ℕ → Option DefinedSymbol) wher
       (sym (paired_names at.paired)) (by o e)
     where
       free : ℕ
-      free = slot + suc (walk.count es)
+      free = slot + suc (count_of es)
 
       W : (u : Option ℕ) → Scene m n u (suc b) (suc slot) env scope labels vis →
           Step m n k ts labels u (waited n (scopes env) (suc b) (suc slot) es u) (select_waiting env labels (suc b) (base + width callee) es)
@@ -227,7 +228,7 @@ module _ (m : Mach) (n : ℕ) (defined : List ℕ → Option DefinedSymbol) wher
   given_on want (ret.Comp c) g d f x apart high = move_on m n want (seat 0 g c) d x apart high
 
   args_stand : {w : Option ℕ} {slot : ℕ} (env : List Named) (es : Expressions) (b : ℕ) → Low n w b slot → Among n (regs_of env b es) →
-      Stood (all_held n b slot es w) slot (walk.count es)
+      Stood (all_held n b slot es w) slot (count_of es)
   args_stand {w} {slot} env es b low a = row_stands env es b slot w low a
 
   stood_later : {v : Option ℕ} {slot count : ℕ} → Stood v (suc slot) count → Stood v slot (suc count)
@@ -240,14 +241,14 @@ module _ (m : Mach) (n : ℕ) (defined : List ℕ → Option DefinedSymbol) wher
       Sit m n (out m n want d) k w ts labels next tasks → ApartFrom m n d w → OutsOf m n k w ts labels (called frame at ++ tasks) →
       Sit m n [] k (all_held n b slot es w) ts labels (moves_all (regs_of env b es) (seats 0 seated (regs_of env b es))
       (emit.external name comps result frame (seats 0 seated (regs_of env b es)) (result_seat given result) ∷ from_seat given result d next))
-      (takes at slot (walk.count es) ++ (called frame at ++ tasks))
+      (takes at slot (count_of es) ++ (called frame at ++ tasks))
   external_sit {w = w} {b = b} {slot = slot} {tasks = tasks} want at frame name comps result env es seated given d low ls lg unit x apart o =
       moves_sit m n (regs_of env b es) (seats 0 seated (regs_of env b es)) _ (sym (seats_length 0 seated (regs_of env b es)))
       (calling m n (emit.external name comps result frame (seats 0 seated (regs_of env b es)) (result_seat given result)) refl (λ next. refl) refl
       (given_on want result given d unit x apart (λ e. low_none low (omega (arith, e, lg)))) (meets_external frame at refl refl)
-      ((held_row n b slot es).kept w low) at slot (walk.count es)
+      ((held_row n b slot es).kept w low) at slot (count_of es)
       (λ a f. absurd (f a)) (λ a. let l = seats_high 0 seated (regs_of env b es) a in low_none low (omega (arith, l, ls))) o)
-      (λ a. used_by m n (called frame at ++ tasks) at slot (walk.count es) (args_stand env es b low a))
+      (λ a. used_by m n (called frame at ++ tasks) at slot (count_of es) (args_stand env es b low a))
 
   -- the call of a function, in tail position or not
   pub call_sit : {k : ℕ} {ts : List ℕ} {w : Option ℕ} {b slot : ℕ} {labels : List Label} {next : List Instr} {tasks : List Task} (want : Bool) (at : ℕ)
@@ -258,10 +259,10 @@ module _ (m : Mach) (n : ℕ) (defined : List ℕ → Option DefinedSymbol) wher
       Sit m n [] k (all_held n (suc b) (suc slot) es (callee_holds o b slot w)) ts labels
       (moves_all (regs_of env (suc b) es) (seats 0 seated (regs_of env (suc b) es))
       (call_of tail wants result o f (seats 0 seated (regs_of env (suc b) es)) given d next))
-      (takes at slot (suc (walk.count es)) ++ (called true at ++ tasks))
+      (takes at slot (suc (count_of es)) ++ (called true at ++ tasks))
   call_sit {k} {ts} {w} {b} {slot} {labels} {next} {tasks} want at tail wants result o f env es seated given d fb low ls lg unit x apart outs =
       moves_sit m n regs args _ (sym (seats_length 0 seated regs)) (by tail)
-      (λ a. used_by m n (called true at ++ tasks) at slot (suc (walk.count es)) (stood_later (args_stand env es (suc b) (inner_low o) a)))
+      (λ a. used_by m n (called true at ++ tasks) at slot (suc (count_of es)) (stood_later (args_stand env es (suc b) (inner_low o) a)))
     where
       regs : List Reg
       regs = regs_of env (suc b) es
@@ -281,7 +282,7 @@ module _ (m : Mach) (n : ℕ) (defined : List ℕ → Option DefinedSymbol) wher
       all_keeps = kept_then (keeps o) ((held_row n (suc b) (suc slot) es).kept (callee_holds o b slot w) (inner_low o))
 
       reads : (o : Option (List ℕ)) → Among n (callee_regs o f ++ args) → (Among n args → ⊥) →
-          Stood (all_held n (suc b) (suc slot) es (callee_holds o b slot w)) slot (suc (walk.count es))
+          Stood (all_held n (suc b) (suc slot) es (callee_holds o b slot w)) slot (suc (count_of es))
       reads (Some name) a g = absurd (g a)
       reads None (later a) g = absurd (g a)
       reads None (first e) g =
@@ -297,8 +298,8 @@ module _ (m : Mach) (n : ℕ) (defined : List ℕ → Option DefinedSymbol) wher
       high a = let l = seats_high 0 seated regs a in low_none low (omega (arith, l, ls))
 
       by : (tail : Bool) → Sit m n args k (all_held n (suc b) (suc slot) es (callee_holds o b slot w)) ts labels
-          (call_of tail wants result o f args given d next) (takes at slot (suc (walk.count es)) ++ (called true at ++ tasks))
-      by true = leaving m n _ refl refl refl all_keeps at slot (suc (walk.count es)) (reads o) high (λ e. absurd (true≢false (sym e))) outs
+          (call_of tail wants result o f args given d next) (takes at slot (suc (count_of es)) ++ (called true at ++ tasks))
+      by true = leaving m n _ refl refl refl all_keeps at slot (suc (count_of es)) (reads o) high (λ e. absurd (true≢false (sym e))) outs
       by false =
           calling m n _ refl (λ next. refl) refl (given_on want result given d unit x apart (λ e. low_none low (omega (arith, e, lg))))
-          (raises_there at) all_keeps at slot (suc (walk.count es)) (reads o) high outs
+          (raises_there at) all_keeps at slot (suc (count_of es)) (reads o) high outs

@@ -24,14 +24,15 @@ use Rattle.mach_ir.specs.declared.mach.Instr.{Instr}
 use Rattle.mach_ir.specs.declared.mach.Mach.{Mach}
 use Rattle.mach_ir.specs.declared.reg.Reg.{Reg}
 use Rattle.selection_rules.specs.Instructions as emit
-use Rattle.selection_rules.specs.Select.{shape_of, unless_left, unless_right, ordered, Named, Label, scopes, comp_of, fresh, reg_of, label_of, count_of, regs_of, symbol_of, seat, exit_to, inner_dest, inner_valued, bound_name, env_after, header_offset, chunk_for, width, width_bound, select, select_bound, select_seq, select_waiting, select_filled}
+use Rattle.selection_rules.specs.Select.{shape_of, unless_left, unless_right, ordered, Named, Label, scopes, comp_of, fresh, reg_of, label_of, regs_of, symbol_of, seat, exit_to, inner_dest, inner_valued, bound_name, env_after, header_offset, chunk_for, width, width_bound, select, select_bound, select_seq, select_waiting, select_filled}
+use Rattle.cmm_tree.specs.Measures.{count_of}
 use Rattle.selection_rules.proofs.Parts.{WellLabelled}
 use Rattle.selection_laws.proofs.Accepting.{left, right}
 use Rattle.selection_laws.specs.Fits.{Fits, RowFits, BindingsFit}
 use Rattle.selection_walks.proofs.Phases.{Kept, kept_same, kept_then}
 use Rattle.selection_walks.proofs.Situations.{hold, hold_same, hold_other, hold_kept, low_none, low_more, same_or, pair, paired_names, paired_more, looked, OutsOf, outs_kept, Sit, quiet_sit, no_among, one_number, out, Wanted, ApartFrom, inner, inner_apart, binding}
 use Rattle.selection_walks.proofs.Floats.{has_one}
-use Rattle.selection_walks.proofs.Operands.{has_value, waited, all_held, held_row, row_stands, hold_next, Step, nothing, whole, outs_over, Scene, at_more, Claim, of_claim, count_same}
+use Rattle.selection_walks.proofs.Operands.{has_value, waited, all_held, held_row, row_stands, hold_next, Step, nothing, whole, outs_over, Scene, at_more, Claim, of_claim}
 use Rattle.selection_walks.proofs.Finals.{IsPlain, ended, used_by, outs_takes, takes_raising, takes_exiting, plain_move, moves_sit}
 use Rattle.selection_walks.proofs.Pairs.{power_int, one_arg, coded, single_stands, shape_end}
 use Rattle.selection_walks.proofs.Calls.{Waits, Fills, waits_more, fills_more, row_steps, call_steps, call_sit, external_sit}
@@ -153,11 +154,11 @@ module _ (m : Mach) (n : ℕ) (defined : List ℕ → Option DefinedSymbol) wher
   app_form : (at : ℕ) (callee : Expression) (es : Expressions) (result : Ret) (result_at : ℕ) → Claim m n defined true callee → Waits m n defined es →
       Fills m n defined es → Claims (App at callee es result result_at)
   app_form place callee es result result_at claim waits fills want k ts w b slot env scope labels vis next tasks valued tail d at ff fits value apart below y =
-      whole m n (App place callee es result result_at) (takes place slot (suc (walk.count es)) ++ called true place) refl
-      (call_steps m n defined callee es claim waits fills role.Taken base tt (omega (arith, counts)) (at_more m n (omega arith) (omega arith) at)
+      whole m n (App place callee es result result_at) (takes place slot (suc (count_of es)) ++ called true place) refl
+      (call_steps m n defined callee es claim waits fills role.Taken base tt (omega arith) (at_more m n (omega arith) (omega arith) at)
       (left (left (right ff))) fits.1.0 (has_value role.Taken tt _ _ (right (left (right ff)))) (right (right ff)) fits.1.1 (symbol_of callee) refl) y.outs
       (outs_behind y.outs)
-      (same_tasks (sym (append_assoc (takes place slot (suc (walk.count es))) (called true place) tasks))
+      (same_tasks (sym (append_assoc (takes place slot (suc (count_of es))) (called true place) tasks))
       (call_sit m n defined want place tail (inner_valued valued T) result (symbol_of callee) (fresh (suc b) (type_of (scopes env) callee)) env es
       (suc (suc b) + count_of es) (suc (suc b) + count_of es + count_of es) (inner_dest T b d) refl (low_more (omega arith) (omega arith) at.low)
       (omega arith) (omega arith)
@@ -171,23 +172,20 @@ module _ (m : Mach) (n : ℕ) (defined : List ℕ → Option DefinedSymbol) wher
       base : ℕ
       base = suc (suc (suc b) + count_of es + count_of es)
 
-      counts : count_of es ≡ walk.count es
-      counts = count_same es
-
-      outs_behind : OutsOf m n k w ts labels tasks → OutsOf m n k w ts labels ((takes place slot (suc (walk.count es)) ++ called true place) ++ tasks)
+      outs_behind : OutsOf m n k w ts labels tasks → OutsOf m n k w ts labels ((takes place slot (suc (count_of es)) ++ called true place) ++ tasks)
       outs_behind o =
-          outs_over m n (ap behind_raise (append_assoc (takes place slot (suc (walk.count es))) (called true place) tasks) ∙ takes_raising place slot
-          (suc (walk.count es)) (called true place ++ tasks))
-          (λ label. ap (behind_exit label) (append_assoc (takes place slot (suc (walk.count es))) (called true place) tasks) ∙ takes_exiting place slot
-          (suc (walk.count es)) (called true place ++ tasks) label) o
+          outs_over m n (ap behind_raise (append_assoc (takes place slot (suc (count_of es))) (called true place) tasks) ∙ takes_raising place slot
+          (suc (count_of es)) (called true place ++ tasks))
+          (λ label. ap (behind_exit label) (append_assoc (takes place slot (suc (count_of es))) (called true place) tasks) ∙ takes_exiting place slot
+          (suc (count_of es)) (called true place ++ tasks) label) o
 
   extcall_form : (at : ℕ) (frame : Bool) (name : List ℕ) (es : Expressions) (result : Ret) (result_at : ℕ) → Waits m n defined es → Fills m n defined es →
       Claims (Extcall at frame name es result result_at)
   extcall_form place frame name es result result_at waits fills want k ts w b slot env scope labels vis next tasks valued tail d at ff fits value apart below y =
-      whole m n (Extcall place frame name es result result_at) (takes place slot (walk.count es) ++ called frame place) refl
-      (row_steps m n defined es waits fills role.Outer (suc (suc b + count_of es + count_of es)) tt (omega (arith, counts))
+      whole m n (Extcall place frame name es result result_at) (takes place slot (count_of es) ++ called frame place) refl
+      (row_steps m n defined es waits fills role.Outer (suc (suc b + count_of es + count_of es)) tt (omega arith)
       (at_more m n (omega arith) (omega arith) at) (right ff) fits.1.1) y.outs (outs_behind y.outs)
-      (same_tasks (sym (append_assoc (takes place slot (walk.count es)) (called frame place) tasks))
+      (same_tasks (sym (append_assoc (takes place slot (count_of es)) (called frame place) tasks))
       (external_sit m n defined want place frame name (comps_of_arguments (scopes env) es) result env es (suc b + count_of es)
       (suc b + count_of es + count_of es)
       (inner_dest T b d) (low_more (omega arith) (omega arith) at.low) (omega arith) (omega arith)
@@ -198,30 +196,24 @@ module _ (m : Mach) (n : ℕ) (defined : List ℕ → Option DefinedSymbol) wher
       T : Ty
       T = type_of (scopes env) (Extcall place frame name es result result_at)
 
-      counts : count_of es ≡ walk.count es
-      counts = count_same es
-
       outs_called : (f : Bool) → OutsOf m n k w ts labels tasks → OutsOf m n k w ts labels (called f place ++ tasks)
       outs_called true o = o
       outs_called false o = o
 
-      outs_behind : OutsOf m n k w ts labels tasks → OutsOf m n k w ts labels ((takes place slot (walk.count es) ++ called frame place) ++ tasks)
+      outs_behind : OutsOf m n k w ts labels tasks → OutsOf m n k w ts labels ((takes place slot (count_of es) ++ called frame place) ++ tasks)
       outs_behind o =
-          outs_over m n (ap behind_raise (append_assoc (takes place slot (walk.count es)) (called frame place) tasks) ∙ takes_raising place slot (walk.count es)
+          outs_over m n (ap behind_raise (append_assoc (takes place slot (count_of es)) (called frame place) tasks) ∙ takes_raising place slot (count_of es)
           (called frame place ++ tasks))
-          (λ label. ap (behind_exit label) (append_assoc (takes place slot (walk.count es)) (called frame place) tasks) ∙ takes_exiting place slot
-          (walk.count es)
+          (λ label. ap (behind_exit label) (append_assoc (takes place slot (count_of es)) (called frame place) tasks) ∙ takes_exiting place slot
+          (count_of es)
           (called frame place ++ tasks) label) (outs_called frame o)
 
   exit_form : (at label_at : ℕ) (label : LabelTree) (es : Expressions) → Waits m n defined es → Fills m n defined es → Claims (Exit at label_at label es)
   exit_form place label_at label es waits fills want k ts w b slot env scope labels vis next tasks valued tail d at ff fits value apart below y =
-      whole m n (Exit place label_at label es) (takes place slot (walk.count es) ++ (Exits label ∷ [])) refl
-      (row_steps m n defined es waits fills role.Taken (suc b + count_of es) tt (omega (arith, counts)) scene (right ff) fits) y.outs (outs_behind y.outs)
-      (same_tasks (sym (append_assoc (takes place slot (walk.count es)) (Exits label ∷ []) tasks)) (by (label_of labels label) x.is))
+      whole m n (Exit place label_at label es) (takes place slot (count_of es) ++ (Exits label ∷ [])) refl
+      (row_steps m n defined es waits fills role.Taken (suc b + count_of es) tt (omega arith) scene (right ff) fits) y.outs (outs_behind y.outs)
+      (same_tasks (sym (append_assoc (takes place slot (count_of es)) (Exits label ∷ []) tasks)) (by (label_of labels label) x.is))
     where
-      counts : count_of es ≡ walk.count es
-      counts = count_same es
-
       scene : Scene m n w (suc b) slot env scope labels vis
       scene = at_more m n (omega arith) (omega arith) at
 
@@ -232,32 +224,32 @@ module _ (m : Mach) (n : ℕ) (defined : List ℕ → Option DefinedSymbol) wher
       keeps = (held_row n (suc b) slot es).kept w scene.low
 
       by : (o : Option Label) → o ≡ Some x.t → Sit m n [] k (all_held n (suc b) slot es w) ts labels (exit_to o (regs_of env (suc b) es) next) (takes place slot
-          (walk.count es) ++ (Exits label ∷ tasks))
+          (count_of es) ++ (Exits label ∷ tasks))
       by o e =
           subst (λ u. Sit m n [] k (all_held n (suc b) slot es w) ts labels (exit_to u (regs_of env (suc b) es) next)
-          (takes place slot (walk.count es) ++ (Exits label ∷ tasks))) (sym e)
+          (takes place slot (count_of es) ++ (Exits label ∷ tasks))) (sym e)
           (moves_sit m n (regs_of env (suc b) es) x.t.params _ (regs_length env (suc b) es ∙ sym (row_count es) ∙ sym x.arity)
-          (takes_sit m n place slot (walk.count es) keeps (exit_sit m n label x.t x.is y.outs))
-          (λ a. used_by m n (Exits label ∷ tasks) place slot (walk.count es) (row_stands env es (suc b) slot w scene.low a)))
+          (takes_sit m n place slot (count_of es) keeps (exit_sit m n label x.t x.is y.outs))
+          (λ a. used_by m n (Exits label ∷ tasks) place slot (count_of es) (row_stands env es (suc b) slot w scene.low a)))
 
-      outs_behind : OutsOf m n k w ts labels tasks → OutsOf m n k w ts labels ((takes place slot (walk.count es) ++ (Exits label ∷ [])) ++ tasks)
+      outs_behind : OutsOf m n k w ts labels tasks → OutsOf m n k w ts labels ((takes place slot (count_of es) ++ (Exits label ∷ [])) ++ tasks)
       outs_behind o =
-          outs_over m n (ap behind_raise (append_assoc (takes place slot (walk.count es)) (Exits label ∷ []) tasks) ∙ takes_raising place slot (walk.count es)
+          outs_over m n (ap behind_raise (append_assoc (takes place slot (count_of es)) (Exits label ∷ []) tasks) ∙ takes_raising place slot (count_of es)
           (Exits label ∷ tasks))
-          (λ l. ap (behind_exit l) (append_assoc (takes place slot (walk.count es)) (Exits label ∷ []) tasks) ∙ takes_exiting place slot (walk.count es)
+          (λ l. ap (behind_exit l) (append_assoc (takes place slot (count_of es)) (Exits label ∷ []) tasks) ∙ takes_exiting place slot (count_of es)
           (Exits label ∷ tasks) l) o
 
   alloc_form : (at header_at header : ℕ) (es : Expressions) → Waits m n defined es → Fills m n defined es → Claims (Alloc at header_at header es)
   alloc_form place header_at header es waits fills want k ts w b slot env scope labels vis next tasks valued tail d at ff fits value apart below y =
-      whole m n (Alloc place header_at header es) (Does (Passes place) ∷ (walk.filled scope free slot es ++ takes place slot (walk.count es))) refl wait y.outs
+      whole m n (Alloc place header_at header es) (Does (Passes place) ∷ (walk.filled scope free slot es ++ takes place slot (count_of es))) refl wait y.outs
       (outs_behind y.outs)
-      (same_tasks (ap (λ us. Does (Passes place) ∷ us) (sym (append_assoc (walk.filled scope free slot es) (takes place slot (walk.count es)) tasks)))
+      (same_tasks (ap (λ us. Does (Passes place) ∷ us) (sym (append_assoc (walk.filled scope free slot es) (takes place slot (count_of es)) tasks)))
       (alloc_sit m n place _ p refl (outs_kept m n wait.keeps (outs_filled y.outs))
       (λ away. header_sit m n header header_offset p q away refl
-      (fill.run _ (takes place slot (walk.count es) ++ tasks) (outs_kept m n wait.keeps (outs_takes m n tasks place slot (walk.count es) y.outs))
+      (fill.run _ (takes place slot (count_of es) ++ tasks) (outs_kept m n wait.keeps (outs_takes m n tasks place slot (count_of es) y.outs))
       (cells_sit m n (chunk_for (nat_le (header % 256) 250)) p 0 (regs_of env row es) away
-      (λ a. used_by m n tasks place slot (walk.count es) (row_stands env es row slot w scene.low a))
-      (ended m n want d' _ (plain_move m n p d') refl place slot (walk.count es) (kept_then wait.keeps fill.keeps) (λ a. absurd (away (one_number m n a)))
+      (λ a. used_by m n tasks place slot (count_of es) (row_stands env es row slot w scene.low a))
+      (ended m n want d' _ (plain_move m n p d') refl place slot (count_of es) (kept_then wait.keeps fill.keeps) (λ a. absurd (away (one_number m n a)))
       (inner_apart m n T b d at.low apart)
       (inner m n want T b d (wanted_typed m n want (holds_float (Alloc place header_at header es)) ty.Val value) y)))))))
     where
@@ -277,30 +269,27 @@ module _ (m : Mach) (n : ℕ) (defined : List ℕ → Option DefinedSymbol) wher
       row = suc (suc (suc b))
 
       free : ℕ
-      free = slot + walk.count es
-
-      counts : count_of es ≡ walk.count es
-      counts = count_same es
+      free = slot + count_of es
 
       scene : Scene m n w row slot env scope labels vis
       scene = at_more m n (omega arith) (omega arith) at
 
       wait : Step m n k ts labels w (waited n (scopes env) row slot es w) (select_waiting env labels row (row + count_of es) es)
           (walk.waiting scope free slot es)
-      wait = waits k ts w row slot env scope labels vis role.Taken (row + count_of es) free tt (omega (arith, counts)) (omega arith) scene (right ff) fits.1.1
+      wait = waits k ts w row slot env scope labels vis role.Taken (row + count_of es) free tt (omega arith) (omega arith) scene (right ff) fits.1.1
 
       fill : Step m n k ts labels (waited n (scopes env) row slot es w) (all_held n row slot es w) (select_filled env labels row (row + count_of es) es)
           (walk.filled scope free slot es)
-      fill = fills k ts w row slot env scope labels vis role.Taken (row + count_of es) free tt (omega (arith, counts)) (omega arith) scene (right ff) fits.1.1
+      fill = fills k ts w row slot env scope labels vis role.Taken (row + count_of es) free tt (omega arith) (omega arith) scene (right ff) fits.1.1
 
-      outs_filled : OutsOf m n k w ts labels tasks → OutsOf m n k w ts labels (walk.filled scope free slot es ++ (takes place slot (walk.count es) ++ tasks))
-      outs_filled o = outs_over m n (fill.raising (takes place slot (walk.count es) ++ tasks)) (λ l. fill.exiting l (takes place slot (walk.count es) ++ tasks))
-          (outs_takes m n tasks place slot (walk.count es) o)
+      outs_filled : OutsOf m n k w ts labels tasks → OutsOf m n k w ts labels (walk.filled scope free slot es ++ (takes place slot (count_of es) ++ tasks))
+      outs_filled o = outs_over m n (fill.raising (takes place slot (count_of es) ++ tasks)) (λ l. fill.exiting l (takes place slot (count_of es) ++ tasks))
+          (outs_takes m n tasks place slot (count_of es) o)
 
       outs_behind : OutsOf m n k w ts labels tasks → OutsOf m n k w ts labels
-          ((Does (Passes place) ∷ (walk.filled scope free slot es ++ takes place slot (walk.count es))) ++ tasks)
-      outs_behind o = outs_over m n (ap behind_raise (append_assoc (walk.filled scope free slot es) (takes place slot (walk.count es)) tasks)) (λ l. ap
-          (behind_exit l) (append_assoc (walk.filled scope free slot es) (takes place slot (walk.count es)) tasks)) (outs_filled o)
+          ((Does (Passes place) ∷ (walk.filled scope free slot es ++ takes place slot (count_of es))) ++ tasks)
+      outs_behind o = outs_over m n (ap behind_raise (append_assoc (walk.filled scope free slot es) (takes place slot (count_of es)) tasks)) (λ l. ap
+          (behind_exit l) (append_assoc (walk.filled scope free slot es) (takes place slot (count_of es)) tasks)) (outs_filled o)
 
   -- ---- scopes
 

@@ -19,7 +19,8 @@ use Rattle.mach_ir.specs.Walks.{Among, first, later}
 use Rattle.mach_ir.specs.declared.mach.Instr.{Instr}
 use Rattle.mach_ir.specs.declared.mach.Mach.{Mach}
 use Rattle.mach_ir.specs.declared.reg.Reg.{Reg}
-use Rattle.selection_rules.specs.Select.{Named, Label, scopes, fresh, count_of, regs_of, select, Code}
+use Rattle.selection_rules.specs.Select.{Named, Label, scopes, fresh, regs_of, select, Code}
+use Rattle.cmm_tree.specs.Measures.{count_of}
 use Rattle.selection_laws.specs.Fits.{Fits}
 use Rattle.selection_walks.proofs.Phases.{Told, skipped, quietly, Kept, kept_same, kept_then, apart_binds}
 use Rattle.selection_walks.proofs.Situations.{hold, Low, hold_same, hold_other, hold_low, hold_kept, low_none, low_more, same_or, none_some, Paired, paired_names, paired_more, Seen, Raising, Landing, Outs, OutsOf, outs_kept, Sit, sit, go, quiet_sit, out, Wanted, ApartFrom, binding}
@@ -97,16 +98,16 @@ row_hold {n} {b} {slot} {count} {f} r =
           (r.values (hold n b slot w) s (hold_next low) e);
     }
 
-pub waited_row : (n : ℕ) (sc : List Scoped) (b slot : ℕ) (es : Expressions) → Row n b slot (walk.count es) (waited n sc b slot es)
+pub waited_row : (n : ℕ) (sc : List Scoped) (b slot : ℕ) (es : Expressions) → Row n b slot (count_of es) (waited n sc b slot es)
 waited_row n sc b slot NoMore = row_none n b slot
 waited_row n sc b slot (More e rest) = by (is_light_address sc e) (waited_row n sc (suc b) (suc slot) rest)
   where
-    by : (l : Bool) → Row n (suc b) (suc slot) (walk.count rest) (waited n sc (suc b) (suc slot) rest) →
-        Row n b slot (suc (walk.count rest)) (λ w. waited n sc (suc b) (suc slot) rest (cond l w (hold n b slot w)))
+    by : (l : Bool) → Row n (suc b) (suc slot) (count_of rest) (waited n sc (suc b) (suc slot) rest) →
+        Row n b slot (suc (count_of rest)) (λ w. waited n sc (suc b) (suc slot) rest (cond l w (hold n b slot w)))
     by true r = row_more r
     by false r = row_hold r
 
-pub held_row : (n b slot : ℕ) (es : Expressions) → Row n b slot (walk.count es) (all_held n b slot es)
+pub held_row : (n b slot : ℕ) (es : Expressions) → Row n b slot (count_of es) (all_held n b slot es)
 held_row n b slot NoMore = row_none n b slot
 held_row n b slot (More e rest) = row_hold (held_row n (suc b) (suc slot) rest)
 
@@ -117,7 +118,7 @@ pub record Stood (v : Option ℕ) (slot count : ℕ) : Type 0 where
 
 -- the registers of a row are in its slots
 pub row_stands : {n : ℕ} (env : List Named) (es : Expressions) (b slot : ℕ) (w : Option ℕ) → Low n w b slot → Among n (regs_of env b es) →
-    Stood (all_held n b slot es w) slot (walk.count es)
+    Stood (all_held n b slot es w) slot (count_of es)
 row_stands env NoMore b slot w low a = elim a [ ]
 row_stands {n} env (More e rest) b slot w low (first q) =
     let s = hold_same n b slot w (sym q) in
@@ -133,10 +134,6 @@ row_stands {n} env (More e rest) b slot w low (later a) =
 none_of : (o : Option ℕ) → ((s : ℕ) → o ≡ Some s → ⊥) → o ≡ None
 none_of None f = refl
 none_of (Some s) f = absurd (f s refl)
-
-pub count_same : (es : Expressions) → count_of es ≡ walk.count es
-count_same NoMore = refl
-count_same (More e rest) = ap suc (count_same rest)
 
 module _ (m : Mach) (n : ℕ) where
   -- ---- steps

@@ -20,7 +20,8 @@ use Rattle.linear_rules.proofs.Marks.{all_in, Differ}
 use Rattle.linear_rules.proofs.Walked.{Tail, tail_all, tail_next, tail_label, tail_stands, stands_tail, later_label}
 use Rattle.bs_words.proofs.Lists.{pairs_here, head_same}
 use Rattle.tidy_rules.specs.Leaving.{bare}
-use Rattle.tidy_rules.specs.Turning.{Head, Turn, turned_lines, ExitsToBranch, Turns, next_free, label_here, label_on, head_by, head_at, stands_first, exit_head, turn_for, line_turn, turn_at, is_on, is_led_to, opened_at, turned_all}
+use Rattle.tidy_rules.specs.Turning.{Head, Turn, turned_lines, ExitsToBranch, Turns, label_here, label_on, head_by, head_at, stands_first, exit_head, turn_for, line_turn, turn_at, is_on, is_led_to, opened_at, turned_all}
+use Rattle.linear_rules.specs.Lowered.{limit_of}
 use Rattle.tidy_rules.proofs.Ends.{tail_length, same_tail, pairs_past}
 use Rattle.tidy_rules.proofs.Turning.{head_line, new_labels, labels_of_line}
 
@@ -49,13 +50,13 @@ no_label l e = absurd (out e)
     out e = cc
 
 -- labels that occur are below the first free one
-below_free : {l : ℕ} (ls : List ℕ) → IsIn l ls → l < next_free ls
+below_free : {l : ℕ} (ls : List ℕ) → IsIn l ls → l < limit_of ls
 below_free {l} [] z = elim z [ ]
 below_free {l} (k ∷ ks) z = by z (λ u. below_free ks u)
   where
-    by : {l k : ℕ} → IsIn l (k ∷ ks) → (IsIn l ks → l < next_free ks) → l < max (suc k) (next_free ks)
-    by {l} is_first ih = le-max_left (suc l) (next_free ks)
-    by {l} {k} (is_later u) ih = let a = ih u in let b = le-max_right (suc k) (next_free ks) in omega (arith, a, b)
+    by : {l k : ℕ} → IsIn l (k ∷ ks) → (IsIn l ks → l < limit_of ks) → l < max (suc k) (limit_of ks)
+    by {l} is_first ih = le-max_left (suc l) (limit_of ks)
+    by {l} {k} (is_later u) ih = let a = ih u in let b = le-max_right (suc k) (limit_of ks) in omega (arith, a, b)
 
 on_same : (free a b : ℕ) → label_on free a ≡ label_on free b → a ≡ b
 on_same free a b e = omega (arith, e)
@@ -315,10 +316,10 @@ module _ (m : Lin) (free : ℕ) where
 pub turns_all : {m : Lin} → WellFormed m → Turns m (turned_all m)
 turns_all {m} well =
     record {
-      turns = turn_at m (next_free (labels_in m.code)) m.code;
-      opens = opened_at m (next_free (labels_in m.code));
+      turns = turn_at m (limit_of (labels_in m.code)) m.code;
+      opens = opened_at m (limit_of (labels_in m.code));
       is = refl;
-      branches = λ i next l s e. branch_opened m (next_free (labels_in m.code)) i next l s e;
-      each = λ i next t s e. exit_turned m (next_free (labels_in m.code)) i next t s e;
-      labels = distinct m (next_free (labels_in m.code)) well.labels (λ l z. below_free (labels_in m.code) z) m.code tail_all well.labels;
+      branches = λ i next l s e. branch_opened m (limit_of (labels_in m.code)) i next l s e;
+      each = λ i next t s e. exit_turned m (limit_of (labels_in m.code)) i next t s e;
+      labels = distinct m (limit_of (labels_in m.code)) well.labels (λ l z. below_free (labels_in m.code) z) m.code tail_all well.labels;
     }

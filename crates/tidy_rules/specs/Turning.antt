@@ -1,6 +1,6 @@
 -- Loops that are turned round. Where an exit leads to a branch, the branch is repeated right after
 -- the exit, so that a turn of a loop has no jump back to its test.
-use Rattle.std.specs.Prelude.{◌≡◌, ◌≢◌, ℕ, suc, ◌+◌, ◌*◌, Bool, true, false, cond, ◌||◌, ◌&&◌, nat_eq, nat_le, max, Option, Some, None, List, [], ◌∷◌, ◌++◌, length, AllPairs}
+use Rattle.std.specs.Prelude.{◌≡◌, ◌≢◌, ℕ, suc, ◌+◌, ◌*◌, Bool, true, false, cond, ◌||◌, ◌&&◌, nat_eq, nat_le, Option, Some, None, List, [], ◌∷◌, ◌++◌, length, AllPairs}
 use Rattle.lin_ir.specs.Formed.{labels_in}
 use Rattle.lin_ir.specs.Meaning.{after_label, has_label}
 use Rattle.lin_ir.specs.Walks.{Stands}
@@ -12,7 +12,7 @@ use Rattle.lin_ir.specs.declared.lin.Spot.{Spot}
 use Rattle.lin_ir.specs.declared.lin.Line.{Line}
 use Rattle.lin_ir.specs.declared.lin.Lin.{Lin}
 use Rattle.mach_ir.specs.declared.mach.Test.{Test}
-use Rattle.linear_rules.specs.Lowered.{opposite_test}
+use Rattle.linear_rules.specs.Lowered.{opposite_test, limit_of}
 use Rattle.tidy_rules.specs.Leaving.{bare, with_code}
 
 -- A branch to a label, and a label that is put right after it.
@@ -76,11 +76,6 @@ pub record Turns (m r : Lin) : Type 0 where
   pub labels : AllPairs (λ k l. k ≢ l) (labels_in r.code)
 
 -- ---- which exits are turned
-
--- greater than each label that is in the code
-abbrev pub next_free : List ℕ → ℕ
-next_free [] = 0
-next_free (l ∷ ls) = max (suc l) (next_free ls)
 
 -- New labels, from the first free one on: two for each line, by the number of lines after it.
 abbrev pub label_here : ℕ → ℕ → ℕ
@@ -159,5 +154,5 @@ opened_at m free n =
 -- after it.
 abbrev pub turned_all : Lin → Lin
 turned_all m =
-    let free = next_free (labels_in m.code) in
+    let free = limit_of (labels_in m.code) in
     with_code m (turned_lines (turn_at m free m.code) (opened_at m free) m.code)

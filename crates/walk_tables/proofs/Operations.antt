@@ -6,7 +6,8 @@ use Rattle.cmm_types.specs.Light.{is_light_address}
 use Rattle.cmm_tree.specs.Rows.{row_of}
 use Rattle.cmm_types.specs.Types.{type_named, is_address}
 use Rattle.walk_tables.specs.Found.{found_in}
-use Rattle.walk_tables.specs.Walks.{Slotted, Task, Does, Binds, Uses, Passes, called, names, operand, takes, count, waiting, filled, all_operands, on_one, on_two, used_at, bound_at, slot_of}
+use Rattle.walk_tables.specs.Walks.{Slotted, Task, Does, Binds, Uses, Passes, called, names, operand, takes, waiting, filled, all_operands, on_one, on_two, used_at, bound_at, slot_of}
+use Rattle.cmm_tree.specs.Measures.{count_of}
 use Rattle.walk_tables.specs.declared.scopes.Found.{Found}
 use Rattle.walk_tables.proofs.Names.{type-found, slot-found, type_of_found, slot_of_found}
 use Rattle.walk_tables.proofs.Parts.{count-is}
@@ -34,13 +35,13 @@ on-two-is s free slot second at a b q r =
     ∙ five (early s (slot + 2) (suc slot) b) (early s (slot + 2) slot a) (late s (slot + 2) (suc slot) b) (late s (slot + 2) slot a) (takes at slot 2)
 
 pub on-all-is : (s : List Slotted) (slot at : ℕ) (es : List Expr)
-    → all_operands s slot (row_of es) ++ takes at slot (length es) ≡ all_operands s slot (row_of es) ++ takes at slot (count (row_of es))
+    → all_operands s slot (row_of es) ++ takes at slot (length es) ≡ all_operands s slot (row_of es) ++ takes at slot (count_of (row_of es))
 on-all-is s slot at es = ap (λ n. all_operands s slot (row_of es) ++ takes at slot n) (count-is es)
 
 pub alloc-is : (s : List Slotted) (free slot at : ℕ) (es : List Expr) → free ≡ slot + length es
     → waiting s free slot (row_of es) ++ (Does (Passes at) ∷ (filled s free slot (row_of es) ++ takes at slot (length es)))
-    ≡ waiting s (slot + count (row_of es)) slot (row_of es)
-    ++ (Does (Passes at) ∷ (filled s (slot + count (row_of es)) slot (row_of es) ++ takes at slot (count (row_of es))))
+    ≡ waiting s (slot + count_of (row_of es)) slot (row_of es)
+    ++ (Does (Passes at) ∷ (filled s (slot + count_of (row_of es)) slot (row_of es) ++ takes at slot (count_of (row_of es))))
 alloc-is s free slot at es q =
     ap (λ n. waiting s n slot (row_of es) ++ (Does (Passes at) ∷ (filled s n slot (row_of es) ++ takes at slot (length es)))) q
     ∙ ap (λ n. waiting s (slot + n) slot (row_of es) ++ (Does (Passes at) ∷ (filled s (slot + n) slot (row_of es) ++ takes at slot n))) (count-is es)
@@ -54,11 +55,11 @@ pub app-is : (s : List Slotted) (free slot second at : ℕ) (callee : Expression
     ++ (early s free slot callee
     ++ (filled s free second (row_of es)
     ++ (late s free slot callee ++ (takes at slot (suc (length es)) ++ called true at))))
-    ≡ all_operands s slot (More callee (row_of es)) ++ (takes at slot (suc (count (row_of es))) ++ called true at)
+    ≡ all_operands s slot (More callee (row_of es)) ++ (takes at slot (suc (count_of (row_of es))) ++ called true at)
 app-is s free slot second at callee es q r =
     let last : List Task = takes at slot (suc (length es)) ++ called true at in
-    let n : ℕ = slot + suc (count (row_of es)) in
-    let f : free ≡ slot + suc (count (row_of es)) = omega (arith, q, r, count-is es) in
+    let n : ℕ = slot + suc (count_of (row_of es)) in
+    let f : free ≡ slot + suc (count_of (row_of es)) = omega (arith, q, r, count-is es) in
     ap (λ m. waiting s m second (row_of es) ++ (early s m slot callee ++ (filled s m second (row_of es) ++ (late s m slot callee ++ last)))) f
     ∙ ap (λ m. waiting s n m (row_of es) ++ (early s n slot callee ++ (filled s n m (row_of es) ++ (late s n slot callee ++ last)))) q
     ∙ five (waiting s n (suc slot) (row_of es)) (early s n slot callee) (filled s n (suc slot) (row_of es)) (late s n slot callee) last

@@ -13,7 +13,8 @@ use Rattle.cmm_types.specs.Light.{is_light_address}
 use Rattle.cmm_types.specs.Lists.{AreAnnotated}
 use Rattle.cmm_tree.specs.Rows.{row_of}
 use Rattle.cmm_types.specs.Types.{Scoped, type_of, type_bound, is_mutable, is_address}
-use Rattle.walk_tables.specs.Walks.{Slotted, Does, Evaluates, Enters, Binds, Uses, names, operand, takes, count, waiting, filled, all_operands, in_order, parameters_bound}
+use Rattle.walk_tables.specs.Walks.{Slotted, Does, Evaluates, Enters, Binds, Uses, names, operand, takes, waiting, filled, all_operands, in_order, parameters_bound}
+use Rattle.cmm_tree.specs.Measures.{count_of}
 
 pub operand-is : (s : List Slotted) (free slot : ℕ) (e : Expr) (address : Bool) → address ≡ is_address e.ty → IsAnnotated (names s) e
     → Evaluates s free (expr_view e) ∷ Does (Binds slot address e.at) ∷ [] ≡ operand s free slot (expr_view e)
@@ -58,7 +59,7 @@ parameters-first slot next ps p others address type e q a t =
     ∙ ap (λ b. Does (Binds slot b p.at) ∷ parameters_bound (suc slot) (params_view others)) (a ∙ ap is_address t)
     ∙ ap (λ (l : List Param). parameters_bound slot (params_view l)) (sym e)
 
-pub count-is : (es : List Expr) → length es ≡ count (row_of es)
+pub count-is : (es : List Expr) → length es ≡ count_of (row_of es)
 count-is [] = refl
 count-is (e ∷ es) = ap suc (count-is es)
 

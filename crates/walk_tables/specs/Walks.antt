@@ -8,6 +8,7 @@ use Rattle.std.specs.Option.{option_map}
 use Rattle.bs_words.specs.Fits.{type_of_comp}
 use Rattle.bs_words.specs.declared.types.Ty.{Ty}
 use Rattle.bs_words.specs.declared.types.Ty.TheVariants as ty
+use Rattle.cmm_tree.specs.Measures.{count_of}
 use Rattle.cmm_tree.specs.Place.{place_of}
 use Rattle.cmm_tree.specs.Tree.{same_label, is_bare, LabelTree, Parameter, Expression, Integer, Pointer, Symbol, Name, Nothing, Float, Let, Assign, Operator, Load, Store, Alloc, App, Extcall, Checkbound, Raise, Seq, If, Switch, Catch, Exit, Try, Expressions, NoMore, More, Bindings, NoBinding, Bind, Cases, NoCase, Choose, Handlers, NoHandler, Handle, FunctionTree}
 use Rattle.cmm_types.specs.Light.{is_light_address}
@@ -89,10 +90,6 @@ takes at slot (suc count) = Does (Uses slot at) ∷ takes at (suc slot) count
 
 -- ---- operands: the first is in `slot`, the next in the slot after, and `free` is after the last
 
-abbrev pub count : Expressions → ℕ
-count NoMore = 0
-count (More e rest) = suc (count rest)
-
 -- those that are no light addresses are evaluated right to left
 abbrev pub waiting : List Slotted → ℕ → ℕ → Expressions → List Task
 waiting scope free slot NoMore = []
@@ -109,7 +106,7 @@ filled scope free slot (More e rest) =
 
 abbrev pub all_operands : List Slotted → ℕ → Expressions → List Task
 all_operands scope slot es =
-    waiting scope (slot + count es) slot es ++ filled scope (slot + count es) slot es
+    waiting scope (slot + count_of es) slot es ++ filled scope (slot + count_of es) slot es
 
 abbrev pub two : Expression → Expression → Expressions
 two a b = More a (More b NoMore)
@@ -161,14 +158,14 @@ tasks_of scope slot (Operator at op left right) = on_two scope slot at left righ
 tasks_of scope slot (Load at chunk address) = on_one scope slot at address
 tasks_of scope slot (Store at chunk address value) = on_two scope slot at address value
 tasks_of scope slot (Alloc at header_at header operands) =
-    waiting scope (slot + count operands) slot operands
+    waiting scope (slot + count_of operands) slot operands
     ++ (Does (Passes at) ∷
-    (filled scope (slot + count operands) slot operands ++ takes at slot (count operands)))
+    (filled scope (slot + count_of operands) slot operands ++ takes at slot (count_of operands)))
 tasks_of scope slot (App at callee arguments result result_at) =
     all_operands scope slot (More callee arguments)
-    ++ (takes at slot (suc (count arguments)) ++ called true at)
+    ++ (takes at slot (suc (count_of arguments)) ++ called true at)
 tasks_of scope slot (Extcall at frame name arguments result result_at) =
-    all_operands scope slot arguments ++ (takes at slot (count arguments) ++ called frame at)
+    all_operands scope slot arguments ++ (takes at slot (count_of arguments) ++ called frame at)
 tasks_of scope slot (Checkbound at bound index) =
     on_two scope slot at bound index ++ (MayRaise ∷ [])
 tasks_of scope slot (Raise at value) = on_one scope slot at value ++ (Raises ∷ [])
@@ -180,7 +177,7 @@ tasks_of scope slot (Switch at size_at size selector cases) =
 tasks_of scope slot (Catch at body handlers) =
     Evaluates scope slot body ∷ Catches scope slot false handlers ∷ []
 tasks_of scope slot (Exit at label_at label arguments) =
-    all_operands scope slot arguments ++ (takes at slot (count arguments) ++ (Exits label ∷ []))
+    all_operands scope slot arguments ++ (takes at slot (count_of arguments) ++ (Exits label ∷ []))
 tasks_of scope slot (Try at body name_at name handler) =
     Evaluates scope slot body ∷ Handles scope slot name_at name handler ∷ []
 

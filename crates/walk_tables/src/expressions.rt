@@ -7,7 +7,8 @@ ghost use Rattle.cmm_types.specs.Annotated.{IsAnnotated};
 ghost use Rattle.cmm_types.specs.Lists.{AreAnnotated, AreBindingsAnnotated, AreCasesAnnotated, AreHandlersAnnotated};
 ghost use Rattle.cmm_tree.specs.Rows.{row_of, bindings_of, cases_of, handlers_of};
 ghost use Rattle.walk_tables.specs.Walks.{Slotted, Does, Evaluates, Enters, Passes, OneOf, MayRaise, Raises, Exits};
-ghost use Rattle.walk_tables.specs.Walks.{Catches, Handles, names, used_at, bound_at, slot_of, takes, count, waiting};
+ghost use Rattle.walk_tables.specs.Walks.{Catches, Handles, names, used_at, bound_at, slot_of, takes, waiting};
+ghost use Rattle.cmm_tree.specs.Measures.{count_of};
 ghost use Rattle.walk_tables.specs.Walks.{filled, all_operands, on_one, on_two, bodies, handling, called, tasks_of};
 ghost use Rattle.cmm_types.specs.Types.{type_named, with_bindings};
 ghost use Rattle.walk_tables.specs.Cells.{cells};
@@ -102,7 +103,7 @@ impl<'a> Cells<'a> {
         ensures { IfOk result (λ cell. (s : List Slotted) → IsReady (cells self.old) rest →
             IsScope (cells self.old) scope s → AreAnnotated (names s) exprs.now →
             Adds (cells self.old) (cells self.new) cell (all_operands s slot
-            (row_of exprs.now) ++ takes at slot (count (row_of exprs.now))) rest) }
+            (row_of exprs.now) ++ takes at slot (count_of (row_of exprs.now))) rest) }
     {
         let taken = self.takes(at, slot, exprs.len(), rest)?;
         let cell = self.all_operands(scope, slot, exprs, taken)?;
@@ -121,10 +122,10 @@ impl<'a> Cells<'a> {
         requires { slot ≤ length (cells self.old) }
         ensures { IfOk result (λ cell. (s : List Slotted) → IsReady (cells self.old) rest →
             IsScope (cells self.old) scope s → AreAnnotated (names s) exprs.now →
-            Adds (cells self.old) (cells self.new) cell (waiting s (slot + count
+            Adds (cells self.old) (cells self.new) cell (waiting s (slot + count_of
             (row_of exprs.now)) slot (row_of exprs.now) ++ (Does (Passes at) ∷ (filled s
-            (slot + count (row_of exprs.now)) slot (row_of exprs.now) ++ takes at slot
-            (count (row_of exprs.now))))) rest) }
+            (slot + count_of (row_of exprs.now)) slot (row_of exprs.now) ++ takes at slot
+            (count_of (row_of exprs.now))))) rest) }
     {
         let free = slot + exprs.len();
         let taken = self.takes(at, slot, exprs.len(), rest)?;
@@ -163,7 +164,7 @@ impl<'a> Cells<'a> {
         ensures { IfOk result (λ cell. (s : List Slotted) → IsReady (cells self.old) rest →
             IsScope (cells self.old) scope s → AreAnnotated (names s) exprs.now →
             Adds (cells self.old) (cells self.new) cell (all_operands s slot
-            (row_of exprs.now) ++ (takes at slot (count
+            (row_of exprs.now) ++ (takes at slot (count_of
             (row_of exprs.now)) ++ called frame at)) rest) }
     {
         let called = self.called(frame, at, rest)?;
@@ -208,7 +209,7 @@ impl<'a> Cells<'a> {
             IsScope (cells self.old) scope s → IsAnnotated (names s) callee.now →
             AreAnnotated (names s) exprs.now →
             Adds (cells self.old) (cells self.new) cell (all_operands s slot (More
-            (expr_view callee.now) (row_of exprs.now)) ++ (takes at slot (suc (count
+            (expr_view callee.now) (row_of exprs.now)) ++ (takes at slot (suc (count_of
             (row_of exprs.now))) ++ called true at)) rest) }
     {
         let second = slot + 1;
@@ -391,7 +392,7 @@ impl<'a> Cells<'a> {
         ensures { IfOk result (λ cell. (s : List Slotted) → IsReady (cells self.old) rest →
             IsScope (cells self.old) scope s → AreAnnotated (names s) exprs.now →
             Adds (cells self.old) (cells self.new) cell (all_operands s slot
-            (row_of exprs.now) ++ (takes at slot (count (row_of exprs.now)) ++
+            (row_of exprs.now) ++ (takes at slot (count_of (row_of exprs.now)) ++
             (Exits (label_view label.now) ∷ []))) rest) }
     {
         let exits = self.push(Item::Exits { label, rest })?;

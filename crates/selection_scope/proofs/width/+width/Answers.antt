@@ -8,7 +8,8 @@ use Rattle.cmm_tree.specs.declared.expr.Expr.{Expr}
 use Rattle.cmm_tree.specs.declared.expr.Form.{Form}
 use Rattle.cmm_tree.specs.declared.expr.Handler.{Handler}
 use Rattle.cmm_tree.proofs.Rows.{seq_view, exit_view, alloc_view, extcall_view, app_view, let_view, switch_view, catch_view}
-use Rattle.selection_rules.specs.Select.{width, width_row, width_bound, width_cases, width_handlers, width_labels, count_of, count_cases}
+use Rattle.selection_rules.specs.Select.{width, width_row, width_bound, width_cases, width_handlers, width_labels, count_cases}
+use Rattle.cmm_tree.specs.Measures.{count_of}
 use Rattle.selection_scope.proofs.Counts.{count-row, count-cases}
 use Rattle.selection_scope.proofs.width.+width.Goals as goal
 
