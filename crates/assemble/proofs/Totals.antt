@@ -141,7 +141,7 @@ calls_are (e ∷ rows) = omega (arith, sum_by-cons ext_size (ext e) (map ext row
 
 pub exts_most : (es : List Ext) → AllByRecursion IsExt es → sum_by ext_size es ≤ 275 * length es
 exts_most [] all = omega arith
-exts_most (e ∷ es) all = omega (arith, sum_by-cons ext_size e es, all.0.name.short, all.0.few, exts_most es all.1)
+exts_most (e ∷ es) all = omega (arith, sum_by-cons ext_size e es, all.0.name.1, all.0.few, exts_most es all.1)
 
 -- ---- descriptors
 
