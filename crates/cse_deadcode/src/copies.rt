@@ -17,9 +17,11 @@ fn is_move(op: &MachOp) -> bool
     ensures { result ≡ is_move op.now }
 {
     match op {
-        MachOp::Op(Op::Pure(Pure::Copy(CopyKind::Move))) => true,
-        MachOp::Op(Op::Pure(Pure::Copy(CopyKind::Spill))) => false,
-        MachOp::Op(Op::Pure(Pure::Copy(CopyKind::Reload))) => false,
+        MachOp::Op(Op::Pure(Pure::Copy(kind))) => match kind {
+            CopyKind::Move => true,
+            CopyKind::Spill => false,
+            CopyKind::Reload => false,
+        },
         MachOp::Op(Op::Pure(Pure::Constant(_))) => false,
         MachOp::Op(Op::Pure(Pure::Symbol(_))) => false,
         MachOp::Op(Op::Pure(Pure::Operator(_, _))) => false,
