@@ -55,13 +55,14 @@ found (s ∷ ss) (d ∷ ds) name e some =
     by true is some later = subst (λ b. IsSome (cond b (Some d.value) (value_among ds name))) (sym is) refl
     by false is some later = subst (λ b. IsSome (cond b (Some d.value) (value_among ds name))) (sym is) (later some)
 
+-- Both accounts of what a file defines, by places in the text and by addresses, have the same names in the same order.
+pub same_names : (file : FileTree) → map (λ (d : Definition). d.name) (definitions file) ≡ names (defined.symbols file)
+same_names file =
+    map-append (λ (d : Definition). d.name) (defined_by_list data_start placement.built_in) (defined_from 0 (end_behind data_start placement.built_in) file.items)
+    ∙ ap₂ (λ (xs ys : List (List ℕ)). xs ++ ys) (of_list data_start placement.built_in) (of_items 0 (end_behind data_start placement.built_in) file.items)
+
 pub defined_valued : (file : FileTree) (name : List ℕ) → IsSome (definition_of (defined.symbols file) name) → IsSome (value_of_symbol file name)
-defined_valued file name some = found (defined.symbols file) (definitions file) name (of_items_all file) some
-  where
-    of_items_all : (file : FileTree) → map (λ (d : Definition). d.name) (definitions file) ≡ names (defined.symbols file)
-    of_items_all file =
-        map-append (λ (d : Definition). d.name) (defined_by_list data_start placement.built_in) (defined_from 0 (end_behind data_start placement.built_in) file.items)
-        ∙ ap₂ (λ (xs ys : List (List ℕ)). xs ++ ys) (of_list data_start placement.built_in) (of_items 0 (end_behind data_start placement.built_in) file.items)
+defined_valued file name some = found (defined.symbols file) (definitions file) name (same_names file) some
 
 first_same : (file : FileTree) (name : List ℕ) → definition_of (first_symbols file) name ≡ definition_of (defined.symbols file) name
 first_same file name =

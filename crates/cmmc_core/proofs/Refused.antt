@@ -1,14 +1,43 @@
 -- Why the image that was read has no outcome is why its source has none.
-use Rattle.std.proofs.Common.{◌≡◌, sym, ◌∙◌, List, Result, Ok, Err}
+use Rattle.std.proofs.Common.{◌≡◌, sym, subst, ◌∙◌, List, Result, Ok, Err}
 use Rattle.std.specs.Prelude.{ℕ, IfErr}
 use Rattle.command_line.specs.Command.{RunTree}
-use Rattle.image_form.specs.Tables.{Tables}
-use Rattle.cmmc_core.specs.Effects.{Side, IsRead}
-use Rattle.cmmc_core.specs.Refusal.{IsRunRefusal, IsRunRefusalFrom}
 use Rattle.image_form.specs.Image.{AreTables, tables_bytes}
+use Rattle.image_form.specs.Reading.{reading, NoImage, IsRefusalOf}
+use Rattle.image_form.specs.Tables.{Tables}
+use Rattle.image_form.specs.declared.fault.ImageError.{ImageError}
+use Rattle.image_form.specs.declared.fault.ImageError.TheVariants as image_error
+use Rattle.cmmc_core.proofs.Spelled.{no_spelling}
+use Rattle.cmmc_core.specs.Effects.{Side, IsRead, IsKept}
+use Rattle.cmmc_core.specs.Refusal.{IsLoadRefusal, IsRunRefusal, IsRunRefusalFrom, IsUnread, refusal_of_image}
 use Rattle.cmmc_core.specs.Run.{ReadsImage, longest_image}
 use Rattle.cmmc_core.specs.declared.run.RunRefusal.{RunRefusal}
 use Rattle.cmmc_core.specs.declared.run.RunRefusal.TheVariants as refusal
+
+-- where nothing was read, nothing is written
+pub not_read : (run : RunTree) (source out : Side) → IsKept out → (r : RunRefusal) → IsUnread source r → IsRunRefusalFrom run source out r
+not_read run source out kept refusal.ReadFault p = (kept, p)
+not_read run source out kept (refusal.Image why) p = elim p [ ]
+not_read run source out kept refusal.UnknownEntry p = elim p [ ]
+not_read run source out kept refusal.ArgumentUnfit p = elim p [ ]
+not_read run source out kept refusal.WriteFault p = elim p [ ]
+not_read run source out kept refusal.OutOfMemory p = kept
+
+-- nor where what was read is no image
+pub not_image : (run : RunTree) (source out : Side) (bytes slice : List ℕ) → IsKept out → IsRead longest_image source bytes → slice ≡ bytes
+    → (why : ImageError) → IsRefusalOf slice why → IsRunRefusalFrom run source out (refusal_of_image why)
+not_image run source out bytes slice kept read same (image_error.Refused why) p =
+    (kept, record { bytes = bytes; read = read; no_image = no_spelling bytes why (subst (λ (b : List ℕ). NoImage b × (reading b ≡ Err why)) same p) })
+not_image run source out bytes slice kept read same image_error.OutOfMemory p = kept
+
+-- nor where the image is not loaded
+pub not_loaded : (run : RunTree) (image : Tables) (out : Side) → IsKept out → (r : RunRefusal) → IsLoadRefusal run image r → IsRunRefusal run image out r
+not_loaded run image out kept refusal.ReadFault p = p
+not_loaded run image out kept (refusal.Image why) p = p
+not_loaded run image out kept refusal.UnknownEntry p = (kept, p)
+not_loaded run image out kept refusal.ArgumentUnfit p = (kept, p)
+not_loaded run image out kept refusal.WriteFault p = elim p [ ]
+not_loaded run image out kept refusal.OutOfMemory p = kept
 
 pub refused_from : (run : RunTree) (source out : Side) (image : Tables) → ReadsImage source image → (r : RunRefusal) →
     IsRunRefusal run image out r → IsRunRefusalFrom run source out r

@@ -14,9 +14,11 @@ use Rattle.rv_machine.specs.Run.{machine_run}
 use Rattle.rv_machine.specs.Run as runs
 use Rattle.rv_machine.specs.Start.{start}
 use Rattle.rv_machine.specs.Text.{outcome_text}
-use Rattle.rv_machine.specs.declared.setup.LoadError.TheVariants.{UnknownEntry, ArgumentUnfit}
+use Rattle.rv_machine.specs.declared.setup.LoadError.{LoadError}
+use Rattle.rv_machine.specs.declared.setup.LoadError.TheVariants.{UnknownEntry, ArgumentUnfit, OutOfMemory}
 use Rattle.rv_machine.specs.declared.setup.Setup.{Setup}
-use Rattle.cmmc_core.specs.Run.{IsRunText, IsUnfit, words_of_answers, schedule_of}
+use Rattle.cmmc_core.specs.Refusal.{IsLoadRefusal, refusal_of_load}
+use Rattle.cmmc_core.specs.Run.{IsLoaded, IsRunText, IsUnfit, words_of_answers, schedule_of}
 
 -- A machine is where the run of a setup begins.
 pub record Begun (image : Tables) (setup : Setup) (h : Hart) : Type 0 where
@@ -67,26 +69,49 @@ module _ (image : Tables) (setup : Setup) where
   pub unfit : (run : RunTree) → run.entry ≡ setup.entry → run.args ≡ contents setup.args → beginning image setup ≡ Err ArgumentUnfit → IsUnfit run image
   unfit run entry_is args_are is = unfit_at run (func_named setup.entry image.funcs) entry_is args_are refl is
 
+-- why a machine is not loaded is why the run is refused
+pub load-refused : (image : Tables) (setup : Setup) (run : RunTree) (why : LoadError) → run.entry ≡ setup.entry → run.args ≡ contents setup.args
+    → ((why ≡ UnknownEntry) → beginning image setup ≡ Err UnknownEntry) → ((why ≡ ArgumentUnfit) → beginning image setup ≡ Err ArgumentUnfit)
+    → IsLoadRefusal run image (refusal_of_load why)
+load-refused image setup run UnknownEntry entry_is args_are unknown_is unfit_is =
+    ap (λ n. func_named n image.funcs) entry_is ∙ unknown image setup (unknown_is refl)
+load-refused image setup run ArgumentUnfit entry_is args_are unknown_is unfit_is = unfit image setup run entry_is args_are (unfit_is refl)
+load-refused image setup run OutOfMemory entry_is args_are unknown_is unfit_is = tt
+
 -- answers of which one has no word
-pub unfit-answers : (image : Tables) (setup : Setup) (h : Hart) (run : RunTree) → run.entry ≡ setup.entry → Begun image setup h → words_of_answers image run.answers ≡ None → IsUnfit run image
-unfit-answers image setup h run entry_is b none =
+pub unfit-answers : (image : Tables) (setup : Setup) (h : Hart) (run : RunTree) → run.entry ≡ setup.entry → beginning image setup ≡ Ok h
+    → words_of_answers image run.answers ≡ None → IsUnfit run image
+unfit-answers image setup h run entry_is begins none =
+    let b = begun image setup h begins in
     record { entry = b.entry; named = ap (λ n. func_named n image.funcs) entry_is ∙ b.named; unfit = inr none }
 
--- the text that a loaded machine's run writes
-pub text-of : (image : Tables) (setup : Setup) (h : Hart) (run : RunTree) (schedule : Schedule) (answers : List ℕ) → AreTables image → Begun image setup h
+-- a machine that was loaded, where each answer has its word
+pub loaded : (image : Tables) (setup : Setup) (h : Hart) (run : RunTree) (answers : List ℕ)
     → run.entry ≡ setup.entry → run.args ≡ contents setup.args → run.stack ≡ setup.stack → run.heap ≡ setup.heap
-    → runtime.schedule_of schedule ≡ schedule_of run.moves
-    → words_of_answers image run.answers ≡ Some answers → IsRunText run image (outcome_text (run_of h answers schedule run.steps))
-text-of image setup h run schedule answers tables b entry_is args_are stack_is heap_is moves_are answered = record {
-  entry = b.entry;
-  args = b.args;
+    → beginning image setup ≡ Ok h → words_of_answers image run.answers ≡ Some answers → IsLoaded run image h answers
+loaded image setup h run answers entry_is args_are stack_is heap_is begins answered =
+    let b = begun image setup h begins in
+    record {
+      entry = b.entry;
+      args = b.args;
+      named = ap (λ n. func_named n image.funcs) entry_is ∙ b.named;
+      suit = ap (words_of_args image b.entry.params) args_are ∙ b.suit;
+      answered = answered;
+      is_start = b.is_start ∙ ap (λ (s : ℕ). start image b.entry b.args s setup.heap) (sym stack_is) ∙ ap (λ (p : ℕ). start image b.entry b.args run.stack p) (sym heap_is);
+    }
+
+-- the text that a loaded machine's run writes
+pub text-of : (image : Tables) (h : Hart) (run : RunTree) (schedule : Schedule) (answers : List ℕ) → AreTables image → IsLoaded run image h answers
+    → runtime.schedule_of schedule ≡ schedule_of run.moves → IsRunText run image (outcome_text (run_of h answers schedule run.steps))
+text-of image h run schedule answers tables l moves_are = record {
+  entry = l.entry;
+  args = l.args;
   answers = answers;
-  named = ap (λ n. func_named n image.funcs) entry_is ∙ b.named;
-  suit = ap (words_of_args image b.entry.params) args_are ∙ b.suit;
-  answered = answered;
+  named = l.named;
+  suit = l.suit;
+  answered = l.answered;
   told = ap outcome_text
-      (ap (λ (m : Hart). run_of m answers schedule run.steps)
-      (b.is_start ∙ ap (λ (s : ℕ). start image b.entry b.args s setup.heap) (sym stack_is) ∙ ap (λ (p : ℕ). start image b.entry b.args run.stack p) (sym heap_is))
-      ∙ loaded_run image setup.entry b.entry b.args answers run.stack run.heap schedule run.steps tables b.named
-      ∙ ap (λ (s : runs.Schedule). machine_run image b.entry b.args answers run.stack run.heap s run.steps) moves_are);
+      (ap (λ (m : Hart). run_of m answers schedule run.steps) l.is_start
+      ∙ loaded_run image run.entry l.entry l.args answers run.stack run.heap schedule run.steps tables l.named
+      ∙ ap (λ (s : runs.Schedule). machine_run image l.entry l.args answers run.stack run.heap s run.steps) moves_are);
 }

@@ -5,7 +5,11 @@ use Rattle.bs_fault.specs.Lines.{usage_line, large_line}
 use Rattle.bs_fault.specs.declared.usage.Usage.TheVariants.{UnknownEntry, ArgumentUnfit}
 use Rattle.command_line.specs.Command.{RunTree, CheckTree}
 use Rattle.image_form.specs.Tables.{Tables}
+use Rattle.image_form.specs.declared.fault.ImageError.{ImageError}
+use Rattle.image_form.specs.declared.fault.ImageError.TheVariants as image_error
 use Rattle.rv_machine.specs.Loading.{func_named}
+use Rattle.rv_machine.specs.declared.setup.LoadError.{LoadError}
+use Rattle.rv_machine.specs.declared.setup.LoadError.TheVariants as load_error
 use Rattle.cmm_front.specs.FileOf.{HasFault}
 use Rattle.stages.specs.Image.{IsOfImage}
 use Rattle.stages.specs.declared.stage.Stage.{Stage}
@@ -89,6 +93,26 @@ IsCheckFailure check source failure.ReadFault = Rose source
 IsCheckFailure check source (failure.Text why) = IsCheckRefusalRead check source why
 
 -- ---- run
+
+-- what the bytes are refused for, of which no image was read
+abbrev pub refusal_of_image : ImageError → RunRefusal
+refusal_of_image (image_error.Refused why) = refusal.Image why
+refusal_of_image image_error.OutOfMemory = refusal.OutOfMemory
+
+-- what the run is refused for, of which no machine was loaded
+abbrev pub refusal_of_load : LoadError → RunRefusal
+refusal_of_load load_error.UnknownEntry = refusal.UnknownEntry
+refusal_of_load load_error.ArgumentUnfit = refusal.ArgumentUnfit
+refusal_of_load load_error.OutOfMemory = refusal.OutOfMemory
+
+-- why an image is not loaded for a run
+abbrev pub IsLoadRefusal : RunTree → Tables → RunRefusal → Type 0
+IsLoadRefusal run image refusal.ReadFault = ⊥
+IsLoadRefusal run image (refusal.Image why) = ⊥
+IsLoadRefusal run image refusal.UnknownEntry = func_named run.entry image.funcs ≡ None
+IsLoadRefusal run image refusal.ArgumentUnfit = IsUnfit run image
+IsLoadRefusal run image refusal.WriteFault = ⊥
+IsLoadRefusal run image refusal.OutOfMemory = ⊤
 
 -- out has the outcome
 pub record WritesRun (run : RunTree) (image : Tables) (out : Side) : Type 0 where

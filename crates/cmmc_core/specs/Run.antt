@@ -8,8 +8,10 @@ use Rattle.image_form.specs.Image.{AreTables, tables_bytes}
 use Rattle.image_form.specs.Reading.{reading}
 use Rattle.image_form.specs.Tables.{Tables, Func}
 use Rattle.mover_plans.specs.Schedules.{never, every, seeded}
+use Rattle.rv_machine.specs.Hart.{Hart}
 use Rattle.rv_machine.specs.Loading.{func_named, word_of_arg, before, words_of_args}
 use Rattle.rv_machine.specs.Run.{Schedule, machine_run}
+use Rattle.rv_machine.specs.Start.{start}
 use Rattle.rv_machine.specs.Text.{outcome_text}
 use Rattle.rv_machine.specs.declared.setup.Arg.{Arg}
 use Rattle.cmmc_core.specs.Effects.{Side, IsRead}
@@ -40,6 +42,15 @@ pub record ReadsImage (source : Side) (image : Tables) : Type 0 where
   pub bytes : List ℕ
   pub read : IsRead longest_image source bytes
   pub is_image : IsSpelling bytes image
+
+-- The machine is at the entry of this run of the image, and these words answer its external calls.
+pub record IsLoaded (run : RunTree) (image : Tables) (machine : Hart) (answers : List ℕ) : Type 0 where
+  pub entry : Func
+  pub args : List ℕ
+  pub named : func_named run.entry image.funcs ≡ Some entry
+  pub suit : words_of_args image entry.params run.args ≡ Some args
+  pub answered : words_of_answers image run.answers ≡ Some answers
+  pub is_start : machine ≡ start image entry args run.stack run.heap
 
 -- The text is the outcome of this run of the image.
 pub record IsRunText (run : RunTree) (image : Tables) (text : List ℕ) : Type 0 where

@@ -1,5 +1,5 @@
 //! The command `run`: an image in, the outcome of a run of one of its functions out.
-ghost use Rattle.std.specs.Prelude.{◌≡◌, IfOk, OnOk, IfErr, option_map};
+ghost use Rattle.std.specs.Prelude.{◌≡◌, Some, IfOk, OnOk, IfErr, option_map};
 ghost use Rattle.command_line.specs.Command.{WithinLimits};
 ghost use Rattle.command_line.specs.View.{run_view};
 ghost use Rattle.bs_words.specs.Contents.{contents};
@@ -8,7 +8,9 @@ ghost use Rattle.image_form.specs.Tables.{tables};
 ghost use Rattle.rv_machine.specs.Loading.{IsRoom};
 ghost use Rattle.cmmc_core.specs.Effects.{side, IsRead};
 ghost use Rattle.cmmc_core.specs.Refusal.{WritesRun, WritesOutcome, IsRunRefusal, IsRunRefusalFrom, IsUnread};
-ghost use Rattle.cmmc_core.specs.Run.{words_of_answers, longest_image, schedule_of};
+ghost use Rattle.cmmc_core.specs.Refusal.{IsLoadRefusal, refusal_of_image, refusal_of_load};
+ghost use Rattle.cmmc_core.specs.Run.{IsLoaded, words_of_answers, longest_image, schedule_of};
+ghost use Rattle.cmmc_core.specs.declared.run.RunRefusal.TheVariants.{OutOfMemory};
 ghost use Rattle.mover_runtime.specs.Schedules as runtime;
 
 use bs_fault::ImageRefusal;
@@ -17,7 +19,7 @@ use bs_words::List;
 use command_line::{Arg, Moves, RunWords};
 use image_form::{Image, ImageError, read_image};
 use mover_runtime::{Schedule, run_image};
-use rv_machine::{LoadError, Setup, load, word_of_arg};
+use rv_machine::{LoadError, Machine, Setup, load, word_of_arg};
 use std::alloc::{AllocError, Global};
 
 /// The most bytes of an image.
@@ -38,6 +40,37 @@ pub enum RunRefusal {
     WriteFault,
     /// Memory ran out.
     OutOfMemory,
+}
+
+impl From<AllocError> for RunRefusal {
+    ghost from_gives = { λ _ r. r ≡ OutOfMemory };
+
+    fn from(_error: AllocError) -> Self {
+        RunRefusal::OutOfMemory
+    }
+}
+
+impl From<ImageError> for RunRefusal {
+    ghost from_gives = { λ error r. r ≡ refusal_of_image error };
+
+    fn from(error: ImageError) -> Self {
+        match error {
+            ImageError::Refused(refusal) => RunRefusal::Image(refusal),
+            ImageError::OutOfMemory => RunRefusal::OutOfMemory,
+        }
+    }
+}
+
+impl From<LoadError> for RunRefusal {
+    ghost from_gives = { λ error r. r ≡ refusal_of_load error };
+
+    fn from(error: LoadError) -> Self {
+        match error {
+            LoadError::UnknownEntry => RunRefusal::UnknownEntry,
+            LoadError::ArgumentUnfit => RunRefusal::ArgumentUnfit,
+            LoadError::OutOfMemory => RunRefusal::OutOfMemory,
+        }
+    }
 }
 
 /// Writes the outcome of a run of the image that a source holds. At most one byte past the longest
@@ -64,15 +97,9 @@ pub fn run_source<S: Source, K: Sink>(
         IsRunRefusalFrom (run_view run) (side S.left S.faults source.old source.new)
         (side K.held K.faults out.old out.new) r) }
 {
-    let bytes = match read_whole(alloc, source) {
-        Ok(bytes) => bytes,
-        Err(refusal) => return Err(refusal),
-    };
-    match read_image(alloc, bytes.as_slice()) {
-        Ok(image) => run_on(alloc, run, &image, out),
-        Err(ImageError::Refused(refusal)) => Err(RunRefusal::Image(refusal)),
-        Err(ImageError::OutOfMemory) => Err(RunRefusal::OutOfMemory),
-    }
+    let bytes = read_whole(alloc, source)?;
+    let image = read_image(alloc, bytes.as_slice())?;
+    run_on(alloc, run, &image, out)
 }
 
 /// The bytes that a source holds, up to one past the longest image, which no image has.
@@ -112,14 +139,38 @@ pub fn run_on<K: Sink>(
         IsRunRefusal (run_view run) (tables image.now)
         (side K.held K.faults out.old out.new) r) }
 {
+    let steps = run.steps;
+    let schedule = schedule_for(run.moves);
+    let Loaded { mut machine, words } = load_run(alloc, run, image)?;
+    match run_image(&mut machine, words.as_slice(), &schedule, steps, out) {
+        Ok(_) => Ok(()),
+        Err(_) => Err(RunRefusal::WriteFault),
+    }
+}
+
+/// A machine at the entry of its run, and the words that answer its external calls.
+#[derive(Drop)]
+struct Loaded<'a> {
+    machine: Machine<'a>,
+    words: Vec<u64>,
+}
+
+/// The image loaded for the run that the words ask for.
+fn load_run(alloc: Global, run: RunWords, image: &Image) -> Result<Loaded<'_>, RunRefusal>
+    requires stack { IsRoom (run_view run).stack }
+    requires heap { IsRoom (run_view run).heap }
+    requires rules { IsImage image.now }
+    ensures loaded { IfOk result (λ loaded.
+        IsLoaded (run_view run) (tables image.now) loaded.machine loaded.words.items) }
+    ensures refused { IfErr result (λ r. IsLoadRefusal (run_view run) (tables image.now) r) }
+{
     let RunWords {
         entry,
         args,
         answers,
-        steps,
         stack,
         heap,
-        moves,
+        ..
     } = run;
     let setup = Setup {
         entry,
@@ -127,21 +178,10 @@ pub fn run_on<K: Sink>(
         stack,
         heap,
     };
-    let mut machine = match load(alloc, image, &setup) {
-        Ok(machine) => machine,
-        Err(LoadError::UnknownEntry) => return Err(RunRefusal::UnknownEntry),
-        Err(LoadError::ArgumentUnfit) => return Err(RunRefusal::ArgumentUnfit),
-        Err(LoadError::OutOfMemory) => return Err(RunRefusal::OutOfMemory),
-    };
-    let words = match answer_words(alloc, image, &answers) {
-        Ok(Some(words)) => words,
-        Ok(None) => return Err(RunRefusal::ArgumentUnfit),
-        Err(AllocError) => return Err(RunRefusal::OutOfMemory),
-    };
-    let schedule = schedule_for(moves);
-    match run_image(&mut machine, words.as_slice(), &schedule, steps, out) {
-        Ok(_) => Ok(()),
-        Err(_) => Err(RunRefusal::WriteFault),
+    let machine = load(alloc, image, &setup)?;
+    match answer_words(alloc, image, &answers)? {
+        Some(words) => Ok(Loaded { machine, words }),
+        None => Err(RunRefusal::ArgumentUnfit),
     }
 }
 

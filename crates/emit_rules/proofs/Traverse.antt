@@ -1,5 +1,6 @@
 -- Each piece of a part is allowed by its line.
-use Rattle.std.proofs.Common.{◌≡◌, ℕ, zero, suc, ◌+◌, ◌-◌, ◌*◌, ◌%◌, ◌<◌, Bool, true, false, cond, nat_eq, nat_lt, nat_le, List, [], ◌∷◌, ◌++◌, length, map, Option, Some, None, refl, lit<, arith}
+use Rattle.std.proofs.Common.{◌≡◌, ℕ, zero, suc, ◌+◌, ◌-◌, ◌*◌, ◌/◌, ◌%◌, ◌<◌, Bool, true, false, cond, nat_eq, nat_lt, nat_le, List, [], ◌∷◌, ◌++◌, length, map, Option, Some, None, refl, lit<, arith}
+use Rattle.bs_words.specs.Fits.{data_start}
 use Rattle.bs_words.specs.declared.operators.CmpOp.{CmpOp}
 use Rattle.bs_words.specs.declared.operators.CmpOp.TheVariants as compare
 use Rattle.bs_words.specs.declared.operators.IntOp.{IntOp}
@@ -364,7 +365,7 @@ module _ (P : Piece → Type 0) (known : (j : Instr) → InstrFits j → P (piec
   check_part-in : (t : ℕ) (r : Right) (args : List Spot) → Each P (check_part t r args)
   check_part-in t r args =
       join (join (fetched-in t T1 (first args)) (right_words-in t r args))
-      (each_more (skip-in condition.Bltu (right_register r args) (register_of T1 (first args)) 7) (each_more (lui-in A0 0x10000) raise_words-in))
+      (each_more (skip-in condition.Bltu (right_register r args) (register_of T1 (first args)) 7) (each_more (lui-in A0 (data_start / 4096)) raise_words-in))
 
   taken-in : (f : Frame) → Each P (taken f)
   taken-in f = chosen (nat_eq f.bytes 0) each_none (lowered-in T1 Sp f.bytes)

@@ -2,7 +2,8 @@
 --
 -- A trap is 16 bytes of the stack: the address of its handler, and the trap pointer as it was
 -- before. S1 points at the innermost one.
-use Rattle.std.specs.Prelude.{ℕ, ◌+◌, ◌*◌, List, [], ◌∷◌, ◌++◌, length}
+use Rattle.std.specs.Prelude.{ℕ, ◌+◌, ◌*◌, ◌/◌, List, [], ◌∷◌, ◌++◌, length}
+use Rattle.bs_words.specs.Fits.{data_start}
 use Rattle.bs_words.specs.declared.types.Loc.TheVariants as loc
 use Rattle.mach_ir.specs.declared.op.Right.{Right}
 use Rattle.lin_ir.specs.declared.lin.Spot.{Spot}
@@ -34,9 +35,9 @@ pop_part = load loads.Ld S1 Sp 8 ∷ addi Sp Sp 16 ∷ []
 abbrev pub enter_part : (traps : ℕ) → List Spot → List Piece
 enter_part traps results = moved traps (loc.Machine a0) (first results)
 
--- caml_bound_error is the first symbol of the data, which begin at 0x10000000
+-- caml_bound_error is the first symbol of the data
 abbrev pub raise_bound_error : List Piece
-raise_bound_error = lui A0 0x10000 ∷ raise_words
+raise_bound_error = lui A0 (data_start / 4096) ∷ raise_words
 
 -- the first operand is the bound, the right one the index, both unsigned
 abbrev pub check_part : (traps : ℕ) → Right → List Spot → List Piece

@@ -1,7 +1,8 @@
 -- The slots that the parts of lines name that leave a function, test a bound, or push, pop or enter a trap.
-use Rattle.std.proofs.Common.{◌≡◌, ℕ, ◌+◌, ◌*◌, ◌<◌, Bool, true, false, cond, nat_eq, nat_lt, nat_le, not, ◌||◌, ◌&&◌, List, [], ◌∷◌, length, refl, sym, ◌∙◌, ap, Option, subst, arith}
+use Rattle.std.proofs.Common.{◌≡◌, ℕ, ◌+◌, ◌*◌, ◌/◌, ◌<◌, Bool, true, false, cond, nat_eq, nat_lt, nat_le, not, ◌||◌, ◌&&◌, List, [], ◌∷◌, length, refl, sym, ◌∙◌, ap, Option, subst, arith}
 use Rattle.std.proofs.lemmas.Bool.Decides.{nat_tests}
 use Rattle.std.proofs.Math.Bool.{and-false}
+use Rattle.bs_words.specs.Fits.{data_start}
 use Rattle.bs_words.specs.Word.{add_word, sext_word, word_of, signed_in}
 use Rattle.bs_words.specs.declared.types.Loc.{Loc}
 use Rattle.bs_words.specs.declared.types.Loc.TheVariants as loc
@@ -103,7 +104,7 @@ module _ (c : ℕ) where
 
   bound_error-slots : Part c raise_bound_error false false
   bound_error-slots =
-      joined c {xs = lui A0 0x10000 ∷ []} (steady c (lui A0 0x10000) (λ h k. refl) (λ h k. refl) (λ h k. is_constant) refl) raise-slots
+      joined c {xs = lui A0 (data_start / 4096) ∷ []} (steady c (lui A0 (data_start / 4096)) (λ h k. refl) (λ h k. refl) (λ h k. is_constant) refl) raise-slots
 
   -- ---- traps
 

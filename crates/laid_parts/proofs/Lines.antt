@@ -1,6 +1,7 @@
 -- The registers that the parts of lines name, by their first and second operands.
-use Rattle.std.proofs.Common.{◌≡◌, ℕ, ◌+◌, ◌*◌, Bool, true, false, cond, nat_eq, nat_le, not, ◌||◌, List, [], ◌∷◌, ◌++◌, length, map, refl, ◌∙◌, ap, Option, Some, None}
+use Rattle.std.proofs.Common.{◌≡◌, ℕ, ◌+◌, ◌*◌, ◌/◌, Bool, true, false, cond, nat_eq, nat_le, not, ◌||◌, List, [], ◌∷◌, ◌++◌, length, map, refl, ◌∙◌, ap, Option, Some, None}
 use Rattle.std.proofs.Math.Bool.{and-false, or-false}
+use Rattle.bs_words.specs.Fits.{data_start}
 use Rattle.bs_words.specs.declared.operators.CmpOp.{CmpOp}
 use Rattle.bs_words.specs.declared.operators.CmpOp.TheVariants as compare
 use Rattle.bs_words.specs.declared.operators.IntOp.{IntOp}
@@ -337,7 +338,7 @@ module _ (n : ℕ) (apart : IsApart n) (t : ℕ) where
       (same
       (joined {xs = skip condition.Bltu (right_register r args) (register_of T1 (first args)) (4 * (1 + length raise_bound_error)) ∷ []}
       (alone n (skip condition.Bltu (right_register r args) (register_of T1 (first args)) (4 * (1 + length raise_bound_error))))
-      (then_none {xs = lui A0 0x10000 ∷ []} (same (alone n (lui A0 0x10000)) refl (or-false (hits n A0))) raise-names))
+      (then_none {xs = lui A0 (data_start / 4096) ∷ []} (same (alone n (lui A0 (data_start / 4096))) refl (or-false (hits n A0))) raise-names))
       (or-false _ ∙ (ap (λ (z : Bool). hits n (right_register r args) || z) (or-false (hits n (register_of T1 (first args))))
       ∙ (or_turned (hits n (right_register r args)) (hits n (register_of T1 (first args))) ∙ two_at r args a h)))
       refl)

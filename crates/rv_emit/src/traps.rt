@@ -7,12 +7,15 @@ ghost use Rattle.rv_emit.specs.Outputs.{Adds};
 use crate::branches::right_register;
 use crate::output::Output;
 use crate::slots::{first, register_of};
-use bs_words::Loc;
+use bs_words::{DATA_START, Loc};
 use lin_ir::Spot;
 use mach_ir::{Label, Right};
 use rv_isa::{Condition, LoadWidth, Register, StoreWidth};
 use rv_pieces::Piece;
 use std::alloc::AllocError;
+
+/// The upper 20 bits of the address of the data's first symbol, whose lower 12 are none.
+const DATA_UPPER: u64 = DATA_START / 4096;
 
 impl Output {
     /// To the handler of the innermost trap, which is popped. The only error is want of memory.
@@ -67,7 +70,7 @@ impl Output {
     fn raise_bound_error(&mut self) -> Result<(), AllocError>
         ensures { IfOk result (λ _. Adds self.old self.new raise_bound_error) }
     {
-        self.lui(Register::A0, 0x10000)?;
+        self.lui(Register::A0, DATA_UPPER)?;
         self.raise_words()
     }
 

@@ -190,10 +190,8 @@ pub fn load<'a>(alloc: Global, image: &'a Image, setup: &Setup) -> Result<Machin
     };
     let stack = u64::from(setup.stack);
     let heap = u64::from(setup.heap);
-    match at_entry(alloc, image, entry.offset, &words, stack, heap) {
-        Ok(machine) => Ok(machine),
-        Err(_) => Err(LoadError::OutOfMemory),
-    }
+    let machine = at_entry(alloc, image, entry.offset, &words, stack, heap)?;
+    Ok(machine)
 }
 
 // The machine at an address of the code, with those argument words.

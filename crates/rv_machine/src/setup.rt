@@ -1,6 +1,9 @@
 //! What a run is given: its entry and arguments, and how much stack and heap it has.
+ghost use Rattle.std.specs.Prelude.{◌≡◌};
+ghost use Rattle.rv_machine.specs.declared.setup.LoadError.TheVariants.{OutOfMemory};
 
 use bs_words::{List, Name};
+use std::alloc::AllocError;
 use thiserror::Error;
 
 /// What a run is given.
@@ -36,4 +39,12 @@ pub enum LoadError {
     /// Memory ran out.
     #[error("out of memory")]
     OutOfMemory,
+}
+
+impl From<AllocError> for LoadError {
+    ghost from_gives = { λ _ e. e ≡ OutOfMemory };
+
+    fn from(_error: AllocError) -> Self {
+        LoadError::OutOfMemory
+    }
 }

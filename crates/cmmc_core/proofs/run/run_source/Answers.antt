@@ -1,25 +1,25 @@
+use Rattle.std.proofs.lemmas.Result.{err_from_is_err_and}
 use Rattle.command_line.specs.View.{run_view}
 use Rattle.bs_words.specs.Contents.{contents}
 use Rattle.cmmc_core.proofs.Ending.{Keeps-same}
-use Rattle.cmmc_core.proofs.Refused.{refused_so}
-use Rattle.cmmc_core.proofs.Spelled.{no_spelling}
+use Rattle.cmmc_core.proofs.Refused.{not_read, not_image, refused_so}
 use Rattle.cmmc_core.proofs.run.run_source.Goals as goal
 
-pub returns-in-Err-Refused-clause-refused : goal.returns-in-Err-Refused-clause-refused
-returns-in-Err-Refused-clause-refused g c =
-    rw c.in-Err-Refused.field-0-is (
-      Keeps-same _,
-      record {
-        bytes = contents c.in-Ok.bytes;
-        read = c.in-Ok.ensures.read;
-        no_image = no_spelling _ _ (rw (c.in-Err-Refused.field-0-is, c.as_slice.ensures) at c.in-Err-Refused.ensures.refused);
-      },
-    )
+pub returns-in_err-bytes-clause-refused : goal.returns-in_err-bytes-clause-refused
+returns-in_err-bytes-clause-refused g c =
+    let p = err_from_is_err_and c.from_residual.result c.from_residual.ensures.1 in
+    rw (p.1, p.2) (not_read (run_view c.args.run) _ _ (Keeps-same _) _ c.in_err-bytes.ensures.refused)
 
-pub returns-in-Ok-read_image-clause-refused : goal.returns-in-Ok-read_image-clause-refused
-returns-in-Ok-read_image-clause-refused g c =
-    refused_so {T = Unit {0}} (run_view c.args.run) _ _ _ _ _ c.in-Ok.ensures.read c.as_slice.ensures c.in-Ok-read_image.ensures.found.0
-    c.in-Ok-read_image.ensures.found.1 c.run_on.result c.run_on.ensures.refused
+pub returns-in_err-image-clause-refused : goal.returns-in_err-image-clause-refused
+returns-in_err-image-clause-refused g c =
+    let p = err_from_is_err_and c.from_residual.result c.from_residual.ensures.1 in
+    rw (p.1, p.2)
+    (not_image (run_view c.args.run) _ _ (contents c.in_ok-bytes.bytes) _ (Keeps-same _) c.in_ok-bytes.ensures.read c.as_slice.ensures _ c.in_err-image.ensures.refused)
+
+pub returns-clause-refused : goal.returns-clause-refused
+returns-clause-refused g c =
+    refused_so {T = Unit {0}} (run_view c.args.run) _ _ _ _ _ c.in_ok-bytes.ensures.read c.as_slice.ensures c.in_ok-image.ensures.found.0
+    c.in_ok-image.ensures.found.1 c.run_on.result c.run_on.ensures.refused
 
 -- the words keep to what a machine may have
 pub run_on-requires-clause-stack : goal.run_on-requires-clause-stack

@@ -24,13 +24,13 @@ started : (image : Tables) (setup : Setup) (entry : Func) (h : Hart) (words : Li
 started image setup entry h words None e k = absurd (cc)
 started image setup entry h words (Some args) e k = let same : words ≡ padded 16 args = cc in ap Ok (sym (k args same))
 
-pub returns-in-Ok-clause-loaded : goal.returns-in-Ok-clause-loaded
-returns-in-Ok-clause-loaded c =
+pub returns-clause-loaded : goal.returns-clause-loaded
+returns-clause-loaded c =
     let entry = func c.in-Some.entry.now in
     ap (begins_at (tables c.args.image.now) c.args.setup.now) (sym c.in-Some.ensures)
-    ∙ started (tables c.args.image.now) c.args.setup.now entry c.in-Ok.machine c.in-Some-argument_words.words
+    ∙ started (tables c.args.image.now) c.args.setup.now entry c.in_ok-machine.machine c.in-Some-argument_words.words
     (words_of_args (tables c.args.image.now) entry.params (contents c.args.setup.now.args)) c.in-Some-argument_words.ensures
     (λ args same.
-    c.in-Ok.ensures entry args refl same
+    c.in_ok-machine.ensures entry args refl same
     ∙ ap (λ (stack : ℕ). start (tables c.args.image.now) entry args stack c.from-heap.result) c.from-stack.ensures
     ∙ ap (λ (heap : ℕ). start (tables c.args.image.now) entry args c.args.setup.now.stack heap) c.from-heap.ensures)
