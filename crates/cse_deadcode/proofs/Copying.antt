@@ -21,6 +21,7 @@ use Rattle.mach_ir.specs.declared.reg.Reg.{Reg}
 use Rattle.mach_ir.specs.declared.mach.Instr.{Instr}
 use Rattle.mach_ir.specs.declared.mach.Mach.{Mach}
 use Rattle.mach_ir.specs.declared.mach.MachOp.TheVariants as mach
+use Rattle.mach_laws.proofs.Places.{args_in_code, results_in_code}
 use Rattle.copy_rules.specs.Propagated.{move, IsCopy, ReadFor, source, itself, IsBefore, IsPropagated}
 use Rattle.cse_deadcode.specs.declared.events.Event.{Event}
 use Rattle.cse_deadcode.specs.declared.events.Event.TheVariants as event
@@ -31,7 +32,7 @@ use Rattle.cse_deadcode.specs.Copies.{is_move, is_copy, source_first, source_by,
 use Rattle.cse_deadcode.proofs.Last.{AreQuiet, Found, find, last_from}
 use Rattle.cse_deadcode.proofs.Noting.{first_true, only_first, number_written, written_number, number_write, unwritten, quiet, ends_run, in_run}
 use Rattle.cse_deadcode.proofs.Alike.{one_of}
-use Rattle.cse_deadcode.proofs.Parts.{at_seam, Places, one_place, further_on, places, operand_in, result_in}
+use Rattle.cse_deadcode.proofs.Parts.{at_seam, Places, one_place, further_on, places}
 use Rattle.cse_deadcode.proofs.Planned as step
 use Rattle.cse_deadcode.proofs.Standing.{of_each, all_straight, quiet_later, later_quiet, still_holds, holds_still}
 use Rattle.mach_ir.specs.Places.{is_open, same_comp}
@@ -252,7 +253,7 @@ module _ (m : Mach) (formed : WellFormed m) where
 
           same : s.to ≡ r
           same =
-              formed.numbers s.to r (is_in_code (result_in m.code g.from s.to g.known target)) known
+              formed.numbers s.to r (is_in_code (results_in_code m.code g.from s.to g.known target)) known
               (target_of (g.read s.from) s.to r.number (sym (ap (happens key) whole) ∙ f.holds))
 
       by_move : (d : MovedTo) → source_of (last_time made) made r ≡ cond (is_copy (last_time made) time d.from r) d.from r
@@ -352,7 +353,7 @@ module _ (m : Mach) (formed : WellFormed m) where
       subst (ReadFor (after before) r) (ap (λ p. p r) (sym (step.planned with_sources choice (λ r. r) m.code before i next e)))
       (read_for (after before)
       (all_made [] before (λ j d. absurd (none_in j d)) (λ j d. subst (λ code. Contains code j) (sym e) (Contains-append_left before (i ∷ next) j d)))
-      r (is_in_code (operand_in m.code i r (subst (λ code. Contains code i) (sym e) (Contains-append_right before (i ∷ next) i (first_in i next))) c)))
+      r (is_in_code (args_in_code m.code i r (subst (λ code. Contains code i) (sym e) (Contains-append_right before (i ∷ next) i (first_in i next))) c)))
 
   pub is_propagated : (q : Mach) → q ≡ record m { code = made_by with_sources [] m.code } → IsPropagated m q
   is_propagated q e =

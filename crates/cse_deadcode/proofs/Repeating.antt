@@ -14,6 +14,7 @@ use Rattle.mach_ir.specs.declared.mach.Instr.{Instr}
 use Rattle.mach_ir.specs.declared.mach.Mach.{Mach}
 use Rattle.mach_ir.specs.declared.mach.MachOp.{MachOp}
 use Rattle.mach_ir.specs.declared.mach.MachOp.TheVariants as mach
+use Rattle.mach_laws.proofs.Places.{args_in_code}
 use Rattle.repeat_rules.specs.Repeated.{is_operator, StillStands, Repeats, from_earlier, IsBefore, IsRepeated}
 use Rattle.bs_words.specs.declared.operators.IntOp.{IntOp}
 use Rattle.bs_words.proofs.Lists.{none_in, first_in, later_in, in_cons, none_there}
@@ -27,7 +28,7 @@ use Rattle.cse_deadcode.specs.Repeats.{stands, standing_first, standing, standin
 use Rattle.cse_deadcode.proofs.Last.{Found, find, last_from}
 use Rattle.cse_deadcode.proofs.Noting.{second_true, any_none, never_written}
 use Rattle.cse_deadcode.proofs.Alike.{operator_of, same_itself, OperatorShape, operator_shape, alike}
-use Rattle.cse_deadcode.proofs.Parts.{some_same, none_some, some_none, at_seam, Places, one_place, further_on, places, places_end, operand_in}
+use Rattle.cse_deadcode.proofs.Parts.{some_same, none_some, some_none, at_seam, Places, one_place, further_on, places, places_end}
 use Rattle.cse_deadcode.proofs.Planned as step
 use Rattle.cse_deadcode.proofs.Standing.{of_each, all_straight, still_stands, stands_still}
 use Rattle.bs_words.proofs.Truths.{not_both}
@@ -107,7 +108,7 @@ module _ (m : Mach) (formed : WellFormed m) where
   told : (i j : Instr) → Contains m.code i → Contains m.code j → (r q : Reg) → Contains i.args r → Contains j.args q →
       r.number ≡ q.number → r ≡ q
   told i j c d r q g h e =
-      formed.numbers r q (is_in_code (operand_in m.code i r c g)) (is_in_code (operand_in m.code j q d h)) e
+      formed.numbers r q (is_in_code (args_in_code m.code i r c g)) (is_in_code (args_in_code m.code j q d h)) e
 
   -- what is made of a code: its operators are of the function, and none repeats an earlier one
   pub record Fresh (made : List Instr) : Type 0 where

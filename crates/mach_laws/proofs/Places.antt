@@ -202,6 +202,19 @@ pub results_in : {i : Instr} {next code : List Instr} {r : Reg} → Stands i nex
 results_in here c = in_results c
 results_in (below s) c = further (results_in s c)
 
+-- what an instruction of a code has is in the code
+pub args_in_code : (code : List Instr) (i : Instr) (r : Reg) → Contains code i → Contains i.args r → InCode r code
+args_in_code [] i r c d = absurd (none_in i c)
+args_in_code (j ∷ is) i r c d =
+    ⊎_elim (λ e. in_args (subst (λ (i : Instr). Contains i.args r) (sym e) d)) (λ h. further (args_in_code is i r h d))
+    (in_cons j i is c)
+
+pub results_in_code : (code : List Instr) (i : Instr) (r : Reg) → Contains code i → Contains i.results r → InCode r code
+results_in_code [] i r c d = absurd (none_in i c)
+results_in_code (j ∷ is) i r c d =
+    ⊎_elim (λ e. in_results (subst (λ (i : Instr). Contains i.results r) (sym e) d))
+    (λ h. further (results_in_code is i r h d)) (in_cons j i is c)
+
 -- an open place is no machine register and no slot
 pub is_unset : (l : Loc) → is_open l ≡ true → l ≡ loc.Unset
 is_unset loc.Unset e = refl
