@@ -6,7 +6,6 @@ use Rattle.std.specs.List.{Contains, list_any}
 use Rattle.std.proofs.lemmas.List.Elements.{Contains-append_cases, Contains-append_left, Contains-append_right}
 use Rattle.bs_words.specs.declared.types.Comp.{Comp}
 use Rattle.bs_words.specs.declared.types.Comp.TheVariants as comp
-use Rattle.bs_words.specs.declared.types.Loc.{Loc}
 use Rattle.bs_words.specs.declared.types.Loc.TheVariants as loc
 use Rattle.bs_words.proofs.Lists.{none_in, first_in, later_in, in_cons, head_same}
 use Rattle.mach_ir.specs.Forms as form
@@ -21,7 +20,7 @@ use Rattle.mach_ir.specs.declared.reg.Reg.{Reg}
 use Rattle.mach_ir.specs.declared.mach.Instr.{Instr}
 use Rattle.mach_ir.specs.declared.mach.Mach.{Mach}
 use Rattle.mach_ir.specs.declared.mach.MachOp.TheVariants as mach
-use Rattle.mach_laws.proofs.Places.{args_in_code, results_in_code}
+use Rattle.mach_laws.proofs.Places.{args_in_code, results_in_code, comp_is, is_unset}
 use Rattle.copy_rules.specs.Propagated.{move, IsCopy, ReadFor, source, itself, IsBefore, IsPropagated}
 use Rattle.cse_deadcode.specs.declared.events.Event.{Event}
 use Rattle.cse_deadcode.specs.declared.events.Event.TheVariants as event
@@ -40,34 +39,11 @@ use Rattle.bs_words.proofs.Truths.{not_both}
 
 -- ---- components and places
 
-one_comp : (a b : Comp) → same_comp a b ≡ true → a ≡ b
-one_comp comp.Int comp.Int e = refl
-one_comp comp.Val comp.Val e = refl
-one_comp comp.Addr comp.Addr e = refl
-one_comp comp.Float comp.Float e = refl
-one_comp comp.Int comp.Val e = absurd (not_both false e refl)
-one_comp comp.Int comp.Addr e = absurd (not_both false e refl)
-one_comp comp.Int comp.Float e = absurd (not_both false e refl)
-one_comp comp.Val comp.Int e = absurd (not_both false e refl)
-one_comp comp.Val comp.Addr e = absurd (not_both false e refl)
-one_comp comp.Val comp.Float e = absurd (not_both false e refl)
-one_comp comp.Addr comp.Int e = absurd (not_both false e refl)
-one_comp comp.Addr comp.Val e = absurd (not_both false e refl)
-one_comp comp.Addr comp.Float e = absurd (not_both false e refl)
-one_comp comp.Float comp.Int e = absurd (not_both false e refl)
-one_comp comp.Float comp.Val e = absurd (not_both false e refl)
-one_comp comp.Float comp.Addr e = absurd (not_both false e refl)
-
 comp_itself : (a : Comp) → same_comp a a ≡ true
 comp_itself comp.Int = refl
 comp_itself comp.Val = refl
 comp_itself comp.Addr = refl
 comp_itself comp.Float = refl
-
-open_place : (l : Loc) → is_open l ≡ true → l ≡ loc.Unset
-open_place loc.Unset e = refl
-open_place (loc.Machine k) e = absurd (not_both false e refl)
-open_place (loc.Slot k) e = absurd (not_both false e refl)
 
 -- what makes a register a copy by the times
 record Copied (at : Clock) (time : ℕ) (q r : Reg) : Type 0 where
@@ -93,9 +69,9 @@ parts_of at time q r e =
     let c = and_parts (is_open r.loc) (nat_le (at event.EndsRun) time && result_stands at time q) b.1 in
     let d = and_parts (nat_le (at event.EndsRun) time) (result_stands at time q) c.1 in
     record {
-      one = one_comp q.comp r.comp a.0;
-      source_open = open_place q.loc b.0;
-      target_open = open_place r.loc c.0;
+      one = comp_is q.comp r.comp a.0;
+      source_open = is_unset q.loc b.0;
+      target_open = is_unset r.loc c.0;
       in_run = d.0;
       stands = d.1;
     }
