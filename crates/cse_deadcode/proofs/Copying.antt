@@ -1,6 +1,6 @@
 -- What is read in place of operands by the times of the code is exactly what they are copies of.
 use Rattle.std.proofs.Common.{◌≡◌, ◌∙◌, ℕ, zero, suc, ◌<◌, ◌≤◌, Bool, true, false, cond, ◌&&◌, nat_le, ⊎_elim, List, [], ◌∷◌, ◌++◌, length, slice_get, refl, sym, ap, subst, arith}
-use Rattle.std.proofs.lemmas.Bool.{and_parts, and_from, le-leb}
+use Rattle.std.proofs.lemmas.Bool.{and_parts, and_from, le-leb, or_left}
 use Rattle.std.proofs.lemmas.List.{length-map}
 use Rattle.std.specs.List.{Contains, list_any}
 use Rattle.std.proofs.lemmas.List.Elements.{Contains-append_cases, Contains-append_left, Contains-append_right}
@@ -29,7 +29,7 @@ use Rattle.cse_deadcode.specs.Times.{Clock, writes, happens, last_time}
 use Rattle.cse_deadcode.specs.Repeats.{result_stands}
 use Rattle.cse_deadcode.specs.Copies.{is_move, is_copy, source_first, source_by, source_found, source_at, source_of, read_by, with_sources}
 use Rattle.cse_deadcode.proofs.Last.{AreQuiet, Found, find, last_from}
-use Rattle.cse_deadcode.proofs.Noting.{first_true, only_first, number_written, written_number, number_write, unwritten, quiet, ends_run, in_run}
+use Rattle.cse_deadcode.proofs.Noting.{only_first, number_written, written_number, number_write, unwritten, quiet, ends_run, in_run}
 use Rattle.cse_deadcode.proofs.Alike.{one_of}
 use Rattle.cse_deadcode.proofs.Parts.{at_seam, Places, one_place, further_on, places}
 use Rattle.cse_deadcode.proofs.Planned as step
@@ -121,8 +121,8 @@ target_of q w n e =
 
 target_written : (q w : Reg) → happens (event.Writes w.number) (move q w) ≡ true
 target_written q w =
-    first_true (list_any (writes (event.Writes w.number)) (w ∷ [])) false
-    (first_true (writes (event.Writes w.number) w) false (written_number w.number w refl))
+    or_left (list_any (writes (event.Writes w.number)) (w ∷ [])) false
+    (or_left (writes (event.Writes w.number) w) false (written_number w.number w refl))
 
 -- ---- the function
 

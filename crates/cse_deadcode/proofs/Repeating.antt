@@ -1,6 +1,7 @@
 -- Moves from what an operator repeats by the times of the code are exactly the repeats.
 use Rattle.std.proofs.Common.{◌≡◌, ◌∙◌, ℕ, zero, suc, ◌<◌, ◌≤◌, Bool, true, false, cond, ◌||◌, ⊎_elim, List, [], ◌∷◌, ◌++◌, length, Option, Some, None, slice_get, refl, sym, ap, subst, arith}
 use Rattle.std.specs.List.{Contains, list_any}
+use Rattle.std.proofs.lemmas.Bool.{or_right}
 use Rattle.std.proofs.lemmas.List.Elements.{Contains-append_cases, Contains-append_left, Contains-append_right}
 use Rattle.mach_ir.specs.Formed.{IsFormed, WellFormed}
 use Rattle.mach_ir.specs.Placed.{is_straight}
@@ -26,7 +27,7 @@ use Rattle.cse_deadcode.specs.Made.{remade, made_by}
 use Rattle.cse_deadcode.specs.Times.{is_same, writes, does, happens, last_time}
 use Rattle.cse_deadcode.specs.Repeats.{stands, standing_first, standing, standing_found, standing_at, repeated_op, repeated, without_repeat}
 use Rattle.cse_deadcode.proofs.Last.{Found, find, last_from}
-use Rattle.cse_deadcode.proofs.Noting.{second_true, any_none, never_written}
+use Rattle.cse_deadcode.proofs.Noting.{any_none, never_written}
 use Rattle.cse_deadcode.proofs.Alike.{operator_of, same_itself, OperatorShape, operator_shape, alike}
 use Rattle.cse_deadcode.proofs.Parts.{some_same, none_some, some_none, at_seam, Places, one_place, further_on, places, places_end}
 use Rattle.cse_deadcode.proofs.Planned as step
@@ -38,7 +39,7 @@ use Rattle.bs_words.proofs.Truths.{not_both}
 computed_by : (f : IntOp) (r : Right) (args : List Reg) (i : Instr) → i.op ≡ operator_of f r → i.args ≡ args →
     happens (event.Computes (computation f r args)) i ≡ true
 computed_by f r args i e h =
-    second_true (list_any (writes (event.Computes (computation f r args))) i.results) (does (event.Computes (computation f r args)) i.op i.args)
+    or_right (list_any (writes (event.Computes (computation f r args))) i.results) (does (event.Computes (computation f r args)) i.op i.args)
     (ap (λ g. does (event.Computes (computation f r args)) g i.args) e
     ∙ ap (λ xs. does (event.Computes (computation f r args)) (operator_of f r) xs) h
     ∙ same_itself (event.Computes (computation f r args)))

@@ -21,14 +21,7 @@ use Rattle.sink.specs.declared.chosen.Move.{Move}
 use Rattle.sink.proofs.Moving.{pairs_none, pairs_more, pairs_first, pairs_rest}
 use Rattle.sink.proofs.Running.{begins_of, one_start}
 use Rattle.mach_laws.proofs.Places.{ending_of}
-use Rattle.bs_words.proofs.Truths.{not_both}
-
--- ---- tests
-
-same_test : (a b : Bool) → (a ≡ true → b ≡ true) → (b ≡ true → a ≡ true) → a ≡ b
-same_test true b f g = sym (f refl)
-same_test false true f g = g refl
-same_test false false f g = refl
+use Rattle.bs_words.proofs.Truths.{not_both, bool_same}
 
 -- ---- moves by their numbers and places
 
@@ -174,7 +167,7 @@ module _ (m : Mach) (formed : WellFormed m) (moves : List Move) (are : AreMoves 
 
     test_same : (x : Move) → Contains moves x → nat_eq x.place p ≡ plan.moves (length next) x.reg.number
     test_same x c =
-        same_test (nat_eq x.place p) (moved_there moves x.reg.number p)
+        bool_same (nat_eq x.place p) (moved_there moves x.reg.number p)
         (λ e. of_there moves x x.reg.number p c refl (eqb-true x.place p e))
         (λ e.
         let y = are.each x c in
