@@ -5,7 +5,6 @@ use Rattle.std.proofs.lemmas.List.{length-map}
 use Rattle.std.specs.List.{Contains, list_any}
 use Rattle.std.proofs.lemmas.List.Elements.{Contains-append_cases, Contains-append_left, Contains-append_right}
 use Rattle.bs_words.specs.declared.types.Comp.{Comp}
-use Rattle.bs_words.specs.declared.types.Comp.TheVariants as comp
 use Rattle.bs_words.specs.declared.types.Loc.TheVariants as loc
 use Rattle.bs_words.proofs.Lists.{none_in, first_in, later_in, in_cons, head_same}
 use Rattle.mach_ir.specs.Forms as form
@@ -20,7 +19,7 @@ use Rattle.mach_ir.specs.declared.reg.Reg.{Reg}
 use Rattle.mach_ir.specs.declared.mach.Instr.{Instr}
 use Rattle.mach_ir.specs.declared.mach.Mach.{Mach}
 use Rattle.mach_ir.specs.declared.mach.MachOp.TheVariants as mach
-use Rattle.mach_laws.proofs.Places.{args_in_code, results_in_code, comp_is, is_unset}
+use Rattle.mach_laws.proofs.Places.{args_in_code, results_in_code, comp_is, is_unset, same_comp_is}
 use Rattle.copy_rules.specs.Propagated.{move, IsCopy, ReadFor, source, itself, IsBefore, IsPropagated}
 use Rattle.cse_deadcode.specs.declared.events.Event.{Event}
 use Rattle.cse_deadcode.specs.declared.events.Event.TheVariants as event
@@ -37,14 +36,6 @@ use Rattle.cse_deadcode.proofs.Standing.{of_each, all_straight, quiet_later, lat
 use Rattle.mach_ir.specs.Places.{is_open, same_comp}
 use Rattle.bs_words.proofs.Truths.{not_both}
 
--- ---- components and places
-
-comp_itself : (a : Comp) → same_comp a a ≡ true
-comp_itself comp.Int = refl
-comp_itself comp.Val = refl
-comp_itself comp.Addr = refl
-comp_itself comp.Float = refl
-
 -- what makes a register a copy by the times
 record Copied (at : Clock) (time : ℕ) (q r : Reg) : Type 0 where
   one : q.comp ≡ r.comp
@@ -56,7 +47,7 @@ record Copied (at : Clock) (time : ℕ) (q r : Reg) : Type 0 where
 by_parts : (at : Clock) (time : ℕ) (q r : Reg) → Copied at time q r → is_copy at time q r ≡ true
 by_parts at time q r c =
     and_from (same_comp q.comp r.comp) (is_open q.loc && (is_open r.loc && (nat_le (at event.EndsRun) time && result_stands at time q)))
-    (ap (λ a. same_comp a r.comp) c.one ∙ comp_itself r.comp)
+    (ap (λ a. same_comp a r.comp) c.one ∙ same_comp_is r.comp)
     (and_from (is_open q.loc) (is_open r.loc && (nat_le (at event.EndsRun) time && result_stands at time q)) (ap is_open c.source_open)
     (and_from (is_open r.loc) (nat_le (at event.EndsRun) time && result_stands at time q) (ap is_open c.target_open)
     (and_from (nat_le (at event.EndsRun) time) (result_stands at time q) c.in_run c.stands)))

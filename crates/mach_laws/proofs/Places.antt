@@ -240,3 +240,9 @@ comp_is comp.Addr comp.Float e = absurd (true≢false (sym e))
 comp_is comp.Float comp.Int e = absurd (true≢false (sym e))
 comp_is comp.Float comp.Val e = absurd (true≢false (sym e))
 comp_is comp.Float comp.Addr e = absurd (true≢false (sym e))
+
+pub same_comp_is : (t : Comp) → same_comp t t ≡ true
+same_comp_is comp.Int = refl
+same_comp_is comp.Val = refl
+same_comp_is comp.Addr = refl
+same_comp_is comp.Float = refl
