@@ -1,12 +1,10 @@
 -- What is read in place of operands by the times of the code is exactly what they are copies of.
 use Rattle.std.proofs.Common.{◌≡◌, ◌∙◌, ℕ, zero, suc, ◌<◌, ◌≤◌, Bool, true, false, cond, ◌&&◌, nat_le, ⊎_elim, List, [], ◌∷◌, ◌++◌, length, slice_get, refl, sym, ap, subst, arith}
-use Rattle.std.proofs.lemmas.Bool.{and_parts, and_from, le-leb}
+use Rattle.std.proofs.lemmas.Bool.{and_parts, and_from, le-leb, or_left}
 use Rattle.std.proofs.lemmas.List.{length-map}
 use Rattle.std.specs.List.{Contains, list_any}
 use Rattle.std.proofs.lemmas.List.Elements.{Contains-append_cases, Contains-append_left, Contains-append_right}
 use Rattle.bs_words.specs.declared.types.Comp.{Comp}
-use Rattle.bs_words.specs.declared.types.Comp.TheVariants as comp
-use Rattle.bs_words.specs.declared.types.Loc.{Loc}
 use Rattle.bs_words.specs.declared.types.Loc.TheVariants as loc
 use Rattle.bs_words.proofs.Lists.{none_in, first_in, later_in, in_cons, head_same}
 use Rattle.mach_ir.specs.Forms as form
@@ -21,6 +19,7 @@ use Rattle.mach_ir.specs.declared.reg.Reg.{Reg}
 use Rattle.mach_ir.specs.declared.mach.Instr.{Instr}
 use Rattle.mach_ir.specs.declared.mach.Mach.{Mach}
 use Rattle.mach_ir.specs.declared.mach.MachOp.TheVariants as mach
+use Rattle.mach_laws.proofs.Places.{args_in_code, results_in_code, comp_is, is_unset, same_comp_is}
 use Rattle.copy_rules.specs.Propagated.{move, IsCopy, ReadFor, source, itself, IsBefore, IsPropagated}
 use Rattle.cse_deadcode.specs.declared.events.Event.{Event}
 use Rattle.cse_deadcode.specs.declared.events.Event.TheVariants as event
@@ -29,44 +28,13 @@ use Rattle.cse_deadcode.specs.Times.{Clock, writes, happens, last_time}
 use Rattle.cse_deadcode.specs.Repeats.{result_stands}
 use Rattle.cse_deadcode.specs.Copies.{is_move, is_copy, source_first, source_by, source_found, source_at, source_of, read_by, with_sources}
 use Rattle.cse_deadcode.proofs.Last.{AreQuiet, Found, find, last_from}
-use Rattle.cse_deadcode.proofs.Noting.{first_true, only_first, number_written, written_number, number_write, unwritten, quiet, ends_run, in_run}
+use Rattle.cse_deadcode.proofs.Noting.{only_first, number_written, written_number, number_write, unwritten, quiet, ends_run, in_run}
 use Rattle.cse_deadcode.proofs.Alike.{one_of}
-use Rattle.cse_deadcode.proofs.Parts.{at_seam, Places, one_place, further_on, places, operand_in, result_in}
+use Rattle.cse_deadcode.proofs.Parts.{at_seam, Places, one_place, further_on, places}
 use Rattle.cse_deadcode.proofs.Planned as step
 use Rattle.cse_deadcode.proofs.Standing.{of_each, all_straight, quiet_later, later_quiet, still_holds, holds_still}
 use Rattle.mach_ir.specs.Places.{is_open, same_comp}
 use Rattle.bs_words.proofs.Truths.{not_both}
-
--- ---- components and places
-
-one_comp : (a b : Comp) → same_comp a b ≡ true → a ≡ b
-one_comp comp.Int comp.Int e = refl
-one_comp comp.Val comp.Val e = refl
-one_comp comp.Addr comp.Addr e = refl
-one_comp comp.Float comp.Float e = refl
-one_comp comp.Int comp.Val e = absurd (not_both false e refl)
-one_comp comp.Int comp.Addr e = absurd (not_both false e refl)
-one_comp comp.Int comp.Float e = absurd (not_both false e refl)
-one_comp comp.Val comp.Int e = absurd (not_both false e refl)
-one_comp comp.Val comp.Addr e = absurd (not_both false e refl)
-one_comp comp.Val comp.Float e = absurd (not_both false e refl)
-one_comp comp.Addr comp.Int e = absurd (not_both false e refl)
-one_comp comp.Addr comp.Val e = absurd (not_both false e refl)
-one_comp comp.Addr comp.Float e = absurd (not_both false e refl)
-one_comp comp.Float comp.Int e = absurd (not_both false e refl)
-one_comp comp.Float comp.Val e = absurd (not_both false e refl)
-one_comp comp.Float comp.Addr e = absurd (not_both false e refl)
-
-comp_itself : (a : Comp) → same_comp a a ≡ true
-comp_itself comp.Int = refl
-comp_itself comp.Val = refl
-comp_itself comp.Addr = refl
-comp_itself comp.Float = refl
-
-open_place : (l : Loc) → is_open l ≡ true → l ≡ loc.Unset
-open_place loc.Unset e = refl
-open_place (loc.Machine k) e = absurd (not_both false e refl)
-open_place (loc.Slot k) e = absurd (not_both false e refl)
 
 -- what makes a register a copy by the times
 record Copied (at : Clock) (time : ℕ) (q r : Reg) : Type 0 where
@@ -79,7 +47,7 @@ record Copied (at : Clock) (time : ℕ) (q r : Reg) : Type 0 where
 by_parts : (at : Clock) (time : ℕ) (q r : Reg) → Copied at time q r → is_copy at time q r ≡ true
 by_parts at time q r c =
     and_from (same_comp q.comp r.comp) (is_open q.loc && (is_open r.loc && (nat_le (at event.EndsRun) time && result_stands at time q)))
-    (ap (λ a. same_comp a r.comp) c.one ∙ comp_itself r.comp)
+    (ap (λ a. same_comp a r.comp) c.one ∙ same_comp_is r.comp)
     (and_from (is_open q.loc) (is_open r.loc && (nat_le (at event.EndsRun) time && result_stands at time q)) (ap is_open c.source_open)
     (and_from (is_open r.loc) (nat_le (at event.EndsRun) time && result_stands at time q) (ap is_open c.target_open)
     (and_from (nat_le (at event.EndsRun) time) (result_stands at time q) c.in_run c.stands)))
@@ -92,9 +60,9 @@ parts_of at time q r e =
     let c = and_parts (is_open r.loc) (nat_le (at event.EndsRun) time && result_stands at time q) b.1 in
     let d = and_parts (nat_le (at event.EndsRun) time) (result_stands at time q) c.1 in
     record {
-      one = one_comp q.comp r.comp a.0;
-      source_open = open_place q.loc b.0;
-      target_open = open_place r.loc c.0;
+      one = comp_is q.comp r.comp a.0;
+      source_open = is_unset q.loc b.0;
+      target_open = is_unset r.loc c.0;
       in_run = d.0;
       stands = d.1;
     }
@@ -144,8 +112,8 @@ target_of q w n e =
 
 target_written : (q w : Reg) → happens (event.Writes w.number) (move q w) ≡ true
 target_written q w =
-    first_true (list_any (writes (event.Writes w.number)) (w ∷ [])) false
-    (first_true (writes (event.Writes w.number) w) false (written_number w.number w refl))
+    or_left (list_any (writes (event.Writes w.number)) (w ∷ [])) false
+    (or_left (writes (event.Writes w.number) w) false (written_number w.number w refl))
 
 -- ---- the function
 
@@ -252,7 +220,7 @@ module _ (m : Mach) (formed : WellFormed m) where
 
           same : s.to ≡ r
           same =
-              formed.numbers s.to r (is_in_code (result_in m.code g.from s.to g.known target)) known
+              formed.numbers s.to r (is_in_code (results_in_code m.code g.from s.to g.known target)) known
               (target_of (g.read s.from) s.to r.number (sym (ap (happens key) whole) ∙ f.holds))
 
       by_move : (d : MovedTo) → source_of (last_time made) made r ≡ cond (is_copy (last_time made) time d.from r) d.from r
@@ -352,7 +320,7 @@ module _ (m : Mach) (formed : WellFormed m) where
       subst (ReadFor (after before) r) (ap (λ p. p r) (sym (step.planned with_sources choice (λ r. r) m.code before i next e)))
       (read_for (after before)
       (all_made [] before (λ j d. absurd (none_in j d)) (λ j d. subst (λ code. Contains code j) (sym e) (Contains-append_left before (i ∷ next) j d)))
-      r (is_in_code (operand_in m.code i r (subst (λ code. Contains code i) (sym e) (Contains-append_right before (i ∷ next) i (first_in i next))) c)))
+      r (is_in_code (args_in_code m.code i r (subst (λ code. Contains code i) (sym e) (Contains-append_right before (i ∷ next) i (first_in i next))) c)))
 
   pub is_propagated : (q : Mach) → q ≡ record m { code = made_by with_sources [] m.code } → IsPropagated m q
   is_propagated q e =

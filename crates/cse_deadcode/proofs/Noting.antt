@@ -1,5 +1,5 @@
 -- Which events happen in an instruction.
-use Rattle.std.proofs.lemmas.Bool.{false_from_ne_true}
+use Rattle.std.proofs.lemmas.Bool.{false_from_ne_true, not_from_true, or_from, or_left}
 use Rattle.std.proofs.Common.{◌≡◌, ◌∙◌, ℕ, Bool, true, false, not, ◌||◌, ⊎_elim, List, [], ◌∷◌, refl, sym, ap}
 use Rattle.std.proofs.lemmas.Cmp.{tied_itself, nat_cmp_total}
 use Rattle.std.proofs.lemmas.Map.Lookups.{exact_unsigned}
@@ -33,10 +33,6 @@ pub not_false : (b : Bool) → not b ≡ false → b ≡ true
 not_false true e = refl
 not_false false e = absurd (not_both true refl e)
 
-pub true_not : (b : Bool) → b ≡ true → not b ≡ false
-true_not true e = refl
-true_not false e = absurd (not_both false e refl)
-
 pub first_false : (a b : Bool) → a || b ≡ false → a ≡ false
 first_false true b e = absurd (not_both true refl e)
 first_false false b e = refl
@@ -44,18 +40,6 @@ first_false false b e = refl
 pub second_false : (a b : Bool) → a || b ≡ false → b ≡ false
 second_false true b e = absurd (not_both true refl e)
 second_false false b e = e
-
-pub both_false : (a b : Bool) → a ≡ false → b ≡ false → a || b ≡ false
-both_false true b e h = absurd (not_both true refl e)
-both_false false b e h = h
-
-pub first_true : (a b : Bool) → a ≡ true → a || b ≡ true
-first_true true b e = refl
-first_true false b e = absurd (not_both false e refl)
-
-pub second_true : (a b : Bool) → b ≡ true → a || b ≡ true
-second_true true b e = refl
-second_true false b e = e
 
 pub only_first : (a b : Bool) → b ≡ false → a || b ≡ true → a ≡ true
 only_first true b e h = refl
@@ -79,7 +63,7 @@ numbers_equal a b e = ap (λ x. is_eq (nat_cmp x b)) e ∙ ap is_eq (tied_itself
 pub any_none : {A : Type 0} (test : A → Bool) (xs : List A) → ((x : A) → Contains xs x → test x ≡ false) → list_any test xs ≡ false
 any_none test [] h = refl
 any_none test (x ∷ xs) h =
-    both_false (test x) (list_any test xs) (h x (first_in x xs)) (any_none test xs (λ y c. h y (later_in x y xs c)))
+    or_from (test x) (list_any test xs) (h x (first_in x xs)) (any_none test xs (λ y c. h y (later_in x y xs c)))
 
 pub none_any : {A : Type 0} (test : A → Bool) (xs : List A) → list_any test xs ≡ false → (x : A) → Contains xs x → test x ≡ false
 none_any test [] e x c = absurd (none_in x c)
@@ -120,7 +104,7 @@ number_written n w e =
 
 pub written_number : (n : ℕ) (w : Reg) → w.number ≡ n → writes (event.Writes n) w ≡ true
 written_number n w e =
-    first_true (is_eq (nat_cmp w.number n)) (writes_place (event.Writes n) w.loc) (numbers_equal w.number n e)
+    or_left (is_eq (nat_cmp w.number n)) (writes_place (event.Writes n) w.loc) (numbers_equal w.number n e)
 
 pub origin_written : (n : ℕ) (w : Reg) → writes (event.WritesOrigin n) w ≡ true → w.origin ≡ n
 origin_written n w e =
@@ -129,7 +113,7 @@ origin_written n w e =
 
 pub written_origin : (n : ℕ) (w : Reg) → w.origin ≡ n → writes (event.WritesOrigin n) w ≡ true
 written_origin n w e =
-    first_true (is_eq (nat_cmp w.origin n)) (writes_place (event.WritesOrigin n) w.loc) (numbers_equal w.origin n e)
+    or_left (is_eq (nat_cmp w.origin n)) (writes_place (event.WritesOrigin n) w.loc) (numbers_equal w.origin n e)
 
 pub colour_written : (n : ℕ) (w : Reg) → writes (event.WritesColour n) w ≡ true → w.loc ≡ loc.Machine n
 colour_written n w e = by w.loc e
@@ -197,7 +181,7 @@ only_writes e w (mach.Mark f) args = w.no_end
 
 pub quiet : (e : Event) (xs : List Instr) → IsWrite e → AreUnwritten e xs → AreQuiet (happens e) xs
 quiet e xs is free i c =
-    both_false (list_any (writes e) i.results) (does e i.op i.args)
+    or_from (list_any (writes e) i.results) (does e i.op i.args)
     (any_none (writes e) i.results (λ w d. false_from_ne_true (writes e w) (free i c w d))) (only_writes e is i.op i.args)
 
 straight_on : (f : MachOp) (args : List Reg) → does event.EndsRun f args ≡ not (is_straight f)
@@ -232,9 +216,9 @@ ends_run i e =
 
 pub in_run : (i : Instr) → is_straight i.op ≡ true → happens event.EndsRun i ≡ false
 in_run i e =
-    both_false (list_any (writes event.EndsRun) i.results) (does event.EndsRun i.op i.args)
+    or_from (list_any (writes event.EndsRun) i.results) (does event.EndsRun i.op i.args)
     (any_none (writes event.EndsRun) i.results (λ w d. no_place w.loc))
-    (straight_on i.op i.args ∙ true_not (is_straight i.op) e)
+    (straight_on i.op i.args ∙ not_from_true (is_straight i.op) e)
 
 pub keeps_addrs : (i : Instr) → happens event.Allocates i ≡ false → allocates i.op ≡ false
 keeps_addrs i e =
@@ -243,7 +227,7 @@ keeps_addrs i e =
 
 pub addrs_kept : (i : Instr) → allocates i.op ≡ false → happens event.Allocates i ≡ false
 addrs_kept i e =
-    both_false (list_any (writes event.Allocates) i.results) (does event.Allocates i.op i.args)
+    or_from (list_any (writes event.Allocates) i.results) (does event.Allocates i.op i.args)
     (any_none (writes event.Allocates) i.results (λ w d. no_place_allocated w.loc)) (allocated i.op i.args ∙ e)
 
 pub never_written : (c : Computed) (w : Reg) → writes (event.Computes c) w ≡ false

@@ -1,11 +1,7 @@
--- Lists and their parts, and the registers of a code.
-use Rattle.std.proofs.Common.{◌≡◌, ◌∙◌, ℕ, zero, suc, ◌<◌, ◌≤◌, ◌+◌, ⊎_elim, List, [], ◌∷◌, ◌++◌, length, map, take, drop, get_or, slice_set, Some, None, slice_get, refl, sym, ap, subst, arith}
+-- Lists and their parts.
+use Rattle.std.proofs.Common.{◌≡◌, ◌∙◌, ℕ, zero, suc, ◌<◌, ◌≤◌, ◌+◌, List, [], ◌∷◌, ◌++◌, length, map, take, drop, get_or, slice_set, Some, None, slice_get, refl, sym, ap, subst, arith}
 use Rattle.std.proofs.lemmas.List.{length-append}
-use Rattle.std.specs.List.{Contains}
-use Rattle.mach_ir.specs.Walks.{InCode, in_args, in_results, further}
-use Rattle.mach_ir.specs.declared.reg.Reg.{Reg}
-use Rattle.mach_ir.specs.declared.mach.Instr.{Instr}
-use Rattle.bs_words.proofs.Lists.{none_in, in_cons, drop_none, head_same, tail_same}
+use Rattle.bs_words.proofs.Lists.{drop_none, head_same, tail_same}
 
 pub some_same : {A : Type 0} {x y : A} → Some x ≡ Some y → x ≡ y
 some_same e = cc
@@ -69,15 +65,3 @@ mapped_more {A = A} f xs i y d lt e = ap (λ k. take k (slice_set xs i y) ++ map
     by (x ∷ xs) zero lt e =
         ap (λ zs. y ∷ (zs ++ map f (drop 0 xs))) (take_none xs) ∙ ap (λ zs. y ∷ map f zs) (drop_none xs) ∙ ap (λ z. z ∷ map f xs) e
     by (x ∷ xs) (suc i) lt e = let less : i < length xs = omega (arith, lt) in ap (λ zs. x ∷ zs) (by xs i less e)
-
--- ---- registers of a code
-
-pub operand_in : (code : List Instr) (i : Instr) (r : Reg) → Contains code i → Contains i.args r → InCode r code
-operand_in [] i r c d = absurd (none_in i c)
-operand_in (j ∷ code) i r c d =
-    ⊎_elim (λ e. in_args (subst (λ (i : Instr). Contains i.args r) (sym e) d)) (λ g. further (operand_in code i r g d)) (in_cons j i code c)
-
-pub result_in : (code : List Instr) (i : Instr) (r : Reg) → Contains code i → Contains i.results r → InCode r code
-result_in [] i r c d = absurd (none_in i c)
-result_in (j ∷ code) i r c d =
-    ⊎_elim (λ e. in_results (subst (λ (i : Instr). Contains i.results r) (sym e) d)) (λ g. further (result_in code i r g d)) (in_cons j i code c)

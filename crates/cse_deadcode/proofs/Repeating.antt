@@ -1,6 +1,7 @@
 -- Moves from what an operator repeats by the times of the code are exactly the repeats.
 use Rattle.std.proofs.Common.{◌≡◌, ◌∙◌, ℕ, zero, suc, ◌<◌, ◌≤◌, Bool, true, false, cond, ◌||◌, ⊎_elim, List, [], ◌∷◌, ◌++◌, length, Option, Some, None, slice_get, refl, sym, ap, subst, arith}
 use Rattle.std.specs.List.{Contains, list_any}
+use Rattle.std.proofs.lemmas.Bool.{or_right}
 use Rattle.std.proofs.lemmas.List.Elements.{Contains-append_cases, Contains-append_left, Contains-append_right}
 use Rattle.mach_ir.specs.Formed.{IsFormed, WellFormed}
 use Rattle.mach_ir.specs.Placed.{is_straight}
@@ -14,6 +15,7 @@ use Rattle.mach_ir.specs.declared.mach.Instr.{Instr}
 use Rattle.mach_ir.specs.declared.mach.Mach.{Mach}
 use Rattle.mach_ir.specs.declared.mach.MachOp.{MachOp}
 use Rattle.mach_ir.specs.declared.mach.MachOp.TheVariants as mach
+use Rattle.mach_laws.proofs.Places.{args_in_code}
 use Rattle.repeat_rules.specs.Repeated.{is_operator, StillStands, Repeats, from_earlier, IsBefore, IsRepeated}
 use Rattle.bs_words.specs.declared.operators.IntOp.{IntOp}
 use Rattle.bs_words.proofs.Lists.{none_in, first_in, later_in, in_cons, none_there}
@@ -25,9 +27,9 @@ use Rattle.cse_deadcode.specs.Made.{remade, made_by}
 use Rattle.cse_deadcode.specs.Times.{is_same, writes, does, happens, last_time}
 use Rattle.cse_deadcode.specs.Repeats.{stands, standing_first, standing, standing_found, standing_at, repeated_op, repeated, without_repeat}
 use Rattle.cse_deadcode.proofs.Last.{Found, find, last_from}
-use Rattle.cse_deadcode.proofs.Noting.{second_true, any_none, never_written}
+use Rattle.cse_deadcode.proofs.Noting.{any_none, never_written}
 use Rattle.cse_deadcode.proofs.Alike.{operator_of, same_itself, OperatorShape, operator_shape, alike}
-use Rattle.cse_deadcode.proofs.Parts.{some_same, none_some, some_none, at_seam, Places, one_place, further_on, places, places_end, operand_in}
+use Rattle.cse_deadcode.proofs.Parts.{some_same, none_some, some_none, at_seam, Places, one_place, further_on, places, places_end}
 use Rattle.cse_deadcode.proofs.Planned as step
 use Rattle.cse_deadcode.proofs.Standing.{of_each, all_straight, still_stands, stands_still}
 use Rattle.bs_words.proofs.Truths.{not_both}
@@ -37,7 +39,7 @@ use Rattle.bs_words.proofs.Truths.{not_both}
 computed_by : (f : IntOp) (r : Right) (args : List Reg) (i : Instr) → i.op ≡ operator_of f r → i.args ≡ args →
     happens (event.Computes (computation f r args)) i ≡ true
 computed_by f r args i e h =
-    second_true (list_any (writes (event.Computes (computation f r args))) i.results) (does (event.Computes (computation f r args)) i.op i.args)
+    or_right (list_any (writes (event.Computes (computation f r args))) i.results) (does (event.Computes (computation f r args)) i.op i.args)
     (ap (λ g. does (event.Computes (computation f r args)) g i.args) e
     ∙ ap (λ xs. does (event.Computes (computation f r args)) (operator_of f r) xs) h
     ∙ same_itself (event.Computes (computation f r args)))
@@ -107,7 +109,7 @@ module _ (m : Mach) (formed : WellFormed m) where
   told : (i j : Instr) → Contains m.code i → Contains m.code j → (r q : Reg) → Contains i.args r → Contains j.args q →
       r.number ≡ q.number → r ≡ q
   told i j c d r q g h e =
-      formed.numbers r q (is_in_code (operand_in m.code i r c g)) (is_in_code (operand_in m.code j q d h)) e
+      formed.numbers r q (is_in_code (args_in_code m.code i r c g)) (is_in_code (args_in_code m.code j q d h)) e
 
   -- what is made of a code: its operators are of the function, and none repeats an earlier one
   pub record Fresh (made : List Instr) : Type 0 where

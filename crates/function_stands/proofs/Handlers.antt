@@ -1,5 +1,5 @@
 -- Where the handlers of pushed traps are entered.
-use Rattle.std.proofs.Common.{◌≡◌, ◌≢◌, ℕ, Bool, true, false, cond, List, [], ◌∷◌, ◌++◌, AllPairs, refl, sym, ap, ◌∙◌, subst}
+use Rattle.std.proofs.Common.{◌≡◌, ℕ, Bool, true, false, cond, List, [], ◌∷◌, ◌++◌, AllPairs, refl, sym, ap, ◌∙◌, subst}
 use Rattle.std.specs.List.{Contains}
 use Rattle.std.proofs.lemmas.Bool.{eq-eqb}
 use Rattle.lin_ir.specs.Formed.{EntersAt, enters_here, enters_below, pushes, WellFormed, label_of, labels_in}
@@ -11,10 +11,10 @@ use Rattle.lin_ir.specs.declared.lin.Lin.{Lin}
 use Rattle.lin_ir.specs.declared.lin.LinOp.{LinOp}
 use Rattle.lin_ir.specs.declared.lin.LinOp.TheVariants as lin
 use Rattle.linear_rules.proofs.Homes.{IsIn, contains_of, is_first, is_later}
-use Rattle.linear_rules.proofs.Marks.{all_in}
+use Rattle.linear_rules.proofs.Marks.{all_in, Differ}
 use Rattle.linear_rules.proofs.Walked.{reached_tail, tail_in}
-use Rattle.bs_words.proofs.Lists.{pairs_here, pairs_later}
-use Rattle.tidy_rules.proofs.Ends.{label_is}
+use Rattle.bs_words.proofs.Lists.{pairs_here}
+use Rattle.tidy_rules.proofs.Ends.{label_is, pairs_past}
 
 -- ---- traps are pushed by lines
 
@@ -61,18 +61,11 @@ label_in {l} (i ∷ is) (enters_below z) = behind (label_of i.op) (label_in is z
     behind [] z = z
     behind (k ∷ ks) z = is_later (behind ks z)
 
-abbrev Differ : ℕ → ℕ → Type 0
-Differ k l = k ≢ l
-
-differ_later : (ks ls : List ℕ) → AllPairs Differ (ks ++ ls) → AllPairs Differ ls
-differ_later [] ls h = h
-differ_later (k ∷ ks) ls h = differ_later ks ls (pairs_later Differ k (ks ++ ls) h)
-
 pub enters : (l : ℕ) (code : List Line) → AllPairs Differ (labels_in code) → EntersAt l code → Enters code l
 enters l [] differ z = elim z [ ]
 enters l (i ∷ j ∷ is) differ (enters_here e u) =
     record { line = j; next = is; is = ap (λ b. cond b (j ∷ is) (after_label l (j ∷ is))) (ap (has_label l) e ∙ eq-eqb l l refl); enters = u }
-enters l (i ∷ is) differ (enters_below z) = by (has_label l i.op) refl (enters l is (differ_later (label_of i.op) (labels_in is) differ) z)
+enters l (i ∷ is) differ (enters_below z) = by (has_label l i.op) refl (enters l is (pairs_past (label_of i.op) (labels_in is) differ) z)
   where
     by : (b : Bool) → has_label l i.op ≡ b → Enters is l → Enters (i ∷ is) l
     by true e rest =

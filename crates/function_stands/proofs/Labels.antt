@@ -1,5 +1,5 @@
 -- Labels lie where the parts after their marks begin.
-use Rattle.std.proofs.Common.{◌≡◌, ℕ, ◌+◌, ◌≤◌, Bool, true, false, cond, ⊎_elim, List, [], ◌∷◌, ◌++◌, length, drop, Some, refl, sym, ap, ◌∙◌, arith}
+use Rattle.std.proofs.Common.{◌≡◌, ℕ, ◌+◌, Bool, true, false, cond, ⊎_elim, List, [], ◌∷◌, ◌++◌, length, drop, Some, refl, sym, ap, ◌∙◌, arith}
 use Rattle.std.specs.List.{Contains}
 use Rattle.std.proofs.lemmas.Bool.{true≢false}
 use Rattle.std.proofs.lemmas.List.Elements.{Contains-append_cases}
@@ -19,6 +19,7 @@ use Rattle.lin_ir.specs.declared.lin.Line.{Line}
 use Rattle.lin_ir.specs.declared.lin.LinOp.{LinOp}
 use Rattle.lin_ir.specs.declared.lin.LinOp.TheVariants as lin
 use Rattle.lin_ir.specs.declared.lin.Spot.{Spot}
+use Rattle.lin_laws.proofs.Places.{after_within}
 use Rattle.linear_rules.proofs.Homes.{in_of}
 use Rattle.rv_pieces.specs.declared.piece.Piece.{Piece}
 use Rattle.tidy_rules.proofs.Ends.{has_own_label}
@@ -58,14 +59,6 @@ label_past l at (x ∷ xs) ys (f ∷ fs) (each_more none rest) =
 -- the entry has no label
 pub entry_past : (l : ℕ) (f : Frame) → Each (NoLabel l) (entry f)
 entry_past l f = entry-in (NoLabel l) (λ j h. refl) f
-
-pub label_within : (l : ℕ) (code : List Line) → length (after_label l code) ≤ length code
-label_within l [] = omega arith
-label_within l (i ∷ next) = by (has_label l i.op) (label_within l next)
-  where
-    by : (b : Bool) → length (after_label l next) ≤ length next → length (cond b next (after_label l next)) ≤ length (i ∷ next)
-    by true h = omega arith
-    by false h = omega (arith, h)
 
 module _ (words : List ℕ) (n : Named) (traps : ℕ → ℕ) (f : Frame) where
   -- a part with the label is its mark alone
@@ -120,4 +113,4 @@ module _ (words : List ℕ) (n : Named) (traps : ℕ → ℕ) (f : Frame) where
       by false e go =
           label_past l at part rest fs (before-in (NoLabel l) (descriptor (passes_frame i.op) ds) (traps (length next)) f i next (allows_none l i.op _ e))
           ∙ go (later e)
-          ∙ ap Some (sym (place_later traps f ds i next fs at (length (after_label l next)) (label_within l next)))
+          ∙ ap Some (sym (place_later traps f ds i next fs at (length (after_label l next)) (after_within l next)))

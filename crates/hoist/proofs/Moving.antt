@@ -4,7 +4,6 @@ use Rattle.std.specs.Prelude.{nat_eq, nat_le, nat_lt, slice_get, Contains}
 use Rattle.std.proofs.lemmas.Bool.{cases_lt, true≢false, eqb-true, eq-eqb, leb-true, le-leb, ltb-true, lt-ltb, and_parts}
 use Rattle.bs_words.specs.declared.types.Comp.{Comp}
 use Rattle.bs_words.specs.declared.types.Comp.TheVariants as comp
-use Rattle.bs_words.specs.declared.types.Loc.{Loc}
 use Rattle.bs_words.specs.declared.types.Loc.TheVariants as loc
 use Rattle.bs_words.proofs.Lists.{first_in}
 use Rattle.mach_ir.specs.Acts.{Target, At}
@@ -22,7 +21,7 @@ use Rattle.mach_ir.specs.declared.mach.Instr.{Instr}
 use Rattle.mach_ir.specs.declared.mach.Mach.{Mach}
 use Rattle.hoist_rules.specs.Hoisted.{makes, FitsAlways, an_int, an_odd_val, MayMove}
 use Rattle.hoist_rules.specs.Chosen.{IsLoopRound, IsWide, IsMoved}
-use Rattle.mach_laws.proofs.Places.{shorter, results_in}
+use Rattle.mach_laws.proofs.Places.{shorter, results_in, is_unset}
 use Rattle.mach_laws.proofs.Among.{split_among, left_among}
 use Rattle.hoist.specs.Constants.{is_wide, fits_always, constant_of, can_hold, holds_wide, makes_wide}
 use Rattle.hoist.specs.Loops.{exit_of, EndsFrom, IsFirstCall, IsCalmWide}
@@ -149,11 +148,6 @@ fits_says : {c : Comp} {w : ℕ} → FitsAlways c w → fits_always c w ≡ true
 fits_says an_int = refl
 fits_says {w = w} (an_odd_val h) = eq-eqb (w % 2) 1 h
 
-open_told : (p : Loc) → is_open p ≡ true → p ≡ loc.Unset
-open_told loc.Unset e = refl
-open_told (loc.Machine n) e = absurd (true≢false (sym e))
-open_told (loc.Slot n) e = absurd (true≢false (sym e))
-
 pub record MakesWide (i : Instr) : Type 0 where
   pub register : Reg
   pub word : ℕ
@@ -179,7 +173,7 @@ constant_told w args results e = by args results (and_parts (is_wide w) (are_non
           word = w;
           is = refl;
           fits = fits_told r.comp w h.1;
-          open_place = open_told r.loc h.0;
+          open_place = is_unset r.loc h.0;
           wide = wide_told w t.0;
         }
     by [] (r ∷ q ∷ rs) t = absurd (true≢false (sym t.1))

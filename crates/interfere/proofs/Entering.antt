@@ -24,16 +24,6 @@ regs_small bound len regs lent same below e =
     subst (λ k. All (λ (r : Reg). r.number < k) lent) (sym e)
     (subst (λ rs. All (λ (r : Reg). r.number < bound) rs) (sym same) (λ k d lt. below (get_or regs k d) (Contains-get_or regs k d lt)))
 
-pub args_in : (code : List Instr) (i : Instr) (r : Reg) → Contains code i → Contains i.args r → InCode r code
-args_in [] i r c a = absurd (none_in i c)
-args_in (j ∷ is) i r c a =
-    ⊎_elim (λ e. in_args (subst (λ (i : Instr). Contains i.args r) (sym e) a)) (λ d. further (args_in is i r d a)) (in_cons j i is c)
-
-pub results_in : (code : List Instr) (i : Instr) (r : Reg) → Contains code i → Contains i.results r → InCode r code
-results_in [] i r c a = absurd (none_in i c)
-results_in (j ∷ is) i r c a =
-    ⊎_elim (λ e. in_results (subst (λ (i : Instr). Contains i.results r) (sym e) a)) (λ d. further (results_in is i r d a)) (in_cons j i is c)
-
 -- the element at a place that was read is among the list
 pub read_in : (code : List Instr) (k : ℕ) (i : Instr) → k < length code → i ≡ get_or code k i → Contains code i
 read_in code k i lt read = (k, lt, sym read)

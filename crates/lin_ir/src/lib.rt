@@ -9,8 +9,10 @@ pub mod descr;
 mod frame;
 pub mod lin;
 mod lines;
+mod places;
 
 pub use descr::Descr;
 pub use lin::{Flow, Lin, LinOp, Line, Spot};
 pub use lines::text;
 pub use mach_ir::{External, Label, Seq};
+pub use places::same_loc;

@@ -66,6 +66,14 @@ ends_label l (i ∷ is) = by (has_label l i.op) (ends_label l is)
     by true e = record { at = 1; within = omega arith; is = drop_none is }
     by false e = let le = e.within in record { at = suc e.at; within = omega (arith, le); is = e.is }
 
+pub after_within : (l : ℕ) (code : List Line) → length (after_label l code) ≤ length code
+after_within l [] = omega arith
+after_within l (i ∷ is) = by (has_label l i.op) (after_within l is)
+  where
+    by : (b : Bool) → length (after_label l is) ≤ length is → length (cond b is (after_label l is)) ≤ length (i ∷ is)
+    by true le = omega arith
+    by false le = omega (arith, le)
+
 module _ (m : Lin) where
   pub place_ends : {rest : List Line} (e : Ends m.code rest) → place_of m rest ≡ e.at
   place_ends e = ap (λ xs. length m.code - length xs) (sym e.is) ∙ place_drop e.at m.code e.within

@@ -33,9 +33,8 @@ use Rattle.linear_machine.specs.Relation.{Below, Laid, StandsFor, Within, all_of
 use Rattle.linear_machine.specs.Straight.{Differs}
 use Rattle.linear_machine.specs.View.{Fixed, View}
 use Rattle.linear_machine.proofs.Following.{put_is, same_loc-machine}
-use Rattle.linear_machine.proofs.Standing.{within_put}
+use Rattle.linear_machine.proofs.Standing.{within_put, a0_location}
 use Rattle.linear_machine.proofs.Trapping.{handler_is, popped, throws}
-use Rattle.line_calls.proofs.Handlers.{a0_location}
 use Rattle.line_calls.proofs.Seats.{first_seated}
 use Rattle.line_calls.proofs.Traps.{own_trap_of}
 

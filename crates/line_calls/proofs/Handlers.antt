@@ -40,6 +40,7 @@ use Rattle.linear_machine.proofs.Following.{result_follows, same_loc-true}
 use Rattle.linear_machine.proofs.Frames.{heap_around}
 use Rattle.linear_machine.proofs.Jumps.{raise_differs, raise_high, raise_leads, raise_place, raise_points, raise_value, raised_at}
 use Rattle.linear_machine.proofs.Parts.{comes_here}
+use Rattle.linear_machine.proofs.Standing.{a0_location}
 use Rattle.linear_machine.proofs.Trapping.{handler_is, popped, popped_registers, pushes, throws}
 use Rattle.linear_machine.proofs.Turning.{placed_past}
 use Rattle.line_stands.specs.Parts.{PartStands}
@@ -52,16 +53,6 @@ use Rattle.line_calls.proofs.Reaching.{arrived}
 use Rattle.line_calls.proofs.Traps.{IsTrap, can0, can8, own_trap, pop_reaches, pop_words, push_out, push_reaches, raise_code, trap_is}
 
 -- ---- a handler takes the raised value from a0, and no other register holds anything
-
-pub a0_location : IsLocation 10
-a0_location = record {
-  some = omega arith;
-  below = omega arith;
-  no_trap = λ t. omega (arith, t);
-  no_young = λ t. omega (arith, t);
-  no_domain = λ t. omega (arith, t);
-  no_scratch = (λ t. omega (arith, t), λ t. omega (arith, t));
-}
 
 -- what is held after a result in a0, where every register was cleared before
 pub record IsAlone (x : Value) (held after : Locations) : Type 0 where

@@ -26,7 +26,6 @@ use Rattle.rv_machine.specs.Hart.{Placed}
 use Rattle.rv_pieces.specs.declared.piece.Piece.{Piece}
 use Rattle.linear_machine.specs.Follows.{Agrees, FollowsStep, IsAt, IsDone}
 use Rattle.linear_machine.specs.Relation.{Below, Laid, StandsFor, Within, all_of, traps_of}
-use Rattle.linear_machine.specs.Relation as relation
 use Rattle.linear_machine.specs.Straight.{Comes}
 use Rattle.linear_machine.specs.View.{Fixed, View, HasCode, Leads, IsCode}
 use Rattle.linear_machine.proofs.Pure.{Reads, reads_held}
@@ -63,7 +62,7 @@ use Rattle.moving_laws.specs.Words.{IsReadable}
 use Rattle.moving_laws.proofs.Usable.{stack_readable}
 use Rattle.emit_rules.specs.Instructions.{skip}
 use Rattle.linear_machine.proofs.Operating.{dropped, target_register}
-use Rattle.linear_machine.proofs.Standing.{IsFree, within_changed}
+use Rattle.linear_machine.proofs.Standing.{IsFree, within_changed, a0_location}
 use Rattle.line_values.proofs.Testing.{Seconded, both_come, second_constant, second_location}
 
 -- ---- the innermost trap
@@ -237,16 +236,6 @@ module _ (s : Fixed) (n : Named) (laid : Laid) (m : Lin) (slots : m.slots ≡ la
         lands s n laid m live entry c place named next v young held file a within before agrees k (k1 + 1) (omega (arith, sum, e7)) next
         (at_place (u.place + 7) u) (then_leads s k1 1 v u (at_place (u.place + 7) u) comes.leads over) (omega (arith, at, e7, sum, behind))
         (within_at s laid u young held a c (u.place + 7) comes.holds.0) passes
-
-    a0_location : relation.IsLocation 10
-    a0_location = record {
-      some = omega arith;
-      below = omega arith;
-      no_trap = λ t. omega (arith, t);
-      no_young = λ t. omega (arith, t);
-      no_domain = λ t. omega (arith, t);
-      no_scratch = (λ t. omega (arith, t), λ t. omega (arith, t));
-    }
 
     -- or the error is in a0
     record Ready (w : View) : Type 0 where

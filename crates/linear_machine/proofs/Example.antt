@@ -22,7 +22,7 @@ use Rattle.lin_ir.specs.declared.lin.Line.{Line}
 use Rattle.lin_ir.specs.declared.lin.Spot.{Spot}
 use Rattle.linear_machine.specs.Follows.{FollowsStep}
 use Rattle.linear_machine.specs.Moments.{AtEntry}
-use Rattle.linear_machine.specs.Relation.{Below, IsLocation, Laid, Within}
+use Rattle.linear_machine.specs.Relation.{Below, Laid, Within}
 use Rattle.linear_machine.specs.View.{Fixed, View, IsCode}
 use Rattle.linear_machine.proofs.Endings.{return_value}
 use Rattle.linear_machine.proofs.Formats.{sets_imm, sets_jalr}
@@ -32,6 +32,7 @@ use Rattle.linear_machine.proofs.Operating.{dropped, target_put, target_register
 use Rattle.linear_machine.proofs.Parts.{keep_register}
 use Rattle.linear_machine.proofs.Pure.{constant_follows}
 use Rattle.linear_machine.proofs.Sequences.{set_changes, sets_as}
+use Rattle.linear_machine.proofs.Standing.{a0_location}
 use Rattle.linear_machine.proofs.Steps.{at_place, set_to_step}
 use Rattle.linear_machine.proofs.Turning.{begins, leaves}
 
@@ -44,16 +45,6 @@ makes = record { op = lin.Op (op.Pure (pure.Constant 42)); args = []; results = 
 
 abbrev returns : Line
 returns = record { op = lin.Op (op.Leaving leaving.Return); args = a0_int ∷ []; results = [] }
-
-a0_is : IsLocation 10
-a0_is = record {
-  some = omega arith;
-  below = omega arith;
-  no_trap = λ t. omega (arith, t);
-  no_young = λ t. omega (arith, t);
-  no_domain = λ t. omega (arith, t);
-  no_scratch = (λ t. omega (arith, t), λ t. omega (arith, t));
-}
 
 module _ (s : Fixed) (entry : ℕ → ℕ) (place : Place) (named : NamedAt) (code : Lin) (at : ℕ) (first : IsCode s at (OpImm Addi 10 0 42))
     (second : IsCode s (at + 1) (Jalr 0 1 0)) where
@@ -93,9 +84,9 @@ module _ (s : Fixed) (entry : ℕ → ℕ) (place : Place) (named : NamedAt) (co
         others = λ l n. refl;
         spare_too = λ b. absurd b;
       }) a0_int (λ b. absurd b)
-      10 (dropped 10 held) (target_register held 10 a0_is) (10 ∷ []) (λ q i. ⊎_elim (λ e. inl e) (λ f. absurd f) i) 42 1 0 (omega (arith, p))
+      10 (dropped 10 held) (target_register held 10 a0_location) (10 ∷ []) (λ q i. ⊎_elim (λ e. inl e) (λ f. absurd f) i) 42 1 0 (omega (arith, p))
       (λ z. keep_register s laid young (entered memory) c (dropped 10 held) (put a0_int z held)
-      (v.place + 1) 10 z refl a0_is (target_put a0_int 10 z held refl))
+      (v.place + 1) 10 z refl a0_location (target_put a0_int 10 z held refl))
       (set_changes s v (OpImm Addi 10 0 42) 9 42 (subst (λ q. IsCode s q (OpImm Addi 10 0 42)) (sym p) first) (inl (λ q. omega (arith, q)))
       (sets_as s v (OpImm Addi 10 0 42) 10 _ 42 sum (sets_imm s v Addi 10 0 42)) within.own.are (omega arith) (omega arith))
 

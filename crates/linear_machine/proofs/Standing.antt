@@ -126,6 +126,17 @@ scratch_free q (inr e) = record {
 pub location_free : (q : ℕ) → IsLocation q → IsFree q
 location_free q is = record { some = is.some; no_trap = is.no_trap; no_young = is.no_young; no_domain = is.no_domain }
 
+-- a0 may be a location
+pub a0_location : IsLocation 10
+a0_location = record {
+  some = omega arith;
+  below = omega arith;
+  no_trap = λ t. omega (arith, t);
+  no_young = λ t. omega (arith, t);
+  no_domain = λ t. omega (arith, t);
+  no_scratch = (λ t. omega (arith, t), λ t. omega (arith, t));
+}
+
 module _ (s : Fixed) (laid : Laid) (v w : View) (young : List Placed) (taken : ℕ) (held : Loc → Option Value) (a : Around) (c : Below)
     (n : ℕ) (rs : List ℕ) (past : IsPast n rs v.memory v w) (scratch : AreScratch rs) (within : Within s laid v young taken held a c) where
   not_held : a.raised ≡ None → (q : ℕ) (x : Value) → Among q rs → held (loc.Machine q) ≡ Some x → ⊥

@@ -3,7 +3,6 @@ use Rattle.std.proofs.Common.{◌≡◌, ◌≢◌, ℕ, zero, suc, Bool, true, 
 use Rattle.std.proofs.lemmas.Bool.{true≢false, eqb-true, and_parts}
 use Rattle.std.proofs.lemmas.List.Elements.{All-head, All-tail}
 use Rattle.bs_words.specs.declared.types.Comp.{Comp}
-use Rattle.bs_words.specs.declared.types.Comp.TheVariants as comp
 use Rattle.bs_words.proofs.Lists.{pairs_here, pairs_later}
 use Rattle.mach_ir.specs.Formed.{MarkHasForm, exit_form, if_form, else_form, switch_form, case_form, catch_form, with_form, try_form, leave_form, handler_form, end_form, IsFormed, formed_op, formed_mark, labels_in, HasPlace, place_here, place_below, HasHandler, handler_here, handler_below}
 use Rattle.mach_ir.specs.Meaning.{has_label, is_handler_of, after_label, from_handler, tries_past, destroyed_by, killed_by}
@@ -19,6 +18,7 @@ use Rattle.mach_ir.specs.declared.mach.MachOp.TheVariants as mach
 use Rattle.mach_ir.specs.declared.mach.Instr.{Instr}
 use Rattle.mach_laws.specs.Expand.{Ending, all, more}
 use Rattle.mach_laws.proofs.Instructions.{instr, no_comps}
+use Rattle.mach_laws.proofs.Places.{comp_is}
 use Rattle.lin_ir.specs.Meaning as lines
 use Rattle.lin_ir.specs.declared.lin.Flow.TheVariants as flow
 use Rattle.lin_ir.specs.declared.lin.LinOp.{LinOp}
@@ -27,7 +27,6 @@ use Rattle.lin_ir.specs.declared.lin.Line.{Line}
 use Rattle.lin_laws.proofs.Forms.{same_loc_is}
 use Rattle.linear_rules.specs.Lowered.{opposite_test, is_idle, line_of, bare, pops, lines_of, lowered_code}
 use Rattle.linear_rules.proofs.Homes.{IsIn, is_first, is_later, contains_of}
-use Rattle.mach_ir.specs.Places.{same_comp}
 
 -- ---- lists
 
@@ -77,24 +76,6 @@ is_bare _ = false
 -- a copy from a place to itself, of one component
 pub data IsIdle : MachOp → List Reg → List Reg → Type 0 where
   idles : {kind : CopyKind} {x d : Reg} → x.loc ≡ d.loc → x.comp ≡ d.comp → IsIdle (mach.Op (op.Pure (pure.Copy kind))) (x ∷ []) (d ∷ [])
-
-pub comp_is : (a b : Comp) → same_comp a b ≡ true → a ≡ b
-comp_is comp.Int comp.Int e = refl
-comp_is comp.Val comp.Val e = refl
-comp_is comp.Addr comp.Addr e = refl
-comp_is comp.Float comp.Float e = refl
-comp_is comp.Int comp.Val e = absurd (true≢false (sym e))
-comp_is comp.Int comp.Addr e = absurd (true≢false (sym e))
-comp_is comp.Int comp.Float e = absurd (true≢false (sym e))
-comp_is comp.Val comp.Int e = absurd (true≢false (sym e))
-comp_is comp.Val comp.Addr e = absurd (true≢false (sym e))
-comp_is comp.Val comp.Float e = absurd (true≢false (sym e))
-comp_is comp.Addr comp.Int e = absurd (true≢false (sym e))
-comp_is comp.Addr comp.Val e = absurd (true≢false (sym e))
-comp_is comp.Addr comp.Float e = absurd (true≢false (sym e))
-comp_is comp.Float comp.Int e = absurd (true≢false (sym e))
-comp_is comp.Float comp.Val e = absurd (true≢false (sym e))
-comp_is comp.Float comp.Addr e = absurd (true≢false (sym e))
 
 pub idle_of : (f : MachOp) (args results : List Reg) → is_idle f args results ≡ true → IsIdle f args results
 idle_of (mach.Op (op.Pure (pure.Copy kind))) (x ∷ []) (d ∷ []) e =

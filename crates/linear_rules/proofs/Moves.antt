@@ -2,8 +2,6 @@
 use Rattle.std.proofs.Common.{◌≡◌, ◌≢◌, ℕ, zero, suc, Bool, true, false, cond, ◌&&◌, ◌⊎◌, inl, inr, ⊎_elim, List, [], ◌∷◌, refl, sym, ap, ◌∙◌, subst}
 use Rattle.std.proofs.lemmas.Bool.{true≢false, eq-eqb}
 use Rattle.std.specs.List.{Contains}
-use Rattle.bs_words.specs.declared.types.Comp.{Comp}
-use Rattle.bs_words.specs.declared.types.Comp.TheVariants as comp
 use Rattle.bs_words.specs.declared.types.Loc.TheVariants as loc
 use Rattle.bs_words.proofs.Lists.{head_same}
 use Rattle.mach_ir.specs.Placed.{IsPlaced, in_colour, in_slot}
@@ -18,6 +16,7 @@ use Rattle.mach_ir.specs.declared.mach.Mark.TheVariants as mark
 use Rattle.mach_ir.specs.declared.mach.MachOp.{MachOp}
 use Rattle.mach_ir.specs.declared.mach.MachOp.TheVariants as mach
 use Rattle.mach_ir.specs.declared.mach.Instr.{Instr}
+use Rattle.mach_laws.proofs.Places.{same_comp_is}
 use Rattle.lin_ir.specs.Formed.{IsSelfMove, is_self_move}
 use Rattle.lin_ir.specs.Meaning.{same_loc}
 use Rattle.lin_ir.specs.declared.lin.Flow.{Flow}
@@ -45,12 +44,6 @@ no_move f e z = let c = copies_of z in out f (op.Pure (pure.Copy c.kind)) (sym e
   where
     out : (f : Flow) (g : Op) → lin.Flow f ≡ lin.Op g → ⊥
     out f g e = cc
-
-pub same_comp_is : (t : Comp) → same_comp t t ≡ true
-same_comp_is comp.Int = refl
-same_comp_is comp.Val = refl
-same_comp_is comp.Addr = refl
-same_comp_is comp.Float = refl
 
 more_spots : (s t u : Spot) (ss : List Spot) → s ∷ t ∷ ss ≡ u ∷ [] → ⊥
 more_spots s t u ss e = cc

@@ -14,7 +14,7 @@ use Rattle.lin_ir.specs.declared.lin.Line.{Line}
 use Rattle.lin_ir.specs.declared.lin.Lin.{Lin}
 use Rattle.lin_ir.specs.declared.lin.Spot.{Spot}
 use Rattle.lin_laws.specs.Graph.{HaveNumbers, AreNumbered}
-use Rattle.lin_laws.proofs.Places.{ends_label, place_is}
+use Rattle.lin_laws.proofs.Places.{ends_label, place_is, after_within}
 use Rattle.lin_flow.specs.Labels.{place_in, AreLabelsOf}
 use Rattle.lin_flow.specs.declared.labels.Labels.{Labels}
 use Rattle.tidy_rules.specs.Leaving.{bare, with_code}
@@ -131,14 +131,6 @@ after_place m labels l place table at = ap (λ p. drop p m.code) (at ∙ table.e
 
 -- ---- which label the test keeps
 
-after_within : (l : ℕ) (code : List Line) → length (after_label l code) ≤ length code
-after_within l [] = omega arith
-after_within l (i ∷ is) = by (has_label l i.op) (after_within l is)
-  where
-    by : (b : Bool) → length (after_label l is) ≤ length is → length (cond b is (after_label l is)) ≤ length (i ∷ is)
-    by true le = omega arith
-    by false le = omega (arith, le)
-
 pub keeps_by_place : (m : Lin) (labels : Labels) (l place k : ℕ) (i : Line) (next : List Line) → AreLabelsOf m labels →
     place ≡ place_in labels l → drop k m.code ≡ i ∷ next → nat_le place (k + 1) ≡ nat_le (length next) (length (after_label l m.code))
 keeps_by_place m labels l place k i next table at e =
@@ -242,15 +234,11 @@ same_labels opens others turns (i ∷ next) same =
     ap (λ o. turned_line (first_of turns) o i ++ turned_by opens (others_of turns) next) (same (length (others_of turns)))
     ∙ ap (λ is. turned_line (first_of turns) (others (length (others_of turns))) i ++ is) (same_labels opens others (others_of turns) next same)
 
-turns_count : (m : Lin) (free : ℕ) (code : List Line) → length (turns_of m free code) ≡ length code
-turns_count m free [] = refl
-turns_count m free (i ∷ next) = ap suc (turns_count m free next)
-
 -- there are numbers for the labels of all lines
 pub change_room : (m : Lin) (free : ℕ) (c : Changes) → free ≡ limit_of (labels_in m.code) → AreChanges m free m.code c →
     suc (limit_of (labels_in m.code) + 2 * length m.code) < 4294967296 → suc (free + 2 * length (turns_in c)) < 4294967296
 change_room m free c is are room =
-    let len : length (turns_in c) ≡ length m.code = ap length are.turns ∙ turns_count m free m.code in
+    let len : length (turns_in c) ≡ length m.code = ap length are.turns ∙ length_turns m free m.code in
     omega (arith, is, len, room)
 
 pub all_changed : (m : Lin) (free : ℕ) (c : Changes) (code : List Line) → free ≡ limit_of (labels_in m.code) → AreChanges m free m.code c →

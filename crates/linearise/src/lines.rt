@@ -3,32 +3,15 @@ ghost use Rattle.std.specs.Prelude.{◌≡◌, ◌∷◌, IfOk};
 ghost use Rattle.lin_ir.specs.declared.lin.Flow.TheVariants as flow;
 ghost use Rattle.lin_ir.specs.declared.lin.LinOp.TheVariants as lin;
 ghost use Rattle.linear_rules.specs.Lowered.{same_spot, is_idle, line_of, bare, pops, lines_of_mark, lowered_one};
-ghost use Rattle.lin_ir.specs.Meaning.{same_loc};
 ghost use Rattle.linearise.specs.Numbers.{number_in};
 
 use crate::backward::Backward;
 use crate::copies::copy_op;
 use crate::spots::{bare, line_of};
 use crate::tests::opposite_test;
-use bs_words::Loc;
-use lin_ir::{Flow, LinOp};
+use lin_ir::{Flow, LinOp, same_loc};
 use mach_ir::{Instr, Label, MachOp, Mark, Op, Pure, Reg, same_comp};
 use std::alloc::{AllocError, Global};
-
-/// Whether both are one place.
-fn same_loc(from: Loc, to: Loc) -> bool
-    ensures { result ≡ same_loc from to }
-{
-    match (from, to) {
-        (Loc::Machine(one), Loc::Machine(two)) => one == two,
-        (Loc::Slot(one), Loc::Slot(two)) => one == two,
-        (Loc::Machine(_one), Loc::Slot(_two)) => false,
-        (Loc::Slot(_one), Loc::Machine(_two)) => false,
-        (Loc::Machine(_one), Loc::Unset) => false,
-        (Loc::Slot(_one), Loc::Unset) => false,
-        (Loc::Unset, _to) => false,
-    }
-}
 
 /// Whether both are one register each, at one place and of one component.
 fn same_spot(args: &[Reg], results: &[Reg]) -> bool

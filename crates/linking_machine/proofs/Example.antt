@@ -36,7 +36,7 @@ use Rattle.rv_machine.specs.Places.{stack_bottom}
 use Rattle.rv_machine.specs.Sound.{IsStackBase}
 use Rattle.linear_machine.specs.Arrival.{ArrivesIn}
 use Rattle.linear_machine.specs.Follows.{IsAt, IsEntered, used, needs_of, FollowsStep}
-use Rattle.linear_machine.specs.Relation.{Below, IsLocation, Laid}
+use Rattle.linear_machine.specs.Relation.{Below, Laid}
 use Rattle.linear_machine.specs.View.{Fixed, View, IsCode, HasCode}
 use Rattle.linear_machine.proofs.Arriving.{leads_in}
 use Rattle.linear_machine.proofs.Endings.{return_value}
@@ -47,6 +47,7 @@ use Rattle.linear_machine.proofs.Operating.{dropped, target_put, target_register
 use Rattle.linear_machine.proofs.Parts.{keep_register}
 use Rattle.linear_machine.proofs.Pure.{constant_follows}
 use Rattle.linear_machine.proofs.Sequences.{set_changes, sets_as}
+use Rattle.linear_machine.proofs.Standing.{a0_location}
 use Rattle.linear_machine.proofs.Steps.{at_place, set_to_step, stays}
 use Rattle.linear_machine.proofs.Turning.{begins, leaves}
 use Rattle.linking.specs.Assembled.{Setup}
@@ -216,16 +217,6 @@ module _ (file : FileTree) (layout : Layout) (all : (f : ℕ) (t : FunctionTree)
             (alone_runs f here.0 below memory doings n));
       }
 
-a0_is : IsLocation 10
-a0_is = record {
-  some = omega arith;
-  below = omega arith;
-  no_trap = λ t. omega (arith, t);
-  no_young = λ t. omega (arith, t);
-  no_domain = λ t. omega (arith, t);
-  no_scratch = (λ t. omega (arith, t), λ t. omega (arith, t));
-}
-
 -- ---- the machine follows it
 
 -- t0 is never read
@@ -276,8 +267,8 @@ module _ (image : Tables) (has : HasFunctions image) (bases : (stack : ℕ) → 
             follows =
                 constant_follows s (laid f) (live f) at c here (λ n. []) code (returns ∷ []) v young held stored (entered memory) refl within ⊥ agrees
                 a0_int (λ b. absurd b)
-                10 (dropped 10 held) (target_register held 10 a0_is) (10 ∷ []) (λ q i. ⊎_elim (λ e. inl e) (λ x. absurd x) i) 42 1 0 (omega (arith, p))
-                (λ z. keep_register s (laid f) young (entered memory) c (dropped 10 held) (put a0_int z held) (v.place + 1) 10 z refl a0_is
+                10 (dropped 10 held) (target_register held 10 a0_location) (10 ∷ []) (λ q i. ⊎_elim (λ e. inl e) (λ x. absurd x) i) 42 1 0 (omega (arith, p))
+                (λ z. keep_register s (laid f) young (entered memory) c (dropped 10 held) (put a0_int z held) (v.place + 1) 10 z refl a0_location
                 (target_put a0_int 10 z held refl))
                 (set_changes s v (OpImm Addi 10 0 42) 9 42 (subst (λ q. IsCode s q (OpImm Addi 10 0 42)) (sym place) first) (inl (λ q. omega (arith, q)))
                 (sets_as s v (OpImm Addi 10 0 42) 10 _ 42 sum (sets_imm s v Addi 10 0 42)) within.own.are (omega arith) (omega arith));

@@ -1,5 +1,6 @@
 -- Numbers of registers in rows of registers.
-use Rattle.std.proofs.Common.{ℕ, [], List, ◌∷◌, ◌++◌, Option, Some, None, ◌⊎◌, inl, inr, ⊎_elim, ap, ◌≡◌, subst, arith}
+use Rattle.std.proofs.Common.{ℕ, [], List, ◌∷◌, ◌++◌, Option, Some, None, ◌⊎◌, inl, inr, ⊎_elim, ap, ◌≡◌, subst, arith, false, nat_eq}
+use Rattle.std.proofs.lemmas.Bool.{cases_Bool, eq-eqb, eqb-true, both_ways}
 use Rattle.std.specs.List.{Contains}
 use Rattle.bs_words.specs.declared.values.Value.{Value}
 use Rattle.mach_ir.specs.Formed.{AreDistinct}
@@ -34,6 +35,17 @@ pub number_among : {n : ℕ} (rs : List Reg) → Among n rs → (r : Reg) × Con
 number_among [] a = elim a [ ]
 number_among (r ∷ rs) (first e) = (r, first_in r rs, e)
 number_among (r ∷ rs) (later a) = let w = number_among rs a in (w.0, later_in r w.0 rs w.1, w.2)
+
+pub among_or_not : (n : ℕ) (rs : List Reg) → Among n rs ⊎ (Among n rs → ⊥)
+among_or_not n [] = inr (λ a. elim a [ ])
+among_or_not n (r ∷ rs) =
+    ⊎_elim (λ e. inl (first (eqb-true r.number n e)))
+    (λ e. ⊎_elim (λ a. inl (later a)) (λ h. inr (λ a. none e h a)) (among_or_not n rs))
+    (cases_Bool (nat_eq r.number n))
+  where
+    none : nat_eq r.number n ≡ false → (Among n rs → ⊥) → Among n (r ∷ rs) → ⊥
+    none e h (first s) = both_ways (nat_eq r.number n) e (eq-eqb r.number n s)
+    none e h (later a) = h a
 
 pub among_number : {n m : ℕ} {rs : List Reg} → n ≡ m → Among n rs → Among m rs
 among_number {rs = rs} e z = subst (λ k. Among k rs) e z

@@ -3,6 +3,8 @@ use Rattle.std.proofs.Common.{◌≡◌, ℕ, Bool, true, false, cond, ⊎_elim,
 use Rattle.std.proofs.lemmas.Bool.{cases_Bool, true≢false}
 use Rattle.std.proofs.lemmas.List.Elements.{All-head, All-tail, All-cons, All-nil, All-contains}
 use Rattle.std.specs.List.{Contains}
+use Rattle.bs_words.specs.declared.types.Comp.{Comp}
+use Rattle.bs_words.specs.declared.types.Comp.TheVariants as comp
 use Rattle.bs_words.specs.declared.types.Loc.{Loc}
 use Rattle.bs_words.specs.declared.types.Loc.TheVariants as loc
 use Rattle.mach_ir.specs.Acts.{Landing, AtLabel, AtHandler}
@@ -14,7 +16,7 @@ use Rattle.mach_ir.specs.declared.mach.MachOp.TheVariants as mach
 use Rattle.mach_ir.specs.declared.mach.Instr.{Instr}
 use Rattle.mach_ir.specs.declared.mach.Mach.{Mach}
 use Rattle.mach_ir.specs.Walks.{Stands, here, below, InCode, in_args, further, in_results}
-use Rattle.mach_ir.specs.Places.{is_open}
+use Rattle.mach_ir.specs.Places.{is_open, same_comp}
 use Rattle.mach_ir.specs.Placed.{is_straight, AreStraight}
 use Rattle.mach_ir.specs.declared.reg.Reg.{Reg}
 use Rattle.bs_words.proofs.Lists.{none_in, first_in, later_in, in_cons}
@@ -202,8 +204,45 @@ pub results_in : {i : Instr} {next code : List Instr} {r : Reg} → Stands i nex
 results_in here c = in_results c
 results_in (below s) c = further (results_in s c)
 
+-- what an instruction of a code has is in the code
+pub args_in_code : (code : List Instr) (i : Instr) (r : Reg) → Contains code i → Contains i.args r → InCode r code
+args_in_code [] i r c d = absurd (none_in i c)
+args_in_code (j ∷ is) i r c d =
+    ⊎_elim (λ e. in_args (subst (λ (i : Instr). Contains i.args r) (sym e) d)) (λ h. further (args_in_code is i r h d))
+    (in_cons j i is c)
+
+pub results_in_code : (code : List Instr) (i : Instr) (r : Reg) → Contains code i → Contains i.results r → InCode r code
+results_in_code [] i r c d = absurd (none_in i c)
+results_in_code (j ∷ is) i r c d =
+    ⊎_elim (λ e. in_results (subst (λ (i : Instr). Contains i.results r) (sym e) d))
+    (λ h. further (results_in_code is i r h d)) (in_cons j i is c)
+
 -- an open place is no machine register and no slot
 pub is_unset : (l : Loc) → is_open l ≡ true → l ≡ loc.Unset
 is_unset loc.Unset e = refl
 is_unset (loc.Machine n) e = absurd (true≢false (sym e))
 is_unset (loc.Slot n) e = absurd (true≢false (sym e))
+
+pub comp_is : (a b : Comp) → same_comp a b ≡ true → a ≡ b
+comp_is comp.Int comp.Int e = refl
+comp_is comp.Val comp.Val e = refl
+comp_is comp.Addr comp.Addr e = refl
+comp_is comp.Float comp.Float e = refl
+comp_is comp.Int comp.Val e = absurd (true≢false (sym e))
+comp_is comp.Int comp.Addr e = absurd (true≢false (sym e))
+comp_is comp.Int comp.Float e = absurd (true≢false (sym e))
+comp_is comp.Val comp.Int e = absurd (true≢false (sym e))
+comp_is comp.Val comp.Addr e = absurd (true≢false (sym e))
+comp_is comp.Val comp.Float e = absurd (true≢false (sym e))
+comp_is comp.Addr comp.Int e = absurd (true≢false (sym e))
+comp_is comp.Addr comp.Val e = absurd (true≢false (sym e))
+comp_is comp.Addr comp.Float e = absurd (true≢false (sym e))
+comp_is comp.Float comp.Int e = absurd (true≢false (sym e))
+comp_is comp.Float comp.Val e = absurd (true≢false (sym e))
+comp_is comp.Float comp.Addr e = absurd (true≢false (sym e))
+
+pub same_comp_is : (t : Comp) → same_comp t t ≡ true
+same_comp_is comp.Int = refl
+same_comp_is comp.Val = refl
+same_comp_is comp.Addr = refl
+same_comp_is comp.Float = refl

@@ -182,7 +182,7 @@ none_leaving (leaving.Checkbound r) cs ds (checks h) = refl
 none_leaving leaving.Raise cs ds raises = refl
 none_leaving leaving.Return cs ds (returns result) = refl
 
-no_label_next : (b : Bool) (l : ℕ) → OneOf (At l) (next_if b) → ⊥
+pub no_label_next : (b : Bool) (l : ℕ) → OneOf (At l) (next_if b) → ⊥
 no_label_next true l (other o) = elim o [ ]
 no_label_next false l o = elim o [ ]
 

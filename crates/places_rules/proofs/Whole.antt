@@ -23,6 +23,7 @@ use Rattle.mach_ir.specs.declared.mach.MachOp.TheVariants as mach
 use Rattle.mach_ir.specs.declared.reg.Reg.{Reg}
 use Rattle.mach_ir.specs.declared.mach.Instr.{Instr}
 use Rattle.mach_ir.specs.declared.mach.Mach.{Mach}
+use Rattle.mach_laws.proofs.Places.{args_in_code, results_in_code}
 use Rattle.places_rules.specs.Places.{Placing, IsPlacing, placed, all_placed, placed_instr, placed_code, with_places, IsSlot, SlotsGrow}
 use Rattle.places_rules.proofs.Kept.{does_placed}
 use Rattle.places_rules.proofs.Lists.{was}
@@ -75,18 +76,6 @@ tail_fixed (one h) = h
 
 pub head_fixed : {l : Loc} {ls : List Loc} → AreRegisters (l ∷ ls) → (n : ℕ) × (l ≡ loc.Machine n)
 head_fixed (one {n = n} h) = (n, refl)
-
-args_in_code : (code : List Instr) (i : Instr) (r : Reg) → Contains code i → Contains i.args r → InCode r code
-args_in_code [] i r c d = absurd (none_in i c)
-args_in_code (j ∷ is) i r c d =
-    ⊎_elim (λ e. in_args (subst (λ (i : Instr). Contains i.args r) (sym e) d)) (λ h. further (args_in_code is i r h d))
-    (in_cons j i is c)
-
-results_in_code : (code : List Instr) (i : Instr) (r : Reg) → Contains code i → Contains i.results r → InCode r code
-results_in_code [] i r c d = absurd (none_in i c)
-results_in_code (j ∷ is) i r c d =
-    ⊎_elim (λ e. in_results (subst (λ (i : Instr). Contains i.results r) (sym e) d))
-    (λ h. further (results_in_code is i r h d)) (in_cons j i is c)
 
 -- ---- whole
 

@@ -6,7 +6,7 @@ use Rattle.bs_words.specs.declared.types.Loc.{Loc}
 use Rattle.bs_words.specs.declared.types.Loc.TheVariants as loc
 use Rattle.lin_ir.specs.Meaning.{same_loc}
 use Rattle.linear_rules.specs.Lowered.{same_spot}
-use Rattle.linear_rules.proofs.Moves.{same_comp_is}
+use Rattle.mach_laws.proofs.Places.{same_comp_is}
 use Rattle.mach_ir.specs.declared.op.CopyKind.{CopyKind}
 use Rattle.mach_ir.specs.declared.op.CopyKind.TheVariants as copy
 use Rattle.mach_ir.specs.declared.reg.Reg.{Reg}

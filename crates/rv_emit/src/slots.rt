@@ -1,13 +1,12 @@
 //! Slots, where operands are read and results are made, and copies.
 ghost use Rattle.std.specs.Prelude.{◌≡◌, IfOk};
-ghost use Rattle.lin_ir.specs.Meaning.{same_loc};
 ghost use Rattle.emit_rules.specs.Slots.{far_stack, stack_load, stack_store, slot_offset, first, second, register_of, fetched, target, kept, copied, moved};
 ghost use Rattle.rv_emit.specs.Outputs.{Adds};
 
 use crate::constants::above_12;
 use crate::output::Output;
 use bs_words::Loc;
-use lin_ir::Spot;
+use lin_ir::{Spot, same_loc};
 use rv_isa::{LoadWidth, Register, StoreWidth};
 use std::alloc::AllocError;
 
@@ -55,25 +54,6 @@ pub fn target(loc: Loc) -> Register
     ensures { result ≡ target loc }
 {
     register_of(Register::T1, loc)
-}
-
-/// Whether two locations are one.
-fn same_loc(left: Loc, right: Loc) -> bool
-    ensures { result ≡ same_loc left right }
-{
-    match left {
-        Loc::Machine(number) => match right {
-            Loc::Machine(other) => number == other,
-            Loc::Slot(_) => false,
-            Loc::Unset => false,
-        },
-        Loc::Slot(slot) => match right {
-            Loc::Slot(other) => slot == other,
-            Loc::Machine(_) => false,
-            Loc::Unset => false,
-        },
-        Loc::Unset => false,
-    }
 }
 
 impl Output {

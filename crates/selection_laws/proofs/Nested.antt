@@ -15,7 +15,7 @@ use Rattle.cmm_meaning.specs.Evaluation.{is_left_first}
 use Rattle.mach_ir.specs.Acts.{On, At, drop_tries, goes_on, leaves_function}
 use Rattle.mach_ir.specs.Formed.{LeadsTo, HasPlace, place_here, place_below, HasHandler, handler_here, is_exit, LabelsStand, tries_left, leaves, IsNested, indexes_of}
 use Rattle.mach_ir.specs.Meaning.{has_label, is_handler_of, tries_at}
-use Rattle.mach_ir.specs.Walks.{OneOf, this, other, next_if, targets, Stands, here, below}
+use Rattle.mach_ir.specs.Walks.{OneOf, this, other, targets, Stands, here, below}
 use Rattle.mach_ir.specs.declared.mach.Instr.{Instr}
 use Rattle.mach_ir.specs.declared.mach.Mark.{Mark}
 use Rattle.mach_ir.specs.declared.mach.Mark.TheVariants as mark
@@ -33,6 +33,7 @@ use Rattle.selection_rules.specs.Select.{Code, Shape, InRegisters, ConstantRight
 use Rattle.selection_rules.proofs.Exits.{scopes_params, scopes_after}
 use Rattle.mach_laws.specs.Expand.{Ending, all, more}
 use Rattle.mach_laws.proofs.Places.{ending_next, ending_of}
+use Rattle.mach_laws.proofs.Raised.{no_label_next}
 use Rattle.selection_rules.proofs.Parts.{ending_in, Within, inside_all, inside_more, inside_in}
 use Rattle.selection_rules.proofs.Endings.{ending_select, ending_handlers, ending_cases}
 use Rattle.selection_rules.proofs.Labels.{selected_labelled}
@@ -120,10 +121,6 @@ kept_of none i next s = elim s [ ]
 kept_of (one x xs) i next here = x
 kept_of (one x xs) i next (below s) = kept_of xs i next s
 
-none_next : (b : Bool) (l : ℕ) → OneOf (At l) (next_if b) → ⊥
-none_next true l (other o) = elim o [ ]
-none_next false l o = elim o [ ]
-
 none_on : (l : ℕ) → OneOf (At l) (On ∷ []) → ⊥
 none_on l (other o) = elim o [ ]
 
@@ -160,12 +157,12 @@ module _ (whole : List Instr) where
       goes i next no_exit no_leave no_try stays c lands (λ labels e. absurd (true≢false (sym (ap is_choice e) ∙ no_choice))) (λ indexes l end e. absurd (true≢false (sym (ap is_choice e) ∙ no_choice)))
 
   kept_op : (f : Op) (args results : List Reg) (next : List Instr) → leaves_function f ≡ false → Caught whole (tries_at next) → IsKept whole (emit.operation f args results) next
-  kept_op f args results next stays c = plain _ next refl refl refl stays refl c (λ l o. absurd (none_next (goes_on f) l o))
+  kept_op f args results next stays c = plain _ next refl refl refl stays refl c (λ l o. absurd (no_label_next (goes_on f) l o))
 
   kept_leaving : (f : Op) (args results : List Reg) (next : List Instr) → tries_at next ≡ [] → IsKept whole (emit.operation f args results) next
   kept_leaving f args results next e =
       record {
-        lands = λ l o _. absurd (none_next (goes_on f) l o);
+        lands = λ l o _. absurd (no_label_next (goes_on f) l o);
         exits = λ l o e. absurd (true≢false (sym e));
         handles = λ l end e. absurd (true≢false (sym (ap is_leave e)));
         pushed = λ l e. absurd (true≢false (sym (ap is_try e)));

@@ -1,22 +1,23 @@
 -- What is live has been written, at each place of a run: so a run of a function is proper where it does not go wrong.
 use Rattle.std.proofs.Common.{◌≡◌, ℕ, zero, suc, Bool, true, false, cond, List, [], ◌∷◌, Option, Some, None, refl, sym, ◌∙◌, subst}
-use Rattle.std.specs.Prelude.{◌≢◌, nat_eq, Contains}
+use Rattle.std.specs.Prelude.{◌≢◌, nat_eq}
 use Rattle.std.proofs.lemmas.Bool.{eqb-true}
 use Rattle.bs_words.specs.Fits.{fits, type_of_comp}
 use Rattle.bs_words.specs.Memory.{Memory}
 use Rattle.bs_words.specs.declared.types.Ret.{Ret}
 use Rattle.bs_words.specs.declared.values.Value.{Value}
 use Rattle.cmm_meaning.specs.State.{Doing, Asked}
-use Rattle.cmm_types.proofs.Containing.{contains_head, contains_tail}
 use Rattle.mach_ir.specs.Acts.{Around, Target, On, At, Landing, AtLabel, AtHandler, Act, Goes, Pushes, Jumps, Unwinds, Asks, Replaces, Ends, EndsRaising, Stuck}
 use Rattle.mach_ir.specs.Keeps.{ValsWritten, OriginsAgree, Proper}
 use Rattle.mach_ir.specs.Runs.{Place, Step, Continues, Pays, Deepens, Waits, FinishesBy, Finishes, FinishesRaising, IsStuck, Tally, Run, Running, Asking, Ended, Wrong, paid, came_back, kept_of, handed, onward, first_tally, entered}
-use Rattle.mach_ir.specs.Meaning.{State, File, Held, put_if, put_all, clear, killed, killed_by, killed_among, Destroyed, Nothing, Temporaries, Everything, destroyed_by, values, is_addr, unless_addr, past_frame, passes_frame, code_at, tries_at, at_handler, landing_code, mach_act, wrote, on_act, on_values, at_code, run, begun, start}
+use Rattle.mach_ir.specs.Meaning.{State, File, Held, put_if, put_all, clear, killed, destroyed_by, values, is_addr, unless_addr, past_frame, passes_frame, code_at, tries_at, at_handler, landing_code, mach_act, wrote, on_act, on_values, at_code, run, begun, start}
 use Rattle.mach_ir.specs.Walks.{Among, first, later, OneOf, targets, may_raise, goes, raises, Reached, at_entry, by_step, by_raise, Live, read, on, aside, LiveAcross, across_step, across_raise, InCode, is_param, is_in_code}
 use Rattle.mach_ir.specs.declared.mach.Instr.{Instr}
 use Rattle.mach_ir.specs.declared.mach.Mach.{Mach}
 use Rattle.mach_ir.specs.declared.reg.Reg.{Reg}
 use Rattle.mach_laws.specs.Expand.{Ending, all}
+use Rattle.mach_laws.proofs.Among.{number_among}
+use Rattle.mach_laws.proofs.Colouring.{of_killed_by}
 use Rattle.mach_laws.proofs.Places.{ending_next, ending_label, stands_of, results_in, args_in, ending_land}
 use Rattle.mach_laws.proofs.Leads.{IsTry, MayLand, lands_at_label, lands_at_handler, Within, goes_in, pushes_in, jumps_in, unwinds_in, asks_in, within}
 use Rattle.mach_laws.proofs.Walking.{ending_leads, ending_raises}
@@ -65,28 +66,7 @@ cleared n (k ∷ ks) a free h = by (nat_eq k.number n) refl (cleared n ks a (λ 
     by true e g = absurd (free (first (eqb-true k.number n e)))
     by false e g = g
 
--- ---- what is killed is of a colour
-
-killed_if : (n : ℕ) (b : Bool) (r : Reg) (rs others : List Reg) → (Among n others → Among n rs) → Among n (cond b (r ∷ others) others) → Among n (r ∷ rs)
-killed_if n true r rs others f (first e) = first e
-killed_if n true r rs others f (later i) = later (f i)
-killed_if n false r rs others f i = later (f i)
-
-killed_in : (n : ℕ) (rs : List Reg) (d : Destroyed) (results : List Reg) → Among n (killed_among rs d results) → Among n rs
-killed_in n [] d results i = i
-killed_in n (r ∷ rs) d results i = killed_if n _ r rs (killed_among rs d results) (killed_in n rs d results) i
-
-killed_colour : (n : ℕ) (rs : List Reg) (d : Destroyed) (results : List Reg) → Among n (killed_by rs d results) → Among n rs
-killed_colour n rs Nothing results i = elim i [ ]
-killed_colour n rs Temporaries results i = killed_in n rs Temporaries results i
-killed_colour n rs Everything results i = killed_in n rs Everything results i
-
 -- ---- what is read is in the code
-
-reg_among : {n : ℕ} (rs : List Reg) → Among n rs → (r : Reg) × Contains rs r × (r.number ≡ n)
-reg_among [] i = elim i [ ]
-reg_among (r ∷ rs) (first e) = (r, contains_head r rs, e)
-reg_among (r ∷ rs) (later i) = let x = reg_among rs i in (x.0, contains_tail r rs x.0 x.1, x.2)
 
 module _ (c : Place) (m : Mach) where
   -- What this rests on: only parameters are live at the entry, and no register of a colour is in the code.
@@ -97,7 +77,7 @@ module _ (c : Place) (m : Mach) where
 
   no_colour : Assigned → {n : ℕ} {code : List Instr} → Ending code m.code → Live m n code → Among n m.colours → ⊥
   no_colour z {n} e (read {i = i} a) k =
-      let x = reg_among i.args a in
+      let x = number_among i.args a in
       z.colours x.0 (args_in (stands_of e) x.1) (subst (λ q. Among q m.colours) (sym x.2) k)
   no_colour z e (on free l w) k = no_colour z (ending_leads l e) w k
   no_colour z e (aside r w) k = no_colour z (ending_raises r) w k
@@ -171,7 +151,7 @@ module _ (c : Place) (m : Mach) where
         (λ n w free. let unkilled = dead n w in cleared n (killed m i) a' unkilled (stays n (across_step (free_both c m i free unkilled) (goes t o) w))))
       where
         dead : (n : ℕ) → Live m n (code_at m.code next t) → Among n (killed m i) → ⊥
-        dead n w k = no_colour assigned (ending_at t) w (killed_colour n m.colours (destroyed_by i.op) i.results k)
+        dead n w k = no_colour assigned (ending_at t) w (of_killed_by n m.colours (destroyed_by i.op) i.results k)
 
         by : (x : Option File) → put_all c.setting.end i.results vs (clear (killed m i) a') ≡ x → Holds (λ n. Live m n (code_at m.code next t)) x →
             FineStep (wrote (code_at m.code next t) after x)

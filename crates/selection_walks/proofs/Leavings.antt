@@ -7,6 +7,7 @@ use Rattle.bs_words.specs.Fits.{type_of_comp}
 use Rattle.bs_words.specs.declared.types.Chunk.{Chunk}
 use Rattle.bs_words.specs.declared.types.Chunk.TheVariants as chunk
 use Rattle.bs_words.specs.declared.types.Comp.TheVariants as comp
+use Rattle.bs_words.proofs.Truths.{bool_same}
 use Rattle.bs_fault.specs.Reported.{Faultless, here as one_here}
 use Rattle.cmm_tree.specs.Tree.{LabelTree, Named as named, Bare, Done, Again, same_label, Parameter}
 use Rattle.cmm_types.specs.Standing.{Visible, handler_of}
@@ -39,15 +40,9 @@ int_address e = cc
 
 -- ---- labels
 
-flip : (a b : Bool) → (a ≡ true → b ≡ true) → (b ≡ true → a ≡ true) → a ≡ b
-flip true true f g = refl
-flip true false f g = sym (f refl)
-flip false true f g = g refl
-flip false false f g = refl
-
 pub label_turned : (a b : LabelTree) → same_label a b ≡ same_label b a
 label_turned (named x) (named y) =
-    flip (bytes_eq x y) (bytes_eq y x) (λ e. (bytes_eq-Decides y x).1 (sym ((bytes_eq-Decides x y).0 e)))
+    bool_same (bytes_eq x y) (bytes_eq y x) (λ e. (bytes_eq-Decides y x).1 (sym ((bytes_eq-Decides x y).0 e)))
     (λ e. (bytes_eq-Decides x y).1 (sym ((bytes_eq-Decides y x).0 e)))
 label_turned (named x) Bare = refl
 label_turned (named x) Done = refl

@@ -1,7 +1,7 @@
 -- No address is live after a frame point of selected code that is reached, where none is in the text.
 use Rattle.std.proofs.Common.{◌≡◌, ℕ, suc, ◌+◌, ◌<◌, Bool, true, false, not, ◌⊎◌, inl, inr, ⊎_elim, List, [], ◌∷◌, ◌++◌, Option, Some, None, refl, sym, ap, ◌∙◌, subst, arith}
-use Rattle.std.specs.Prelude.{length, nat_eq, Contains}
-use Rattle.std.proofs.lemmas.Bool.{true≢false, eq-eqb, eqb-true}
+use Rattle.std.specs.Prelude.{length, Contains}
+use Rattle.std.proofs.lemmas.Bool.{true≢false}
 use Rattle.bs_words.specs.declared.types.Comp.TheVariants as comp
 use Rattle.bs_words.specs.declared.types.Ty.{Ty}
 use Rattle.bs_words.specs.declared.types.Ty.TheVariants as ty
@@ -22,6 +22,7 @@ use Rattle.selection_rules.specs.Instructions as emit
 use Rattle.selection_rules.specs.Select.{Named, Label, scopes, fresh, moves_all, params_from, with_params, seat, seats, returns, is_no_value, selected, select}
 use Rattle.selection_rules.specs.Select as select
 use Rattle.mach_laws.specs.Expand.{Ending, all}
+use Rattle.mach_laws.proofs.Among.{among_or_not}
 use Rattle.mach_laws.proofs.Places.{stands_of, results_in}
 use Rattle.mach_laws.proofs.Walking.{ending_leads, ending_raises}
 use Rattle.selection_rules.proofs.Parts.{Placed, placed_in}
@@ -40,19 +41,6 @@ use Rattle.selection_walks.proofs.Claims.{claim}
 use Rattle.selection_rules.proofs.Rows.{seats_length}
 
 -- ---- places
-
-among_either : (n : ℕ) (rs : List Reg) → Among n rs ⊎ (Among n rs → ⊥)
-among_either n [] = inr (λ a. elim a [ ])
-among_either n (r ∷ rs) = by (nat_eq r.number n) refl (among_either n rs)
-  where
-    by : (b : Bool) → nat_eq r.number n ≡ b → Among n rs ⊎ (Among n rs → ⊥) → Among n (r ∷ rs) ⊎ (Among n (r ∷ rs) → ⊥)
-    by true e x = inl (first (eqb-true r.number n e))
-    by false e (inl a) = inl (later a)
-    by false e (inr f) = inr (λ a. neither a)
-      where
-        neither : Among n (r ∷ rs) → ⊥
-        neither (first q) = true≢false (sym (eq-eqb r.number n q) ∙ e)
-        neither (later i) = f i
 
 addresses_of : (n : ℕ) (rs : List Reg) → ((q : Reg) → Contains rs q → q.number ≡ n → q.comp ≡ comp.Addr) → Addresses n rs
 addresses_of n [] f = tt
@@ -102,7 +90,7 @@ module _ (m : Mach) (tells : NumbersTell m) (r : Reg) (is : IsRegister m r) (add
       from_entry z
       (⊎_elim (λ a. inr (record { count = suc x.count; ahead = steps (own (reached_ending z)) (writes a) l x.ahead }))
       (λ f. inl (record { count = suc x.count; ahead = steps (own (reached_ending z)) (stays f) l x.ahead }))
-      (among_either r.number i.results))
+      (among_or_not r.number i.results))
   from_entry (by_raise z l) (inr x) = from_entry z (inr (record { count = suc x.count; ahead = strays the_same l x.ahead }))
   from_entry (by_raise z l) (inl x) = from_entry z (inl (record { count = suc x.count; ahead = strays the_same l x.ahead }))
 
@@ -356,4 +344,4 @@ pub selected_starts : (defined : List ℕ → Option DefinedSymbol) (f : Functio
     (n : ℕ) → Live (selected f) n (selected f).code → Among n (selected f).params
 selected_starts defined f fits faultless n live =
     ⊎_elim (λ a. a) (λ free. absurd (none_passed (entry_told defined f fits faultless n Passed (λ e i. free i) (read_ahead live).1)))
-    (among_either n (selected f).params)
+    (among_or_not n (selected f).params)

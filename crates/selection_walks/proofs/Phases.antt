@@ -6,10 +6,11 @@ use Rattle.std.proofs.lemmas.Bool.{true≢false}
 use Rattle.bs_words.specs.declared.types.Comp.TheVariants as comp
 use Rattle.mach_ir.specs.Acts.{Target, On}
 use Rattle.mach_ir.specs.Meaning.{passes_frame, code_at, from_handler, tries_at}
-use Rattle.mach_ir.specs.Walks.{Among, first, later, OneOf, this, other, targets, may_raise, Leads, goes, Raises, raises}
+use Rattle.mach_ir.specs.Walks.{Among, first, later, OneOf, targets, may_raise, Leads, goes, Raises, raises}
 use Rattle.mach_ir.specs.declared.mach.Instr.{Instr}
 use Rattle.mach_ir.specs.declared.mach.Mach.{Mach}
 use Rattle.mach_ir.specs.declared.reg.Reg.{Reg}
+use Rattle.mach_laws.proofs.Walking.{only_on}
 use Rattle.walk_tables.specs.Walks.{Event, Binds, Uses, Passes, Task, Does, Next, Walk}
 use Rattle.walk_tables.specs.Walks as walk
 use Rattle.walk_tables.specs.AddrLive.{Unbound}
@@ -92,12 +93,8 @@ pub data Onward (m : Mach) (n k : ℕ) (i : Instr) (next : List Instr) : Phase �
   flew : {p q : Phase} {l : ℕ} {tries : List ℕ} → may_raise i.op ≡ true → tries_at (i ∷ next) ≡ l ∷ tries → Flies i p q →
       Ahead m n k q (from_handler l m.code) → Onward m n k i next p
 
-on_only : (t : Target) → OneOf t (On ∷ []) → t ≡ On
-on_only t this = refl
-on_only t (other o) = elim o [ ]
-
 leads_on : {m : Mach} {i : Instr} {next to : List Instr} → targets i.op ≡ On ∷ [] → Leads m i next to → to ≡ next
-leads_on {m} {i} {next} ts (goes t o) = ap (code_at m.code next) (on_only t (subst (OneOf t) ts o))
+leads_on {m} {i} {next} ts (goes t o) = ap (code_at m.code next) (only_on t (subst (OneOf t) ts o))
 
 turned : {m : Mach} {n k : ℕ} {i : Instr} {next : List Instr} {p q : Phase} → Addresses n i.results → Turns n i p q → Ahead m n k q next → Onward m n k i next p
 turned a not_yet x = simply (kept_on a tt x)

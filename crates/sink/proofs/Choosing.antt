@@ -5,8 +5,6 @@ use Rattle.std.specs.List.{Contains}
 use Rattle.std.specs.Prelude.{Option, slice_get, slice_index_or}
 use Rattle.bs_bits.specs.Set.{has}
 use Rattle.bs_words.specs.Contents.{contents}
-use Rattle.bs_words.specs.declared.types.Loc.{Loc}
-use Rattle.bs_words.specs.declared.types.Loc.TheVariants as loc
 use Rattle.bs_words.proofs.Lists.{none_in, tail_same}
 use Rattle.dataflow.specs.Flow.{IsBare}
 use Rattle.dataflow.specs.Flow as flows
@@ -27,7 +25,7 @@ use Rattle.mach_ir.specs.declared.mach.Mach.{Mach}
 use Rattle.mach_ir.specs.declared.mach.MachOp.{MachOp}
 use Rattle.mach_ir.specs.declared.mach.MachOp.TheVariants as mach
 use Rattle.mach_laws.specs.Graph.{place_of, numbers, next_places, raise_places, IsFlowOf}
-use Rattle.mach_laws.proofs.Places.{ending_next, stands_of, ending_of}
+use Rattle.mach_laws.proofs.Places.{ending_next, stands_of, ending_of, is_unset}
 use Rattle.mach_laws.proofs.Walking.{place_is, among_numbers, in_numbers, place_back, place_within, ending_place}
 use Rattle.spill_rules.specs.Chosen.{LivesOver, lives}
 use Rattle.sink_rules.specs.Chosen.{IsSunkAt}
@@ -68,11 +66,6 @@ often_once p e = cc
 
 once_same : (q p : ℕ) → Once q ≡ Once p → q ≡ p
 once_same q p e = cc
-
-open_is : (l : Loc) → is_open l ≡ true → l ≡ loc.Unset
-open_is loc.Unset e = refl
-open_is (loc.Machine n) e = absurd (not_both false e refl)
-open_is (loc.Slot n) e = absurd (not_both false e refl)
 
 call_is : (f : MachOp) → is_call f ≡ true → (g : Op) × (f ≡ mach.Op g)
 call_is (mach.Op g) e = (g, refl)
@@ -339,7 +332,7 @@ module _ (m : Mach) (formed : WellFormed m) (live : LiveMap) (exact : IsLiveMap 
             place = sym (place_back m q (first ∷ rest) ran.within begin.2);
             sunk_at = record {
               register = is_in_code code;
-              open_place = open_is move.reg.loc x.open_place;
+              open_place = is_unset move.reg.loc x.open_place;
               stands = stands_of (ending_place m q begin.2);
               call = i;
               after = next;

@@ -1,6 +1,6 @@
 -- What the set of mixed reads holds.
 use Rattle.std.proofs.Common.{◌≡◌, ℕ, zero, suc, ◌+◌, ◌<◌, Bool, true, false, cond, ◌&&◌, ◌⊎◌, inl, inr, ⊎_elim, List, [], ◌∷◌, length, drop, replicate, refl, sym, ap, ◌∙◌, subst, arith}
-use Rattle.std.proofs.lemmas.Bool.{cases_Bool, lt-ltb}
+use Rattle.std.proofs.lemmas.Bool.{cases_Bool, lt-ltb, and_parts, and_from}
 use Rattle.std.specs.Prelude.{nat_lt, slice_set}
 use Rattle.bs_bits.specs.Set.{has}
 use Rattle.dataflow.specs.Rows.{row}
@@ -10,14 +10,6 @@ use Rattle.mach_ir.specs.declared.mach.Instr.{Instr}
 use Rattle.sink.specs.Mixed.{is_mixed, noted_reads, noted_code}
 use Rattle.sink.proofs.Seeing.{length_set, at_set, off_set, same_or}
 use Rattle.bs_words.proofs.Truths.{not_both}
-
-and_parts : (a b : Bool) → a && b ≡ true → (a ≡ true) × (b ≡ true)
-and_parts true b e = (refl, e)
-and_parts false b e = absurd (not_both false e refl)
-
-and_from : (a b : Bool) → a ≡ true → b ≡ true → a && b ≡ true
-and_from true b e h = h
-and_from false b e h = absurd (not_both false e refl)
 
 module _ (fresh stale : List Bool) where
   abbrev one : Reg → List Bool → List Bool

@@ -1,5 +1,6 @@
 -- The moves of all numbers.
 use Rattle.std.proofs.Common.{◌≡◌, ℕ, zero, suc, ◌+◌, ◌<◌, Bool, true, false, cond, not, ◌&&◌, ⊎_elim, List, [], ◌∷◌, ◌++◌, Some, None, length, refl, sym, ap, ◌∙◌, subst, arith}
+use Rattle.std.proofs.lemmas.Bool.{and_parts, not-true}
 use Rattle.std.specs.List.{All, AllPairs, Contains}
 use Rattle.std.specs.Prelude.{Option, option_to_list, slice_get, slice_index_or}
 use Rattle.bs_bits.specs.Set.{has}
@@ -41,17 +42,6 @@ module _ {A : Type 0} (R : A → A → Type 0) where
 
 -- ---- one move
 
-both : (a b : Bool) → a && b ≡ true → (a ≡ true) × (b ≡ true)
-both true b e = (refl, e)
-both false b e = absurd (bad e)
-  where
-    bad : false ≡ true → ⊥
-    bad e = cc
-
-not_true : (b : Bool) → not b ≡ true → b ≡ false
-not_true false e = refl
-not_true true e = sym e
-
 pub record Moved (code : List Instr) (stale : List (List Bool)) (mixed : List Bool) (o : Option Reg) (s : Sight) (move : Move) : Type 0 where
   pub call : ℕ
   pub reg : o ≡ Some move.reg
@@ -87,9 +77,9 @@ module _ (code : List Instr) (stale : List (List Bool)) (mixed : List Bool) wher
           begun None s e = absurd (none_some move e)
           begun (Some q) s e =
               let same : record { reg = r; place = q } ≡ move = some_same (record { reg = r; place = q }) move e in
-              let x = both (is_open r.loc) (some_call (slice_get code p) && (not (has (row stale p) r.number) && not (has mixed r.number))) t in
-              let y = both (some_call (slice_get code p)) (not (has (row stale p) r.number) && not (has mixed r.number)) x.1 in
-              let z = both (not (has (row stale p) r.number)) (not (has mixed r.number)) y.1 in
+              let x = and_parts (is_open r.loc) (some_call (slice_get code p) && (not (has (row stale p) r.number) && not (has mixed r.number))) t in
+              let y = and_parts (some_call (slice_get code p)) (not (has (row stale p) r.number) && not (has mixed r.number)) x.1 in
+              let z = and_parts (not (has (row stale p) r.number)) (not (has mixed r.number)) y.1 in
               subst (Moved code stale mixed (Some r) (Once p)) same
               (record {
                 call = p;
@@ -97,8 +87,8 @@ module _ (code : List Instr) (stale : List (List Bool)) (mixed : List Bool) wher
                 sight = refl;
                 open_place = x.0;
                 calls = y.0;
-                surely = not_true (has (row stale p) r.number) z.0;
-                unmixed = not_true (has mixed r.number) z.1;
+                surely = not-true (has (row stale p) r.number) z.0;
+                unmixed = not-true (has mixed r.number) z.1;
                 begins = s;
               })
 

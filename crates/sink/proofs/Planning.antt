@@ -1,6 +1,6 @@
 -- The plan of the moves is the chosen one, and the code is that of the plan.
-use Rattle.std.proofs.Common.{◌≡◌, ℕ, suc, ◌-◌, ◌<◌, Bool, true, false, cond, ◌&&◌, ◌||◌, ◌⊎◌, inl, inr, ⊎_elim, List, [], ◌∷◌, ◌++◌, map, length, drop, refl, sym, ap, ◌∙◌, subst, arith}
-use Rattle.std.proofs.lemmas.Bool.{cases_Bool, eq-eqb, eqb-true}
+use Rattle.std.proofs.Common.{◌≡◌, ℕ, suc, ◌-◌, ◌<◌, Bool, true, false, cond, ◌&&◌, ◌||◌, ⊎_elim, List, [], ◌∷◌, ◌++◌, map, length, drop, refl, sym, ap, ◌∙◌, subst, arith}
+use Rattle.std.proofs.lemmas.Bool.{cases_Bool, eq-eqb, eqb-true, or_cases, or_left, or_right, and_parts, and_from}
 use Rattle.std.specs.List.{AllPairs, Contains}
 use Rattle.std.specs.Prelude.{nat_eq}
 use Rattle.mach_ir.specs.Formed.{WellFormed}
@@ -21,34 +21,7 @@ use Rattle.sink.specs.declared.chosen.Move.{Move}
 use Rattle.sink.proofs.Moving.{pairs_none, pairs_more, pairs_first, pairs_rest}
 use Rattle.sink.proofs.Running.{begins_of, one_start}
 use Rattle.mach_laws.proofs.Places.{ending_of}
-use Rattle.bs_words.proofs.Truths.{not_both}
-
--- ---- tests
-
-or_cases : (a b : Bool) → a || b ≡ true → (a ≡ true) ⊎ (b ≡ true)
-or_cases true b e = inl refl
-or_cases false b e = inr e
-
-or_left : (a b : Bool) → a ≡ true → a || b ≡ true
-or_left true b e = refl
-or_left false b e = absurd (not_both false e refl)
-
-or_right : (a b : Bool) → b ≡ true → a || b ≡ true
-or_right true b e = refl
-or_right false b e = e
-
-and_parts : (a b : Bool) → a && b ≡ true → (a ≡ true) × (b ≡ true)
-and_parts true b e = (refl, e)
-and_parts false b e = absurd (not_both false e refl)
-
-and_from : (a b : Bool) → a ≡ true → b ≡ true → a && b ≡ true
-and_from true b e h = h
-and_from false b e h = absurd (not_both false e refl)
-
-same_test : (a b : Bool) → (a ≡ true → b ≡ true) → (b ≡ true → a ≡ true) → a ≡ b
-same_test true b f g = sym (f refl)
-same_test false true f g = g refl
-same_test false false f g = refl
+use Rattle.bs_words.proofs.Truths.{not_both, bool_same}
 
 -- ---- moves by their numbers and places
 
@@ -194,7 +167,7 @@ module _ (m : Mach) (formed : WellFormed m) (moves : List Move) (are : AreMoves 
 
     test_same : (x : Move) → Contains moves x → nat_eq x.place p ≡ plan.moves (length next) x.reg.number
     test_same x c =
-        same_test (nat_eq x.place p) (moved_there moves x.reg.number p)
+        bool_same (nat_eq x.place p) (moved_there moves x.reg.number p)
         (λ e. of_there moves x x.reg.number p c refl (eqb-true x.place p e))
         (λ e.
         let y = are.each x c in

@@ -1,6 +1,6 @@
 -- Straight runs of a function by its places.
-use Rattle.std.proofs.Common.{◌≡◌, ℕ, zero, suc, ◌+◌, ◌-◌, ◌<◌, ◌≤◌, Bool, true, false, cond, not, ◌||◌, ◌⊎◌, inl, inr, ⊎_elim, List, [], ◌∷◌, ◌++◌, Some, None, length, drop, refl, sym, ap, ◌∙◌, subst, arith}
-use Rattle.std.proofs.lemmas.Bool.{cases_Bool, eq-eqb, eqb-true}
+use Rattle.std.proofs.Common.{◌≡◌, ℕ, zero, suc, ◌+◌, ◌-◌, ◌<◌, ◌≤◌, Bool, true, false, cond, not, ◌||◌, ◌⊎◌, inl, inr, ⊎_elim, List, [], ◌∷◌, ◌++◌, Some, None, length, drop, refl, sym, ap, ◌∙◌, subst, arith, append-nil}
+use Rattle.std.proofs.lemmas.Bool.{cases_Bool, eq-eqb, eqb-true, or_cases, not-true, not-false}
 use Rattle.std.proofs.lemmas.List.{length-append}
 use Rattle.std.specs.List.{All}
 use Rattle.std.specs.Prelude.{Option, nat_eq, slice_get}
@@ -14,12 +14,12 @@ use Rattle.mach_ir.specs.declared.mach.Instr.{Instr}
 use Rattle.mach_ir.specs.declared.mach.Mach.{Mach}
 use Rattle.mach_ir.specs.declared.mach.MachOp.{MachOp}
 use Rattle.mach_ir.specs.declared.mach.MachOp.TheVariants as mach
-use Rattle.mach_laws.specs.Expand.{Ending, all, more}
+use Rattle.mach_laws.specs.Expand.{Ending}
 use Rattle.mach_laws.specs.Graph.{place_of}
 use Rattle.mach_laws.proofs.Walking.{place_is, place_back, ending_place}
 use Rattle.sink_rules.specs.Chosen.{IsRunTo}
 use Rattle.sink.specs.Runs.{some_straight, begins_at, is_among, some_result, run_start}
-use Rattle.mach_laws.proofs.Places.{stands_of, ending_of}
+use Rattle.mach_laws.proofs.Places.{stands_of, ending_of, ending_short}
 use Rattle.bs_words.proofs.Truths.{not_both}
 
 -- ---- what is at a place
@@ -77,14 +77,10 @@ begins_inside code (suc p) e = omega arith
 
 -- ---- what a straight instruction writes
 
-or_true : (a b : Bool) → a || b ≡ true → (a ≡ true) ⊎ (b ≡ true)
-or_true true b e = inl refl
-or_true false b e = inr e
-
 among_is : (n : ℕ) (rs : List Reg) → is_among n rs ≡ true → Among n rs
 among_is n [] e = absurd (not_both false e refl)
 among_is n (r ∷ rs) e =
-    ⊎_elim (λ h. first (eqb-true r.number n h)) (λ h. later (among_is n rs h)) (or_true (nat_eq r.number n) (is_among n rs) e)
+    ⊎_elim (λ h. first (eqb-true r.number n h)) (λ h. later (among_is n rs h)) (or_cases (nat_eq r.number n) (is_among n rs) e)
 
 is_among_of : {n : ℕ} {rs : List Reg} → Among n rs → is_among n rs ≡ true
 is_among_of {n} (first {r = r} {rs = rs} e) = ap (λ b. b || is_among n rs) (eq-eqb r.number n e)
@@ -94,10 +90,6 @@ is_among_of {n} (later {r = r} {rs = rs} a) = by (nat_eq r.number n) (is_among_o
     by true e = refl
     by false e = e
 
-append_none : {A : Type 0} (xs : List A) → xs ++ [] ≡ xs
-append_none [] = refl
-append_none (x ∷ xs) = ap (λ ys. x ∷ ys) (append_none xs)
-
 straight_writes : (m : Mach) (i : Instr) (f : MachOp) → i.op ≡ f → is_straight f ≡ true → killed m i ≡ []
 straight_writes m i (mach.Op (op.Pure f)) e s = ap (λ f. killed m (record i { op = f })) e
 straight_writes m i (mach.Op (op.Access f)) e s = ap (λ f. killed m (record i { op = f })) e
@@ -106,24 +98,12 @@ straight_writes m i (mach.Op (op.Leaving f)) e s = absurd (not_both false s refl
 straight_writes m i (mach.Mark f) e s = absurd (not_both false s refl)
 
 written_is : (m : Mach) (i : Instr) → is_straight i.op ≡ true → written m i ≡ i.results
-written_is m i s = ap (λ ks. i.results ++ ks) (straight_writes m i i.op refl s) ∙ append_none i.results
+written_is m i s = ap (λ ks. i.results ++ ks) (straight_writes m i i.op refl s) ∙ append-nil i.results
 
 -- ---- runs
 
-is_not : (b : Bool) → not b ≡ true → b ≡ false
-is_not false e = refl
-is_not true e = sym e
-
-not_is : (b : Bool) → not b ≡ false → b ≡ true
-not_is true e = refl
-not_is false e = sym e
-
 none_some : (q : ℕ) → None ≡ Some q → ⊥
 none_some q e = cc
-
-short : {rest code : List Instr} → Ending rest code → length rest ≤ length code
-short all = omega arith
-short (more e) = let le = short e in omega (arith, le)
 
 pub some_same : (p q : ℕ) → Some p ≡ Some q → p ≡ q
 some_same p q e = cc
@@ -177,7 +157,7 @@ module _ (m : Mach) (n : ℕ) where
       by go (inr g) = further (cases_Bool (is_among n i.results))
         where
           straight : is_straight i.op ≡ true
-          straight = not_is (is_straight i.op) (ap (λ o. not (some_straight o)) (sym get) ∙ g)
+          straight = not-false (is_straight i.op) (ap (λ o. not (some_straight o)) (sym get) ∙ g)
 
           further : (is_among n i.results ≡ true) ⊎ (is_among n i.results ≡ false) → Ran rest q
           further (inl w) = absurd (none_some q (ap (next false) (sym w) ∙ opened false g))
@@ -197,7 +177,7 @@ module _ (m : Mach) (n : ℕ) where
       (place_back_of (ending_of st)) g
     where
       place_back_of : Ending (j ∷ from) code → (p : ℕ) × (drop p code ≡ j ∷ from) × (p ≡ length code - suc (length from)) × (suc (length from) ≤ length code)
-      place_back_of e = (place_of m (j ∷ from), place_is m e, refl, short e)
+      place_back_of e = (place_of m (j ∷ from), place_is m e, refl, ending_short e)
 
       minus : (a b p q : ℕ) → a - b ≡ suc q → p ≡ a - suc b → p ≡ q
       minus a b p q e h = omega (arith, e, h)
@@ -212,7 +192,7 @@ module _ (m : Mach) (n : ℕ) where
       by (suc q) h x g =
           let same : x.0 ≡ q = minus (length code) (length from) x.0 q h x.2 in
           let get : slice_get code q ≡ Some j = get_there code q j from (subst (λ p. drop p code ≡ j ∷ from) same x.1) in
-          is_not (is_straight j.op) (ap (λ o. not (some_straight o)) (sym get) ∙ g)
+          not-true (is_straight j.op) (ap (λ o. not (some_straight o)) (sym get) ∙ g)
 
   begins_back : (q : ℕ) (from : List Instr) → drop q code ≡ from → q ≤ length code →
       ((j : Instr) → Stands j from code → is_straight j.op ≡ false) → begins_at code q ≡ true
@@ -278,7 +258,7 @@ module _ (m : Mach) (n : ℕ) where
   pub run_starts : {from : List Instr} {call : Instr} {after : List Instr} → Ending from code → IsRunTo m n from call after →
       run_start code n (place_of m (call ∷ after)) ≡ Some (place_of m from)
   run_starts {from} {call} {after} e r =
-      ap (run_start code n) (place (length code) (length from) (length r.run) (suc (length after)) count (short e))
+      ap (run_start code n) (place (length code) (length from) (length r.run) (suc (length after)) count (ending_short e))
       ∙ passed r.run (call ∷ after) (place_of m from) (place_is m e ∙ r.is) r.straight r.unwritten ∙ at_begin (place_of m from) (begins_of e r)
     where
       count : length from ≡ length r.run + suc (length after)

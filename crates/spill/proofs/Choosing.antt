@@ -1,6 +1,6 @@
 -- The plan that the tables tell is the chosen one, and the code is that of the plan.
-use Rattle.std.proofs.Common.{◌≡◌, ℕ, suc, ◌+◌, ◌-◌, ◌≤◌, Bool, true, false, cond, ◌&&◌, ◌||◌, ◌⊎◌, inl, inr, ⊎_elim, List, [], ◌∷◌, ◌++◌, map, length, drop, refl, sym, ap, ◌∙◌, subst, arith}
-use Rattle.std.proofs.lemmas.Bool.{cases_Bool, eq-eqb, eqb-true, and_parts}
+use Rattle.std.proofs.Common.{◌≡◌, ℕ, suc, ◌+◌, ◌-◌, ◌≤◌, Bool, true, false, cond, ◌&&◌, ◌||◌, ⊎_elim, List, [], ◌∷◌, ◌++◌, map, length, drop, refl, sym, ap, ◌∙◌, subst, arith}
+use Rattle.std.proofs.lemmas.Bool.{cases_Bool, eq-eqb, eqb-true, and_parts, or_cases, or_left, or_right, and_from}
 use Rattle.std.specs.List.{Contains}
 use Rattle.std.specs.Prelude.{nat_eq}
 use Rattle.std.proofs.lemmas.List.Elements.{All-contains}
@@ -41,22 +41,6 @@ is_in n (k ∷ ks) = nat_eq k n || is_in n ks
 abbrev some_has : List (List Bool) → ℕ → List ℕ → Bool
 some_has rows n [] = false
 some_has rows n (q ∷ qs) = has (row rows q) n || some_has rows n qs
-
-or_cases : (a b : Bool) → (a || b) ≡ true → (a ≡ true) ⊎ (b ≡ true)
-or_cases true b e = inl refl
-or_cases false b e = inr e
-
-or_left : (a b : Bool) → a ≡ true → (a || b) ≡ true
-or_left true b e = refl
-or_left false b e = absurd (not_both false e refl)
-
-or_right : (a b : Bool) → b ≡ true → (a || b) ≡ true
-or_right true b e = refl
-or_right false b e = e
-
-and_true : (a b : Bool) → a ≡ true → b ≡ true → (a && b) ≡ true
-and_true true b e h = h
-and_true false b e h = absurd (not_both false e refl)
 
 in_contains : (n : ℕ) (ks : List ℕ) → is_in n ks ≡ true → Contains ks n
 in_contains n [] e = absurd (not_both false e refl)
@@ -235,7 +219,7 @@ module _ (m : Mach) (t : Tables) (are : AreTables m t) (formed : WellFormed m) w
       let ending = ending_leads l (ending_of stands) in
       subst (λ k. at_length k (spills_here n) m.code ≡ true) len
       (at_is (spills_here n) m.code stands
-      ∙ and_true (is_in n (numbers (written m j))) (some_has wanted n (next_places m (j ∷ next)))
+      ∙ and_from (is_in n (numbers (written m j))) (some_has wanted n (next_places m (j ∷ next)))
       (contains_in n (numbers (written m j)) (in_numbers w))
       (some_of wanted n (next_places m (j ∷ next)) q (steps_to m l)
       ((are.wanted.exact q n (place_within m to)).1 (subst (Wanted m n) (sym (place_is m ending)) v))))

@@ -1,4 +1,5 @@
-use Rattle.interfere.proofs.Entering.{regs_small, args_in, results_in, read_in, code_begun, code_more, code_all}
+use Rattle.mach_laws.proofs.Places.{args_in_code, results_in_code}
+use Rattle.interfere.proofs.Entering.{regs_small, read_in, code_begun, code_more, code_all}
 use Rattle.std.proofs.Common.{◌∙◌}
 use Rattle.interfere.proofs.registers.enter_code.Goals as goal
 
@@ -10,14 +11,14 @@ enter-requires c =
     let i = c.instr-item.result in
     let at = read_in c.args.code.now c.loop-instr.instr-index i c.loop-instr-test.true c.instr-item.is in
     regs_small _ _ i.args c.as_slice.result.now c.as_slice.ensures
-    (λ r a. c.requires r (args_in c.args.code.now i r at a)) c.loop-instr.invariant.len
+    (λ r a. c.requires r (args_in_code c.args.code.now i r at a)) c.loop-instr.invariant.len
 
 pub enter-requires-in-loop-instr : goal.enter-requires-in-loop-instr
 enter-requires-in-loop-instr c =
     let i = c.instr-item.result in
     let at = read_in c.args.code.now c.loop-instr.instr-index i c.loop-instr-test.true c.instr-item.is in
     regs_small _ _ i.results c.as_slice-in-loop-instr.result.now c.as_slice-in-loop-instr.ensures
-    (λ r a. c.requires r (results_in c.args.code.now i r at a)) (c.enter.ensures.len ∙ c.loop-instr.invariant.len)
+    (λ r a. c.requires r (results_in_code c.args.code.now i r at a)) (c.enter.ensures.len ∙ c.loop-instr.invariant.len)
 
 pub loop-instr-preserved : goal.loop-instr-preserved
 loop-instr-preserved c =

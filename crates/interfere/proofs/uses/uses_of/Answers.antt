@@ -1,13 +1,14 @@
 use Rattle.std.proofs.Common.{◌∙◌}
 use Rattle.interfere.proofs.Counting.{args_fit, results_fit}
-use Rattle.interfere.proofs.Entering.{regs_small, args_in, results_in, read_in}
+use Rattle.mach_laws.proofs.Places.{args_in_code, results_in_code}
+use Rattle.interfere.proofs.Entering.{regs_small, read_in}
 use Rattle.interfere.proofs.uses.uses_of.Goals as goal
 
 pub count-requires-clause-numbers : goal.count-requires-clause-numbers
 count-requires-clause-numbers c =
     let i = c.instr-item.result in
     let at = read_in c.args.code.now c.loop-instr.instr-index i c.loop-instr-test.true c.instr-item.is in
-    regs_small c.args.size _ i.args c.as_slice.result.now c.as_slice.ensures (λ r a. c.requires.numbers r (args_in c.args.code.now i r at a))
+    regs_small c.args.size _ i.args c.as_slice.result.now c.as_slice.ensures (λ r a. c.requires.numbers r (args_in_code c.args.code.now i r at a))
     c.loop-instr.invariant.len
 
 pub count-requires-clause-countable : goal.count-requires-clause-countable
@@ -20,7 +21,7 @@ count-requires-in-loop-instr-clause-numbers c =
     let i = c.instr-item.result in
     let at = read_in c.args.code.now c.loop-instr.instr-index i c.loop-instr-test.true c.instr-item.is in
     regs_small c.args.size _ i.results c.as_slice-in-loop-instr.result.now c.as_slice-in-loop-instr.ensures
-    (λ r a. c.requires.numbers r (results_in c.args.code.now i r at a)) (c.count.ensures.len ∙ c.loop-instr.invariant.len)
+    (λ r a. c.requires.numbers r (results_in_code c.args.code.now i r at a)) (c.count.ensures.len ∙ c.loop-instr.invariant.len)
 
 pub count-requires-in-loop-instr-clause-countable : goal.count-requires-in-loop-instr-clause-countable
 count-requires-in-loop-instr-clause-countable c =
