@@ -94,7 +94,7 @@ fn put_in_if(set: &mut Bits, numbers: &[u32], told: bool)
     }
 }
 
-/// Makes `set` what is used before the place, as far as `rows` tell what is used before others.
+/// Makes `set` what is used before the place, as far as `rows` say what is used before others.
 fn flow_back(place: &Place, computes: bool, rows: &[Bits], set: &mut Bits)
     requires place { IsPlace (length rows.now) (length set.old) place.now }
     requires sizes { HasSizes (length set.old) rows.now }

@@ -3,7 +3,7 @@
 //!
 //! Loops are known by the text: from a label to the last exit that leads back to it. So one table, of the
 //! last exit to each label, and one scan, which keeps the greatest end of the loops whose labels have been
-//! passed, tell the loops round each place. OCaml's `asmcomp` moves no code out of loops.
+//! passed, give the loops round each place. OCaml's `asmcomp` moves no code out of loops.
 #![tactic(auto)]
 
 mod calls;

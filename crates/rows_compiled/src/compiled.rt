@@ -10,7 +10,7 @@ use anyhow::Result;
 use rows_lines::{Table, Top};
 use std::thread::Threads;
 
-/// What the program says to a row, but for the lines that tell the need of stack.
+/// What the program says to a row, but for the lines that say how much stack is needed.
 ///
 /// # Errors
 ///

@@ -11,12 +11,19 @@ use image_form::limits::{CODE_LIMIT, TABLE_LIMIT};
 /// The bytes of the bodies of an image's sections, as they are known before any of it is made.
 #[derive(Clone, Copy)]
 pub struct Sizes {
+    /// Of FUNC: the rows of the functions.
     pub funcs: u64,
+    /// Of CODE: the words of the functions, four bytes each, and those before the first.
     pub code: u64,
+    /// Of DATA: the static data.
     pub bytes: u64,
+    /// Of SYMS: the rows of the symbols of the data.
     pub syms: u64,
+    /// Of ROOT: the cells of the data that hold vals.
     pub roots: u64,
+    /// Of EXTC: the rows of the external calls.
     pub extcs: u64,
+    /// Of DESC: the frame descriptors.
     pub descs: u64,
 }
 
