@@ -1,9 +1,0 @@
-use Rattle.std.proofs.Common.{◌-◌, ◌≤◌}
-use Rattle.rows_large.specs.Points.{AreSlots}
-use Rattle.rows_large.proofs.made.descriptor.Given as goal
-
-abbrev pub invariant-loop-entry : goal.invariant-loop-entry
-invariant-loop-entry l = AreSlots l.entry l.offsets.items × (l.entry ≤ l.entries)
-
-abbrev pub decreases-loop-entry : goal.decreases-loop-entry
-decreases-loop-entry l = l.entries - l.entry

@@ -1,8 +1,0 @@
-use Rattle.std.proofs.Common.{sym, subst, refl, arith}
-use Rattle.rows_large.specs.Points.{ArePoints}
-use Rattle.rows_large.proofs.Points.{points_stand}
-use Rattle.rows_large.proofs.made.pieces_of.Goals as goal
-
-pub returns : goal.returns
-returns c =
-    points_stand _ c.min.result (subst (ArePoints c.min.result) (sym c.from_vec.ensures) c.in_ok-code.ensures) (omega (arith, c.min.ensures)) refl
