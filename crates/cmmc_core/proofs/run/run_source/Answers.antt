@@ -12,7 +12,7 @@ returns-in_err-bytes-clause-refused g c =
 
 pub returns-in_err-image-clause-refused : goal.returns-in_err-image-clause-refused
 returns-in_err-image-clause-refused g c =
-    let p = err_from_is_err_and c.from_residual.result c.from_residual.ensures.1 in
+    let p = err_from_is_err_and c.from_residual-in_err-image.result c.from_residual-in_err-image.ensures.1 in
     rw (p.1, p.2)
     (not_image (run_view c.args.run) _ _ (contents c.in_ok-bytes.bytes) _ (Keeps-same _) c.in_ok-bytes.ensures.read c.as_slice.ensures _ c.in_err-image.ensures.refused)
 
