@@ -1,13 +1,17 @@
 -- How a call of `check` ends.
-use Rattle.std.proofs.Common.{ℕ, List}
+use Rattle.std.proofs.Common.{ℕ, ◌<◌, All, List}
+use Rattle.bs_fault.specs.Limits.{longest_text}
 use Rattle.command_line.specs.Command.{IsCommand, CheckCommand, CheckTree}
 use Rattle.cmmc_core.specs.Compile.{Reads}
-use Rattle.cmmc_core.specs.Effects.{Effects, IsKept, Got, GotPart}
+use Rattle.cmmc_core.specs.Effects.{Side, Effects, IsKept, Got, GotPart, IsRead}
 use Rattle.cmmc_core.specs.Ends as ends
 use Rattle.cmmc_core.specs.Ends.{checked, unchecked, no_memory, Ends, written, out_fault}
-use Rattle.cmmc_core.specs.Refusal.{IsCheckRefusalRead, ReportsCheckRefusal}
+use Rattle.cmmc_core.specs.Refusal.{IsTextUnread, IsCheckFailure, IsCheckRefusalRead, ReportsCheckRefusal, failure_of_unread}
+use Rattle.cmmc_core.specs.declared.text.Unread.{Unread}
+use Rattle.cmmc_core.specs.declared.text.Unread.TheVariants as unread
 use Rattle.cmmc_core.proofs.Ending.{Ends-told, Ends-told-or}
 use Rattle.text_commands.specs.Check.{IsCheckOf}
+use Rattle.text_commands.specs.CheckRefusal.{IsCheckRefusal}
 use Rattle.text_commands.specs.declared.check.CheckRefusal.{CheckRefusal}
 use Rattle.text_commands.specs.declared.check.CheckRefusal.TheVariants.{Fault, UnknownEntry, ArgumentUnfit, TooLarge, OutOfMemory}
 
@@ -18,6 +22,20 @@ Ends-checked words e check lines is r got kept = written lines (checked check li
 pub Ends-checked-cut : (words : List (List ℕ)) (e : Effects) (check : CheckTree) (lines : List ℕ) → IsCommand words (CheckCommand check)
     → Reads (λ text. IsCheckOf check text lines) e.source → GotPart e.out lines → IsKept e.err → Ends words e 6
 Ends-checked-cut words e check lines is r part kept = out_fault lines (checked check lines is r) part kept
+
+-- why nothing is reported of a source of which no text was read
+pub failure_unread : (check : CheckTree) (s : Side) (r : Unread) → IsTextUnread s r → IsCheckFailure check s (failure_of_unread r)
+failure_unread check s unread.ReadFault rose = rose
+failure_unread check s unread.OutOfMemory why = tt
+
+-- why nothing is reported of a text that was read
+pub failure_read : (check : CheckTree) (s : Side) (read : List ℕ) (r : CheckRefusal) → All (λ b. b < 256) read → IsRead longest_text s read
+    → IsCheckRefusal check read r → IsCheckRefusalRead check s r
+failure_read check s read (Fault told) are r why = record { text = read; are_bytes = are; read = r; holds = why }
+failure_read check s read UnknownEntry are r why = record { text = read; are_bytes = are; read = r; holds = why }
+failure_read check s read ArgumentUnfit are r why = record { text = read; are_bytes = are; read = r; holds = why }
+failure_read check s read (TooLarge large) are r why = record { text = read; are_bytes = are; read = r; holds = why }
+failure_read check s read OutOfMemory are r why = tt
 
 pub Ends-unchecked : (words : List (List ℕ)) (e : Effects) (check : CheckTree) (r : CheckRefusal) (result : ℕ)
     → IsCommand words (CheckCommand check)

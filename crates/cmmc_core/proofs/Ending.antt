@@ -9,7 +9,9 @@ use Rattle.bs_fault.specs.Limits.{longest_text}
 use Rattle.cmmc_core.specs.Effects.{Side, Effects, IsKept, Got, GotPart, Reports, IsRead}
 use Rattle.cmmc_core.specs.Ends.{Output, spelling, outcome, Cause, fault, too_large, no_memory, Ends, written, refused, out_fault, err_fault}
 use Rattle.cmmc_core.specs.Compile.{Reads}
-use Rattle.cmmc_core.specs.Refusal.{IsRefusalRead, ReportsRefusal, WritesOutcome, CutsOutcome, ReportsOr}
+use Rattle.cmmc_core.specs.Refusal.{IsTextUnread, IsRefusalRead, IsRefusalFrom, refusal_of_unread, ReportsRefusal, WritesOutcome, CutsOutcome, ReportsOr}
+use Rattle.cmmc_core.specs.declared.text.Unread.{Unread}
+use Rattle.cmmc_core.specs.declared.text.Unread.TheVariants as unread
 use Rattle.text_commands.specs.Refusal.{SpellsImageOf, IsRefusalOf}
 use Rattle.text_commands.specs.declared.compile.Refusal as text
 use Rattle.text_commands.specs.declared.compile.Refusal.TheVariants.{Fault, TooLarge, OutOfMemory}
@@ -63,6 +65,11 @@ Ends-written words e bytes is r got kept = written bytes (spells words e.source 
 
 pub Ends-cut : (words : List (List ℕ)) (e : Effects) (bytes : List ℕ) → AsksToCompile words → Reads (λ text. SpellsImageOf text bytes) e.source → GotPart e.out bytes → IsKept e.err → Ends words e 6
 Ends-cut words e bytes is r part kept = out_fault bytes (spells words e.source bytes is r) part kept
+
+-- what a source is refused for of which no text was read
+pub refusal_unread : (s : Side) (r : Unread) → IsTextUnread s r → IsRefusalFrom s (refusal_of_unread r)
+refusal_unread s unread.ReadFault rose = rose
+refusal_unread s unread.OutOfMemory why = tt
 
 -- what a text that was read is refused for
 pub refusal_read : (s : Side) (read : List ℕ) (r : text.Refusal) → All (λ b. b < 256) read → IsRead longest_text s read → IsRefusalOf read r → IsRefusalRead s r

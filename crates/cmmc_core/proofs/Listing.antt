@@ -6,7 +6,9 @@ use Rattle.cmmc_core.specs.Compile.{Reads}
 use Rattle.cmmc_core.specs.Effects.{Side, Effects, IsKept, Got, GotPart, IsRead}
 use Rattle.cmmc_core.specs.Ends as ends
 use Rattle.cmmc_core.specs.Ends.{listed, unlisted, no_memory, Ends, written, out_fault}
-use Rattle.cmmc_core.specs.Refusal.{IsListRefusalRead, ReportsRefusal}
+use Rattle.cmmc_core.specs.Refusal.{IsTextUnread, IsListFailure, IsListRefusalRead, ReportsRefusal, refusal_of_unread}
+use Rattle.cmmc_core.specs.declared.text.Unread.{Unread}
+use Rattle.cmmc_core.specs.declared.text.Unread.TheVariants as unread
 use Rattle.cmmc_core.proofs.Ending.{Ends-told, Ends-told-or}
 use Rattle.stages.specs.declared.stage.Stage.{Stage}
 use Rattle.text_commands.specs.Listing.{IsListingOf, IsListRefusal}
@@ -20,6 +22,11 @@ Ends-listed words e stage bytes is r got kept = written bytes (listed stage byte
 pub Ends-listed-cut : (words : List (List ℕ)) (e : Effects) (stage : Stage) (bytes : List ℕ) → IsCommand words (ListCommand stage)
     → Reads (λ text. IsListingOf stage text bytes) e.source → GotPart e.out bytes → IsKept e.err → Ends words e 6
 Ends-listed-cut words e stage bytes is r part kept = out_fault bytes (listed stage bytes is r) part kept
+
+-- why nothing is listed of a source of which no text was read
+pub list_refusal_unread : (stage : Stage) (s : Side) (r : Unread) → IsTextUnread s r → IsListFailure stage s (refusal_of_unread r)
+list_refusal_unread stage s unread.ReadFault rose = rose
+list_refusal_unread stage s unread.OutOfMemory why = tt
 
 -- why nothing is listed of a text that was read
 pub list_refusal_read : (stage : Stage) (s : Side) (read : List ℕ) (r : Refusal) → All (λ b. b < 256) read → IsRead longest_text s read

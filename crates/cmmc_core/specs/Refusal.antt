@@ -50,6 +50,11 @@ IsRefusalRead source (Fault told) = Reads (λ text. HasFault text told) source
 IsRefusalRead source (TooLarge large) = Reads (λ text. IsTooLarge text large) source
 IsRefusalRead source OutOfMemory = ⊤
 
+-- what a source is refused for of which no text was read
+abbrev pub refusal_of_unread : Unread → Refusal
+refusal_of_unread unread.ReadFault = ReadFault
+refusal_of_unread unread.OutOfMemory = Text OutOfMemory
+
 -- why a source has no image
 abbrev pub IsRefusalFrom : Side → Refusal → Type 0
 IsRefusalFrom source ReadFault = Rose source
@@ -86,6 +91,11 @@ IsCheckRefusalRead check source checked.ArgumentUnfit = Reads (IsUnfitFor check)
 IsCheckRefusalRead check source (checked.TooLarge large) =
     Reads (λ text. IsTooLargeToCheck check text large) source
 IsCheckRefusalRead check source checked.OutOfMemory = ⊤
+
+-- why nothing is reported of a source of which no text was read
+abbrev pub failure_of_unread : Unread → CheckFailure
+failure_of_unread unread.ReadFault = failure.ReadFault
+failure_of_unread unread.OutOfMemory = failure.Text checked.OutOfMemory
 
 -- why nothing is reported of a source
 abbrev pub IsCheckFailure : CheckTree → Side → CheckFailure → Type 0

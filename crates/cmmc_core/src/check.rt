@@ -1,12 +1,13 @@
 //! The command `check`: a Cmm text in, what is reported of a run of one of its functions out.
-ghost use Rattle.std.specs.Prelude.{◌<◌, ℕ, List, All, IfOk, IfErr};
+ghost use Rattle.std.specs.Prelude.{◌≡◌, ◌<◌, ℕ, List, All, IfOk, IfErr};
 ghost use Rattle.bs_words.specs.Contents.{contents};
 ghost use Rattle.command_line.specs.Command.{IsCommand, CheckCommand};
 ghost use Rattle.command_line.specs.View.{check_view};
 ghost use Rattle.cmmc_core.specs.Compile.{Reads};
 ghost use Rattle.cmmc_core.specs.Effects.{side, effects};
 ghost use Rattle.cmmc_core.specs.Ends.{Ends};
-ghost use Rattle.cmmc_core.specs.Refusal.{IsCheckFailure};
+ghost use Rattle.cmmc_core.specs.Refusal.{IsCheckFailure, failure_of_unread};
+ghost use Rattle.cmmc_core.specs.declared.check.CheckFailure.TheVariants.{Text};
 ghost use Rattle.text_commands.specs.Check.{IsCheckOf};
 ghost use Rattle.text_commands.specs.CheckRefusal.{IsCheckRefusal};
 
@@ -25,6 +26,25 @@ pub enum CheckFailure {
     ReadFault,
     /// Nothing is reported of the text that was read; or memory ran out, perhaps before all was read.
     Text(CheckRefusal),
+}
+
+impl From<Unread> for CheckFailure {
+    ghost from_gives = { λ why r. r ≡ failure_of_unread why };
+
+    fn from(why: Unread) -> Self {
+        match why {
+            Unread::ReadFault => CheckFailure::ReadFault,
+            Unread::OutOfMemory => CheckFailure::Text(CheckRefusal::OutOfMemory),
+        }
+    }
+}
+
+impl From<CheckRefusal> for CheckFailure {
+    ghost from_gives = { λ why r. r ≡ Text why };
+
+    fn from(why: CheckRefusal) -> Self {
+        CheckFailure::Text(why)
+    }
 }
 
 /// Writes what is reported of the run of the text that a source holds, or the line that says why
@@ -71,14 +91,8 @@ fn check_source<R: Threads + Sync, S: Source, G: Gate + Sync>(
         IsCheckFailure (check_view words.now) (side S.left S.faults source.old source.new)
         r) }
 {
-    match read_text(alloc, source) {
-        Ok(text) => match check_bytes(rt, alloc, text.as_slice(), words, gate) {
-            Ok(told) => Ok(told),
-            Err(why) => Err(CheckFailure::Text(why)),
-        },
-        Err(Unread::ReadFault) => Err(CheckFailure::ReadFault),
-        Err(Unread::OutOfMemory) => Err(CheckFailure::Text(CheckRefusal::OutOfMemory)),
-    }
+    let text = read_text(alloc, source)?;
+    Ok(check_bytes(rt, alloc, text.as_slice(), words, gate)?)
 }
 
 /// What is reported of the run of a text, whose bytes are bytes.

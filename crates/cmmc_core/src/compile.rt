@@ -1,9 +1,10 @@
 //! The command `compile`: a Cmm text in, an image out.
-ghost use Rattle.std.specs.Prelude.{◌<◌, ◌≤◌, All, IfOk, IfErr};
+ghost use Rattle.std.specs.Prelude.{◌≡◌, ◌<◌, ◌≤◌, All, IfOk, IfErr};
 ghost use Rattle.bs_words.specs.Contents.{contents};
 ghost use Rattle.cmmc_core.specs.Compile.{Reads};
 ghost use Rattle.cmmc_core.specs.Effects.{side};
-ghost use Rattle.cmmc_core.specs.Refusal.{IsRefusalFrom};
+ghost use Rattle.cmmc_core.specs.Refusal.{IsRefusalFrom, refusal_of_unread};
+ghost use Rattle.cmmc_core.specs.declared.compile.Refusal.TheVariants.{Text};
 ghost use Rattle.text_commands.specs.Refusal.{SpellsImageOf, IsRefusalOf};
 
 use crate::text::{Unread, read_text};
@@ -20,6 +21,25 @@ pub enum Refusal {
     ReadFault,
     /// The text that was read has no image; or memory ran out, perhaps before all was read.
     Text(TextRefusal),
+}
+
+impl From<Unread> for Refusal {
+    ghost from_gives = { λ why r. r ≡ refusal_of_unread why };
+
+    fn from(why: Unread) -> Self {
+        match why {
+            Unread::ReadFault => Refusal::ReadFault,
+            Unread::OutOfMemory => Refusal::Text(TextRefusal::OutOfMemory),
+        }
+    }
+}
+
+impl From<TextRefusal> for Refusal {
+    ghost from_gives = { λ why r. r ≡ Text why };
+
+    fn from(why: TextRefusal) -> Self {
+        Refusal::Text(why)
+    }
 }
 
 /// The spelling of the image of the text that a source holds, whose functions are shared among so
@@ -45,14 +65,8 @@ pub fn compile_source<R: Threads + Sync, S: Source, G: Gate + Sync>(
     ensures refused { IfErr result (λ r.
         IsRefusalFrom (side S.left S.faults source.old source.new) r) }
 {
-    match read_text(alloc, source) {
-        Ok(text) => match compile_bytes(rt, alloc, text.as_slice(), jobs, gate) {
-            Ok(bytes) => Ok(bytes),
-            Err(why) => Err(Refusal::Text(why)),
-        },
-        Err(Unread::ReadFault) => Err(Refusal::ReadFault),
-        Err(Unread::OutOfMemory) => Err(Refusal::Text(TextRefusal::OutOfMemory)),
-    }
+    let text = read_text(alloc, source)?;
+    Ok(compile_bytes(rt, alloc, text.as_slice(), jobs, gate)?)
 }
 
 /// The spelling of the image of a text, whose bytes are bytes.

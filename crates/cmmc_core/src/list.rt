@@ -10,7 +10,7 @@ ghost use Rattle.text_commands.specs.Listing.{IsListingOf, IsListRefusal};
 
 use crate::compile::Refusal;
 use crate::line::{READ_FAULT, WRITE_FAULT, WRITTEN, tell, tell_refusal};
-use crate::text::{Unread, read_text};
+use crate::text::read_text;
 use bs_io::{Sink, Source, write_all};
 use command_line::Stage;
 use std::alloc::Global;
@@ -58,14 +58,8 @@ fn list_source<R: Threads + Sync, S: Source>(
     ensures refused { IfErr result (λ r.
         IsListFailure stage (side S.left S.faults source.old source.new) r) }
 {
-    match read_text(alloc, source) {
-        Ok(text) => match list_bytes(rt, alloc, text.as_slice(), stage) {
-            Ok(listed) => Ok(listed),
-            Err(why) => Err(Refusal::Text(why)),
-        },
-        Err(Unread::ReadFault) => Err(Refusal::ReadFault),
-        Err(Unread::OutOfMemory) => Err(Refusal::Text(TextRefusal::OutOfMemory)),
-    }
+    let text = read_text(alloc, source)?;
+    Ok(list_bytes(rt, alloc, text.as_slice(), stage)?)
 }
 
 /// The text of a stage of a text, whose bytes are bytes.
