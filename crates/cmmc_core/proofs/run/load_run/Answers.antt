@@ -23,7 +23,7 @@ returns-in-Some-clause-loaded c =
     loaded (tables c.args.image.now) (setup_of c.args.run) _ (run_view c.args.run) _ refl refl refl refl c.in_ok-machine.ensures.loaded
     (sym (rw c.in-Some.is at c.in_ok-words.ensures))
 
-pub returns-in-None-clause-refused : goal.returns-in-None-clause-refused
-returns-in-None-clause-refused c =
+pub returns-clause-refused : goal.returns-clause-refused
+returns-clause-refused c =
     unfit-answers (tables c.args.image.now) (setup_of c.args.run) _ (run_view c.args.run) refl c.in_ok-machine.ensures.loaded
     (sym (rw c.in-None.is at c.in_ok-words.ensures))
