@@ -1,5 +1,9 @@
 -- Why nothing is reported of a run.
 use Rattle.std.specs.Prelude.{⊤, ℕ, List}
+use Rattle.bs_fault.specs.declared.build.BuildError.{BuildError}
+use Rattle.bs_fault.specs.declared.build.BuildError.TheVariants as build
+use Rattle.bs_fault.specs.declared.fault.FrontError.{FrontError}
+use Rattle.bs_fault.specs.declared.fault.FrontError.TheVariants as front
 use Rattle.cmm_front.specs.FileOf.{HasFault}
 use Rattle.cmm_tree.specs.Tree.{FileTree}
 use Rattle.command_line.specs.Command.{CheckTree}
@@ -23,3 +27,19 @@ IsCheckRefusal check text UnknownEntry = HasNoEntry check text
 IsCheckRefusal check text ArgumentUnfit = IsUnfitFor check text
 IsCheckRefusal check text (TooLarge large) = IsTooLargeToCheck check text large
 IsCheckRefusal check text OutOfMemory = ⊤
+
+-- what is said of a text that the front refuses
+abbrev pub check_refusal_of_front : FrontError → CheckRefusal
+check_refusal_of_front (front.Fault told) = Fault told
+check_refusal_of_front front.OutOfMemory = OutOfMemory
+
+-- what is said of one of whose file no function is called
+abbrev pub check_refusal_of_call : CallRefusal → CheckRefusal
+check_refusal_of_call call.UnknownEntry = UnknownEntry
+check_refusal_of_call call.ArgumentUnfit = ArgumentUnfit
+check_refusal_of_call call.OutOfMemory = OutOfMemory
+
+-- what is said of one of whose file no image is built
+abbrev pub check_refusal_of_build : BuildError → CheckRefusal
+check_refusal_of_build (build.TooLarge large) = TooLarge large
+check_refusal_of_build build.OutOfMemory = OutOfMemory

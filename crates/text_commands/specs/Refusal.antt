@@ -1,5 +1,9 @@
 -- What compiling a text answers.
 use Rattle.std.specs.Prelude.{◌≡◌, ⊤, ℕ, List}
+use Rattle.bs_fault.specs.declared.build.BuildError.{BuildError}
+use Rattle.bs_fault.specs.declared.build.BuildError.TheVariants as build
+use Rattle.bs_fault.specs.declared.fault.FrontError.{FrontError}
+use Rattle.bs_fault.specs.declared.fault.FrontError.TheVariants as front
 use Rattle.cmm_front.specs.FileOf.{HasFault}
 use Rattle.image_form.specs.Image.{tables_bytes}
 use Rattle.image_form.specs.Tables.{Tables}
@@ -18,3 +22,13 @@ abbrev pub IsRefusalOf : List ℕ → Refusal → Type 0
 IsRefusalOf text (Fault told) = HasFault text told
 IsRefusalOf text (TooLarge large) = IsTooLarge text large
 IsRefusalOf text OutOfMemory = ⊤
+
+-- what is said of a text that the front refuses
+abbrev pub refusal_of_front : FrontError → Refusal
+refusal_of_front (front.Fault told) = Fault told
+refusal_of_front front.OutOfMemory = OutOfMemory
+
+-- what is said of one of whose file no image is built
+abbrev pub refusal_of_build : BuildError → Refusal
+refusal_of_build (build.TooLarge large) = TooLarge large
+refusal_of_build build.OutOfMemory = OutOfMemory

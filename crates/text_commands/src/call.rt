@@ -6,6 +6,7 @@ ghost use Rattle.cmm_tree.specs.View.{file_view, function_view};
 ghost use Rattle.command_line.specs.View.{check_view};
 ghost use Rattle.text_commands.specs.Arguments.{IsCall, Suit, Unfit};
 ghost use Rattle.text_commands.specs.CheckRefusal.{IsCallRefusal};
+ghost use Rattle.text_commands.specs.declared.call.CallRefusal.TheVariants.{OutOfMemory};
 
 use crate::arguments::words_of;
 use crate::entry::entry_named;
@@ -41,6 +42,14 @@ pub enum CallRefusal {
     OutOfMemory,
 }
 
+impl From<AllocError> for CallRefusal {
+    ghost from_gives = { λ _ e. e ≡ OutOfMemory };
+
+    fn from(_e: AllocError) -> CallRefusal {
+        CallRefusal::OutOfMemory
+    }
+}
+
 /// The call that the words ask for.
 ///
 /// # Errors
@@ -61,14 +70,13 @@ pub fn call_of(alloc: Global, file: &File, check: &CheckWords) -> Result<FileCal
         Some(entry) => entry,
         None => return Err(CallRefusal::UnknownEntry),
     };
-    match words_for(alloc, file, entry.number, entry.function, check) {
-        Ok(Some(Suited { args, answers })) => Ok(FileCall {
+    match words_for(alloc, file, entry.number, entry.function, check)? {
+        Some(Suited { args, answers }) => Ok(FileCall {
             entry: entry.number,
             args,
             answers,
         }),
-        Ok(None) => Err(CallRefusal::ArgumentUnfit),
-        Err(_) => Err(CallRefusal::OutOfMemory),
+        None => Err(CallRefusal::ArgumentUnfit),
     }
 }
 

@@ -1,17 +1,19 @@
 //! What is reported of a run of a text.
-ghost use Rattle.std.specs.Prelude.{IfOk, IfErr};
+ghost use Rattle.std.specs.Prelude.{◌≡◌, IfOk, IfErr};
 ghost use Rattle.bs_words.specs.Contents.{contents};
 ghost use Rattle.command_line.specs.View.{check_view};
 ghost use Rattle.text_commands.specs.Check.{IsCheckOf};
-ghost use Rattle.text_commands.specs.CheckRefusal.{IsCheckRefusal};
+ghost use Rattle.text_commands.specs.CheckRefusal.{IsCheckRefusal, check_refusal_of_front, check_refusal_of_call, check_refusal_of_build};
+ghost use Rattle.text_commands.specs.declared.check.CheckRefusal.TheVariants.{OutOfMemory};
 
+use crate::call::CallRefusal;
 use crate::ready::made_ready;
 use crate::run::report_of_run;
-use bs_fault::{Fault, Large};
+use bs_fault::{BuildError, Fault, FrontError, Large};
 use bs_words::List;
 use command_line::CheckWords;
 use file_compile::Gate;
-use std::alloc::Global;
+use std::alloc::{AllocError, Global};
 use std::thread::Threads;
 use thiserror::Error;
 
@@ -35,6 +37,48 @@ pub enum CheckRefusal {
     OutOfMemory,
 }
 
+impl From<AllocError> for CheckRefusal {
+    ghost from_gives = { λ _ e. e ≡ OutOfMemory };
+
+    fn from(_e: AllocError) -> CheckRefusal {
+        CheckRefusal::OutOfMemory
+    }
+}
+
+impl From<FrontError> for CheckRefusal {
+    ghost from_gives = { λ cause e. e ≡ check_refusal_of_front cause };
+
+    fn from(cause: FrontError) -> CheckRefusal {
+        match cause {
+            FrontError::Fault(fault) => CheckRefusal::Fault(fault),
+            FrontError::OutOfMemory => CheckRefusal::OutOfMemory,
+        }
+    }
+}
+
+impl From<CallRefusal> for CheckRefusal {
+    ghost from_gives = { λ cause e. e ≡ check_refusal_of_call cause };
+
+    fn from(cause: CallRefusal) -> CheckRefusal {
+        match cause {
+            CallRefusal::UnknownEntry => CheckRefusal::UnknownEntry,
+            CallRefusal::ArgumentUnfit => CheckRefusal::ArgumentUnfit,
+            CallRefusal::OutOfMemory => CheckRefusal::OutOfMemory,
+        }
+    }
+}
+
+impl From<BuildError> for CheckRefusal {
+    ghost from_gives = { λ cause e. e ≡ check_refusal_of_build cause };
+
+    fn from(cause: BuildError) -> CheckRefusal {
+        match cause {
+            BuildError::TooLarge(large) => CheckRefusal::TooLarge(large),
+            BuildError::OutOfMemory => CheckRefusal::OutOfMemory,
+        }
+    }
+}
+
 /// What is reported of the run of a text that the words ask for: its outcome, and what it needs of stack, heap and fuel.
 /// The frames and addresses of functions are those of the text's image, which is compiled by one job.
 ///
@@ -56,8 +100,5 @@ pub fn check_text<R: Threads + Sync, G: Gate + Sync>(
 {
     let ready = made_ready(rt, alloc, text, check, gate)?;
     let file = ready.checked.typed().file();
-    match report_of_run(alloc, file, &ready.layout, &ready.call, check.fuel) {
-        Ok(told) => Ok(told),
-        Err(_) => Err(CheckRefusal::OutOfMemory),
-    }
+    Ok(report_of_run(alloc, file, &ready.layout, &ready.call, check.fuel)?)
 }

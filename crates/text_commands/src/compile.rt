@@ -1,14 +1,15 @@
 //! Compiling a text.
-ghost use Rattle.std.specs.Prelude.{◌≤◌, IfOk, IfErr};
+ghost use Rattle.std.specs.Prelude.{◌≡◌, ◌≤◌, IfOk, IfErr};
 ghost use Rattle.bs_words.specs.Contents.{contents};
-ghost use Rattle.text_commands.specs.Refusal.{SpellsImageOf, IsRefusalOf};
+ghost use Rattle.text_commands.specs.Refusal.{SpellsImageOf, IsRefusalOf, refusal_of_front, refusal_of_build};
+ghost use Rattle.text_commands.specs.declared.compile.Refusal.TheVariants.{OutOfMemory};
 
 use bs_fault::{BuildError, Fault, FrontError, Large};
 use bs_words::List;
 use cmm_front::front;
 use file_compile::{Gate, compile};
 use image_form::write_image;
-use std::alloc::Global;
+use std::alloc::{AllocError, Global};
 use std::thread::Threads;
 use thiserror::Error;
 
@@ -24,6 +25,36 @@ pub enum Refusal {
     /// Memory ran out.
     #[error("out of memory")]
     OutOfMemory,
+}
+
+impl From<AllocError> for Refusal {
+    ghost from_gives = { λ _ e. e ≡ OutOfMemory };
+
+    fn from(_e: AllocError) -> Refusal {
+        Refusal::OutOfMemory
+    }
+}
+
+impl From<FrontError> for Refusal {
+    ghost from_gives = { λ cause e. e ≡ refusal_of_front cause };
+
+    fn from(cause: FrontError) -> Refusal {
+        match cause {
+            FrontError::Fault(fault) => Refusal::Fault(fault),
+            FrontError::OutOfMemory => Refusal::OutOfMemory,
+        }
+    }
+}
+
+impl From<BuildError> for Refusal {
+    ghost from_gives = { λ cause e. e ≡ refusal_of_build cause };
+
+    fn from(cause: BuildError) -> Refusal {
+        match cause {
+            BuildError::TooLarge(large) => Refusal::TooLarge(large),
+            BuildError::OutOfMemory => Refusal::OutOfMemory,
+        }
+    }
 }
 
 /// The spelling of the image of a text, whose functions are shared among so many jobs. The gate hears of each.
@@ -45,18 +76,7 @@ pub fn compile_text<R: Threads + Sync, G: Gate + Sync>(
     ensures image { IfOk result (λ bytes. SpellsImageOf text.now (contents bytes)) }
     ensures refused { IfErr result (λ r. IsRefusalOf text.now r) }
 {
-    let checked = match front(alloc, text) {
-        Ok(checked) => checked,
-        Err(FrontError::Fault(fault)) => return Err(Refusal::Fault(fault)),
-        Err(FrontError::OutOfMemory) => return Err(Refusal::OutOfMemory),
-    };
-    let image = match compile(rt, alloc, &checked, jobs, gate) {
-        Ok(image) => image,
-        Err(BuildError::TooLarge(large)) => return Err(Refusal::TooLarge(large)),
-        Err(BuildError::OutOfMemory) => return Err(Refusal::OutOfMemory),
-    };
-    match write_image(alloc, &image) {
-        Ok(bytes) => Ok(bytes),
-        Err(_) => Err(Refusal::OutOfMemory),
-    }
+    let checked = front(alloc, text)?;
+    let image = compile(rt, alloc, &checked, jobs, gate)?;
+    Ok(write_image(alloc, &image)?)
 }

@@ -4,7 +4,6 @@ ghost use Rattle.bs_words.specs.Contents.{contents};
 ghost use Rattle.text_commands.specs.Listing.{IsListingOf, IsListRefusal};
 
 use crate::compile::Refusal;
-use bs_fault::{BuildError, FrontError};
 use bs_words::List;
 use cmm_front::front;
 use stages::Stage;
@@ -27,14 +26,6 @@ pub fn list_text<R: Threads + Sync>(
     ensures listed { IfOk result (λ bytes. IsListingOf stage text.now (contents bytes)) }
     ensures refused { IfErr result (λ r. IsListRefusal stage text.now r) }
 {
-    let checked = match front(alloc, text) {
-        Ok(checked) => checked,
-        Err(FrontError::Fault(fault)) => return Err(Refusal::Fault(fault)),
-        Err(FrontError::OutOfMemory) => return Err(Refusal::OutOfMemory),
-    };
-    match file_compile::stage(rt, alloc, &checked, stage) {
-        Ok(bytes) => Ok(bytes),
-        Err(BuildError::TooLarge(large)) => Err(Refusal::TooLarge(large)),
-        Err(BuildError::OutOfMemory) => Err(Refusal::OutOfMemory),
-    }
+    let checked = front(alloc, text)?;
+    Ok(file_compile::stage(rt, alloc, &checked, stage)?)
 }

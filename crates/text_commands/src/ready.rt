@@ -10,9 +10,8 @@ ghost use Rattle.image_form.specs.Tables.{tables};
 ghost use Rattle.text_commands.specs.CheckRefusal.{IsCheckRefusal};
 ghost use Rattle.text_commands.specs.Ready.{IsReady};
 
-use crate::call::{CallRefusal, FileCall, call_of};
+use crate::call::{FileCall, call_of};
 use crate::check::CheckRefusal;
-use bs_fault::{BuildError, FrontError};
 use cmm_eval::Layout;
 use cmm_front::front;
 use cmm_walks::Checked;
@@ -55,29 +54,14 @@ pub fn made_ready<R: Threads + Sync, G: Gate + Sync>(
     ensures layout { IfOk result (λ r. layout_view r.layout ≡ layout_of (tables r.image)) }
     ensures refused { IfErr result (λ r. IsCheckRefusal (check_view check.now) text.now r) }
 {
-    let checked = match front(alloc, text) {
-        Ok(checked) => checked,
-        Err(FrontError::Fault(fault)) => return Err(CheckRefusal::Fault(fault)),
-        Err(FrontError::OutOfMemory) => return Err(CheckRefusal::OutOfMemory),
-    };
-    let call = match call_of(alloc, checked.typed().file(), check) {
-        Ok(call) => call,
-        Err(CallRefusal::UnknownEntry) => return Err(CheckRefusal::UnknownEntry),
-        Err(CallRefusal::ArgumentUnfit) => return Err(CheckRefusal::ArgumentUnfit),
-        Err(CallRefusal::OutOfMemory) => return Err(CheckRefusal::OutOfMemory),
-    };
-    let image = match compile(rt, alloc, &checked, 1, gate) {
-        Ok(image) => image,
-        Err(BuildError::TooLarge(large)) => return Err(CheckRefusal::TooLarge(large)),
-        Err(BuildError::OutOfMemory) => return Err(CheckRefusal::OutOfMemory),
-    };
-    match layout(alloc, &image) {
-        Ok(layout) => Ok(Ready {
-            checked,
-            call,
-            image,
-            layout,
-        }),
-        Err(_) => Err(CheckRefusal::OutOfMemory),
-    }
+    let checked = front(alloc, text)?;
+    let call = call_of(alloc, checked.typed().file(), check)?;
+    let image = compile(rt, alloc, &checked, 1, gate)?;
+    let layout = layout(alloc, &image)?;
+    Ok(Ready {
+        checked,
+        call,
+        image,
+        layout,
+    })
 }

@@ -47,11 +47,9 @@ pub fn trial_of<R: Threads + Sync, G: Gate + Sync>(
 {
     let ready = made_ready(rt, alloc, text, check, gate)?;
     let file = ready.checked.typed().file();
-    match outcome_of_run(alloc, file, &ready.layout, &ready.call, check.fuel) {
-        Ok(outcome) => Ok(Trial {
-            image: ready.image,
-            outcome,
-        }),
-        Err(_) => Err(CheckRefusal::OutOfMemory),
-    }
+    let outcome = outcome_of_run(alloc, file, &ready.layout, &ready.call, check.fuel)?;
+    Ok(Trial {
+        image: ready.image,
+        outcome,
+    })
 }

@@ -17,8 +17,8 @@ report_of_run-requires-clause-few g c =
     let same : file_view c.file-file.result.now ≡ file = rw (c.file-file.ensures.same, c.typed.ensures) refl in
     subst (λ (f : FileTree). length (functions f) < 2 ^ 32) (sym same) (few_functions c.args.text.now file c.in_ok-ready.ensures.ready.is_file)
 
-pub returns-in-Ok-clause-told : goal.returns-in-Ok-clause-told
-returns-in-Ok-clause-told g c =
+pub returns-clause-told : goal.returns-clause-told
+returns-clause-told g c =
     let r = c.in_ok-ready.ready in
     let is = c.in_ok-ready.ensures.ready in
     let file = file_view r.checked in
@@ -35,7 +35,7 @@ returns-in-Ok-clause-told g c =
       made = only_made file image is.made;
       fits = is.fits;
       told =
-          c.in-Ok.ensures
+          c.in_ok-report_of_run.ensures
           ∙ ap (λ (f : FileTree). report_of_run f (layout_view r.layout) r.call.entry r.call.args.items r.call.answers.items c.args.check.now.fuel) same
           ∙ ap (λ (l : Layout). report_of_run file l r.call.entry r.call.args.items r.call.answers.items c.args.check.now.fuel) c.in_ok-ready.ensures.layout;
     }

@@ -1,4 +1,4 @@
-use Rattle.std.proofs.Common.{Err, ap, arith}
+use Rattle.std.proofs.Common.{rules, arith}
 use Rattle.bs_words.specs.Contents.{contents}
 use Rattle.cmm_tree.specs.View.{file_view}
 use Rattle.file_compile.proofs.Promised.{stage_text_once}
@@ -12,27 +12,23 @@ pub stage-requires-clause-accepted : goal.stage-requires-clause-accepted
 stage-requires-clause-accepted g c = λ lifetimes outlive. record {
   text = c.args.text.now;
   are_bytes = all_bytes c.args.text.now (λ i. omega (arith, c.type_inv.text i));
-  is_file = c.in-Ok.ensures.file;
+  is_file = c.in_ok-checked.ensures.file;
 }
 
-pub returns-in-Ok-stage-clause-listed : goal.returns-in-Ok-stage-clause-listed
-returns-in-Ok-stage-clause-listed g c =
+pub returns-in_err-stage-clause-refused : goal.returns-in_err-stage-clause-refused
+returns-in_err-stage-clause-refused g c = search (rules, too_large)
+
+pub returns-clause-listed : goal.returns-clause-listed
+returns-clause-listed g c =
     let text = c.args.text.now in
-    let file = file_view c.in-Ok.checked in
-    let bytes = contents c.in-Ok-stage.bytes in
+    let file = file_view c.in_ok-checked.checked in
+    let bytes = contents c.in_ok-stage.field-0 in
     record {
       file = file;
-      is_file = c.in-Ok.ensures.file;
-      is = c.in-Ok-stage.ensures.text;
-      only = λ other it. stage_text_once file c.args.stage other bytes it c.in-Ok-stage.ensures.text;
+      is_file = c.in_ok-checked.ensures.file;
+      is = c.in_ok-stage.ensures.text;
+      only = λ other it. stage_text_once file c.args.stage other bytes it c.in_ok-stage.ensures.text;
       image =
-          lists_image text file c.in-Ok.ensures.file (all_bytes text (λ i. omega (arith, c.type_inv.text i))) bytes c.args.stage
-          c.in-Ok-stage.ensures.text;
+          lists_image text file c.in_ok-checked.ensures.file (all_bytes text (λ i. omega (arith, c.type_inv.text i))) bytes c.args.stage
+          c.in_ok-stage.ensures.text;
     }
-
-pub returns-in-Err-TooLarge-clause-refused : goal.returns-in-Err-TooLarge-clause-refused
-returns-in-Err-TooLarge-clause-refused g c = (
-  c.in-Err-TooLarge.ensures.of_image c.in-Err-TooLarge.large (ap Err c.in-Err-TooLarge.field-0-is),
-  too_large c.args.text.now (file_view c.in-Ok.checked) c.in-Err-TooLarge.large c.in-Ok.ensures.file
-      (c.in-Err-TooLarge.ensures.large c.in-Err-TooLarge.large (ap Err c.in-Err-TooLarge.field-0-is)),
-)

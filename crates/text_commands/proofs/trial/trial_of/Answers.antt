@@ -20,15 +20,15 @@ outcome_of_run-requires-clause-few g c =
     let same : file_view c.file-file.result.now ≡ file = rw (c.file-file.ensures.same, c.typed.ensures) refl in
     subst (λ (f : FileTree). length (functions f) < 2 ^ 32) (sym same) (few_functions c.args.text.now file c.in_ok-ready.ensures.ready.is_file)
 
-pub returns-in-Ok-clause-told : goal.returns-in-Ok-clause-told
-returns-in-Ok-clause-told g c =
+pub returns-clause-told : goal.returns-clause-told
+returns-clause-told g c =
     let text = c.args.text.now in
     let r = c.in_ok-ready.ready in
     let is = c.in_ok-ready.ensures.ready in
     let file = file_view r.checked in
     let same : file_view c.file-file.result.now ≡ file = rw (c.file-file.ensures.same, c.typed.ensures) refl in
     tried (check_view c.args.check.now) text file is.is_file (all_bytes text (λ i. omega (arith, c.type_inv.text i))) (tables r.image)
-    is.is_image is.made is.fits r.call.entry r.call.args.items r.call.answers.items (contents c.in-Ok.outcome) is.call
-    (c.in-Ok.ensures
+    is.is_image is.made is.fits r.call.entry r.call.args.items r.call.answers.items (contents c.in_ok-outcome.outcome) is.call
+    (c.in_ok-outcome.ensures
     ∙ ap (λ (f : FileTree). cmm_outcome_text (cmm_run f (layout_view r.layout) r.call.entry r.call.args.items r.call.answers.items c.args.check.now.fuel)) same
     ∙ ap (λ (l : Layout). cmm_outcome_text (cmm_run file l r.call.entry r.call.args.items r.call.answers.items c.args.check.now.fuel)) c.in_ok-ready.ensures.layout)
