@@ -28,18 +28,18 @@ IsCheckRefusal check text ArgumentUnfit = IsUnfitFor check text
 IsCheckRefusal check text (TooLarge large) = IsTooLargeToCheck check text large
 IsCheckRefusal check text OutOfMemory = ⊤
 
--- what is said of a text that the front refuses
+-- why nothing is reported of a text that has no file
 abbrev pub check_refusal_of_front : FrontError → CheckRefusal
 check_refusal_of_front (front.Fault told) = Fault told
 check_refusal_of_front front.OutOfMemory = OutOfMemory
 
--- what is said of one of whose file no function is called
+-- of one of whose file no function is called
 abbrev pub check_refusal_of_call : CallRefusal → CheckRefusal
 check_refusal_of_call call.UnknownEntry = UnknownEntry
 check_refusal_of_call call.ArgumentUnfit = ArgumentUnfit
 check_refusal_of_call call.OutOfMemory = OutOfMemory
 
--- what is said of one of whose file no image is built
+-- and of one of whose file no image is built
 abbrev pub check_refusal_of_build : BuildError → CheckRefusal
 check_refusal_of_build (build.TooLarge large) = TooLarge large
 check_refusal_of_build build.OutOfMemory = OutOfMemory
