@@ -50,7 +50,7 @@ IsRefusalRead source (Fault told) = Reads (λ text. HasFault text told) source
 IsRefusalRead source (TooLarge large) = Reads (λ text. IsTooLarge text large) source
 IsRefusalRead source OutOfMemory = ⊤
 
--- what a source is refused for of which no text was read
+-- what is answered where no text was read
 abbrev pub refusal_of_unread : Unread → Refusal
 refusal_of_unread unread.ReadFault = ReadFault
 refusal_of_unread unread.OutOfMemory = Text OutOfMemory
@@ -92,7 +92,7 @@ IsCheckRefusalRead check source (checked.TooLarge large) =
     Reads (λ text. IsTooLargeToCheck check text large) source
 IsCheckRefusalRead check source checked.OutOfMemory = ⊤
 
--- why nothing is reported of a source of which no text was read
+-- what is answered where no text was read
 abbrev pub failure_of_unread : Unread → CheckFailure
 failure_of_unread unread.ReadFault = failure.ReadFault
 failure_of_unread unread.OutOfMemory = failure.Text checked.OutOfMemory
@@ -104,12 +104,12 @@ IsCheckFailure check source (failure.Text why) = IsCheckRefusalRead check source
 
 -- ---- run
 
--- what the bytes are refused for, of which no image was read
+-- what is answered where no image was read
 abbrev pub refusal_of_image : ImageError → RunRefusal
 refusal_of_image (image_error.Refused why) = refusal.Image why
 refusal_of_image image_error.OutOfMemory = refusal.OutOfMemory
 
--- what the run is refused for, of which no machine was loaded
+-- what is answered where no machine was loaded
 abbrev pub refusal_of_load : LoadError → RunRefusal
 refusal_of_load load_error.UnknownEntry = refusal.UnknownEntry
 refusal_of_load load_error.ArgumentUnfit = refusal.ArgumentUnfit

@@ -10,11 +10,11 @@ ghost use Rattle.cmmc_core.specs.Effects.{side, IsRead};
 ghost use Rattle.cmmc_core.specs.Refusal.{WritesRun, WritesOutcome, IsRunRefusal, IsRunRefusalFrom, IsUnread};
 ghost use Rattle.cmmc_core.specs.Refusal.{IsLoadRefusal, refusal_of_image, refusal_of_load};
 ghost use Rattle.cmmc_core.specs.Run.{IsLoaded, words_of_answers, longest_image, schedule_of};
-ghost use Rattle.cmmc_core.specs.declared.run.RunRefusal.TheVariants.{OutOfMemory};
+ghost use Rattle.cmmc_core.specs.declared.run.RunRefusal.TheVariants.{WriteFault, OutOfMemory};
 ghost use Rattle.mover_runtime.specs.Schedules as runtime;
 
 use bs_fault::ImageRefusal;
-use bs_io::{InFault, Sink, Source, read_all};
+use bs_io::{InFault, OutFault, Sink, Source, read_all};
 use bs_words::List;
 use command_line::{Arg, Moves, RunWords};
 use image_form::{Image, ImageError, read_image};
@@ -47,6 +47,14 @@ impl From<AllocError> for RunRefusal {
 
     fn from(_error: AllocError) -> Self {
         RunRefusal::OutOfMemory
+    }
+}
+
+impl From<OutFault> for RunRefusal {
+    ghost from_gives = { λ _ r. r ≡ WriteFault };
+
+    fn from(_error: OutFault) -> Self {
+        RunRefusal::WriteFault
     }
 }
 
@@ -142,10 +150,8 @@ pub fn run_on<K: Sink>(
     let steps = run.steps;
     let schedule = schedule_for(run.moves);
     let Loaded { mut machine, words } = load_run(alloc, run, image)?;
-    match run_image(&mut machine, words.as_slice(), &schedule, steps, out) {
-        Ok(_) => Ok(()),
-        Err(_) => Err(RunRefusal::WriteFault),
-    }
+    run_image(&mut machine, words.as_slice(), &schedule, steps, out)?;
+    Ok(())
 }
 
 /// A machine at the entry of its run, and the words that answer its external calls.

@@ -28,18 +28,18 @@ IsCheckRefusal check text ArgumentUnfit = IsUnfitFor check text
 IsCheckRefusal check text (TooLarge large) = IsTooLargeToCheck check text large
 IsCheckRefusal check text OutOfMemory = ⊤
 
--- why nothing is reported of a text that has no file
+-- what is answered where the text has no file
 abbrev pub check_refusal_of_front : FrontError → CheckRefusal
 check_refusal_of_front (front.Fault told) = Fault told
 check_refusal_of_front front.OutOfMemory = OutOfMemory
 
--- of one of whose file no function is called
+-- what is answered where no function of the file is called
 abbrev pub check_refusal_of_call : CallRefusal → CheckRefusal
 check_refusal_of_call call.UnknownEntry = UnknownEntry
 check_refusal_of_call call.ArgumentUnfit = ArgumentUnfit
 check_refusal_of_call call.OutOfMemory = OutOfMemory
 
--- and of one of whose file no image is built
+-- what is answered where no image of the file is built
 abbrev pub check_refusal_of_build : BuildError → CheckRefusal
 check_refusal_of_build (build.TooLarge large) = TooLarge large
 check_refusal_of_build build.OutOfMemory = OutOfMemory

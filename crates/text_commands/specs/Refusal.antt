@@ -23,12 +23,12 @@ IsRefusalOf text (Fault told) = HasFault text told
 IsRefusalOf text (TooLarge large) = IsTooLarge text large
 IsRefusalOf text OutOfMemory = ⊤
 
--- what a text is refused for that has no file
+-- what is answered where the text has no file
 abbrev pub refusal_of_front : FrontError → Refusal
 refusal_of_front (front.Fault told) = Fault told
 refusal_of_front front.OutOfMemory = OutOfMemory
 
--- and one of whose file no image is built
+-- what is answered where no image of the file is built
 abbrev pub refusal_of_build : BuildError → Refusal
 refusal_of_build (build.TooLarge large) = TooLarge large
 refusal_of_build build.OutOfMemory = OutOfMemory

@@ -11,16 +11,19 @@ returns-in_err-machine-clause-refused g c =
     let p = err_from_is_err_and c.from_residual.result c.from_residual.ensures.1 in
     rw (p.1, p.2) (not_loaded (run_view c.args.run) (tables c.args.image.now) _ (Keeps-same _) _ c.in_err-machine.ensures.refused)
 
-pub returns-in-Ok-clause-written : goal.returns-in-Ok-clause-written
-returns-in-Ok-clause-written g c = record {
-  text = _;
-  is_text = text-of (tables c.args.image.now) _ (run_view c.args.run) c.schedule_for-schedule.result _ c.requires.rules c.in_ok-machine.ensures.loaded c.schedule_for-schedule.ensures;
-  got = rw c.as_slice.ensures.value at c.in-Ok.ensures.text;
-}
+pub returns-in_err-run_image-clause-refused : goal.returns-in_err-run_image-clause-refused
+returns-in_err-run_image-clause-refused g c =
+    let p = err_from_is_err_and c.from_residual-in_err-run_image.result c.from_residual-in_err-run_image.ensures.1 in
+    rw (p.1, p.2)
+    (record {
+      text = _;
+      is_text = text-of (tables c.args.image.now) _ (run_view c.args.run) c.schedule_for-schedule.result _ c.requires.rules c.in_ok-machine.ensures.loaded c.schedule_for-schedule.ensures;
+      got = GotPart-part _ _ (rw c.as_slice.ensures.value at c.in_err-run_image.ensures.text) c.in_err-run_image.ensures.counts.0;
+    })
 
-pub returns-clause-refused : goal.returns-clause-refused
-returns-clause-refused g c = record {
+pub returns-clause-written : goal.returns-clause-written
+returns-clause-written g c = record {
   text = _;
   is_text = text-of (tables c.args.image.now) _ (run_view c.args.run) c.schedule_for-schedule.result _ c.requires.rules c.in_ok-machine.ensures.loaded c.schedule_for-schedule.ensures;
-  got = GotPart-part _ _ (rw c.as_slice.ensures.value at c.in-Err.ensures.text) c.in-Err.ensures.counts.0;
+  got = rw c.as_slice.ensures.value at c.in_ok-run_image.ensures.text;
 }
