@@ -4,7 +4,7 @@
 use crate::functions::put_words_of;
 use crate::laid::put_forms;
 use crate::{functions, pieces};
-use anyhow::Result;
+use anyhow::{Result, bail};
 use lin_ir::Line;
 use rv_pieces::Piece;
 use std::alloc::Global;
@@ -25,7 +25,8 @@ pub(crate) enum Laid {
 pub(crate) struct LaidRows {
     alloc: Global,
     pieces: Vec<Piece>,
-    slots: u32,
+    /// Of a Linear function, once its row `lin` was read.
+    slots: Option<u32>,
     lines: Vec<Line>,
 }
 
@@ -35,7 +36,7 @@ impl LaidRows {
         LaidRows {
             alloc,
             pieces: Vec::new(alloc),
-            slots: 0,
+            slots: None,
             lines: Vec::new(alloc),
         }
     }
@@ -54,8 +55,12 @@ impl LaidRows {
                 Ok(())
             }
             Laid::Functions => {
+                let Some(slots) = self.slots else {
+                    bail!("a function without its slots");
+                };
+                self.slots = None;
                 let lines = mem::replace(&mut self.lines, Vec::new(self.alloc));
-                let lin = functions::function(self.alloc, self.slots, lines);
+                let lin = functions::function(self.alloc, slots, lines);
                 put_words_of(self.alloc, out, &lin, entry)
             }
         }
@@ -69,13 +74,21 @@ impl LaidRows {
         }
     }
 
+    /// Reads how many slots a Linear function has. A list of pieces has no such row.
+    fn begin(&mut self, laid: Laid, slots: &str) -> Result<()> {
+        match laid {
+            Laid::Pieces => bail!("slots of pieces: {slots}"),
+            Laid::Functions => {
+                self.slots = Some(slots.parse::<u32>()?);
+                Ok(())
+            }
+        }
+    }
+
     /// Reads a row. What is laid out is put.
     pub(crate) fn take<W: Write>(&mut self, out: &mut W, laid: Laid, row: &str) -> Result<()> {
         match row.split_once(' ') {
-            Some(("lin", slots)) => {
-                self.slots = slots.parse::<u32>()?;
-                Ok(())
-            }
+            Some(("lin", slots)) => self.begin(laid, slots),
             Some(("end", entry)) => self.end(out, laid, entry.parse::<u32>()?),
             _ => self.add(laid, row),
         }

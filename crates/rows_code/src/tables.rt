@@ -4,7 +4,7 @@ use crate::large;
 use crate::mach_rows::MachRows;
 use crate::subject::Subject;
 use crate::texts::Texts;
-use anyhow::{Result, ensure};
+use anyhow::{Result, bail, ensure};
 use mach_ir::page::Page;
 use std::alloc::Global;
 use std::io::Write;
@@ -14,7 +14,7 @@ use std::thread::Threads;
 #[derive(Drop)]
 pub(crate) struct Tables {
     alloc: Global,
-    subject: Subject,
+    subject: Option<Subject>,
     texts: Texts,
     laid: LaidRows,
     mach: MachRows,
@@ -25,7 +25,7 @@ impl Tables {
     pub(crate) fn new(alloc: Global) -> Tables {
         Tables {
             alloc,
-            subject: Subject::Selection,
+            subject: None,
             texts: Texts::new(alloc),
             laid: LaidRows::new(alloc),
             mach: MachRows::new(alloc),
@@ -42,7 +42,9 @@ impl Tables {
 
     /// Reads a row. What is shown of it is put.
     fn add<R: Threads + Sync, W: Write>(&mut self, rt: &R, out: &mut W, row: &str) -> Result<()> {
-        let subject = self.subject;
+        let Some(subject) = self.subject else {
+            bail!("a row before the first table");
+        };
         match subject {
             Subject::Selection => self.texts.take(out, row),
             Subject::Large => large::put(rt, self.alloc, out, row),
@@ -66,7 +68,7 @@ impl Tables {
         match line.strip_prefix("= ") {
             Some(name) => {
                 self.end(out)?;
-                self.subject = Subject::of(name)?;
+                self.subject = Some(Subject::of(name)?);
                 Ok(())
             }
             None => self.add(rt, out, line),
