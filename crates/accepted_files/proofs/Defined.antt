@@ -4,7 +4,7 @@ use Rattle.std.specs.Prelude.{IsSome, Contains}
 use Rattle.std.specs.List.{AllByRecursion}
 use Rattle.std.proofs.lemmas.List.{map-append}
 use Rattle.bs_words.specs.Fits.{data_start}
-use Rattle.cmm_data.specs.Placement.{DataSymbolTree, Definition, definition_of_data, symbols_among, items_from, start_behind, end_behind, defined_by_list, defined_from, definitions, value_among, value_of_symbol}
+use Rattle.cmm_data.specs.Placement.{DataSymbolTree, DefinedValue, definition_of_data, placed_symbols, items_from, start_behind, end_behind, defined_by_list, defined_from, definitions, value_among, value_of_symbol}
 use Rattle.cmm_data.specs.Placement as placement
 use Rattle.cmm_data.proofs.Table.{value_among-more}
 use Rattle.bs_words.specs.declared.values.Value.{Value}
@@ -26,27 +26,27 @@ use Rattle.selection_accepted.proofs.Beginning.{read_bytes}
 
 -- ---- definitions have the names of the symbols
 
-of_data : (ss : List DataSymbolTree) → map (λ (d : Definition). d.name) (map definition_of_data ss) ≡ data_names ss
+of_data : (ss : List DataSymbolTree) → map (λ (d : DefinedValue). d.name) (map definition_of_data ss) ≡ data_names ss
 of_data [] = refl
 of_data (s ∷ ss) = ap (λ (ns : List (List ℕ)). s.name ∷ ns) (of_data ss)
 
-of_list : (end : ℕ) (d : DataListTree) → map (λ (d : Definition). d.name) (defined_by_list end d) ≡ names (data_symbols d.items)
-of_list end d = of_data (symbols_among (items_from (start_behind end) d.items)) ∙ item_names (start_behind end) d.items
+of_list : (end : ℕ) (d : DataListTree) → map (λ (d : DefinedValue). d.name) (defined_by_list end d) ≡ names (data_symbols d.items)
+of_list end d = of_data (placed_symbols (items_from (start_behind end) d.items)) ∙ item_names (start_behind end) d.items
 
-of_items : (n end : ℕ) (items : List ItemTree) → map (λ (d : Definition). d.name) (defined_from n end items) ≡ names (defined.symbols_among items)
+of_items : (n end : ℕ) (items : List ItemTree) → map (λ (d : DefinedValue). d.name) (defined_from n end items) ≡ names (defined.symbols_among items)
 of_items n end [] = refl
 of_items n end (AFunction f ∷ items) = ap (λ (ns : List (List ℕ)). f.name ∷ ns) (of_items (suc n) end items)
 of_items n end (AData d ∷ items) =
-    map-append (λ (d : Definition). d.name) (defined_by_list end d) (defined_from n (end_behind end d) items)
+    map-append (λ (d : DefinedValue). d.name) (defined_by_list end d) (defined_from n (end_behind end d) items)
     ∙ ap₂ (λ (xs ys : List (List ℕ)). xs ++ ys) (of_list end d) (of_items n (end_behind end d) items)
     ∙ sym (names_append (data_symbols d.items) (defined.symbols_among items))
 
-found : (ss : List DefinedSymbol) (ds : List Definition) (name : List ℕ) → map (λ (d : Definition). d.name) ds ≡ names ss → IsSome (definition_of ss name) → IsSome (value_among ds name)
+found : (ss : List DefinedSymbol) (ds : List DefinedValue) (name : List ℕ) → map (λ (d : DefinedValue). d.name) ds ≡ names ss → IsSome (definition_of ss name) → IsSome (value_among ds name)
 found [] ds name e some = absurd (let z : false ≡ true = some in cc)
 found (s ∷ ss) [] name e some = absurd (cc)
 found (s ∷ ss) (d ∷ ds) name e some =
     let same : d.name ≡ s.name = cc in
-    let later : map (λ (d : Definition). d.name) ds ≡ names ss = cc in
+    let later : map (λ (d : DefinedValue). d.name) ds ≡ names ss = cc in
     subst (λ (o : Option Value). IsSome o) (sym (value_among-more d ds name))
     (by (bytes_eq s.name name) (ap (λ n. bytes_eq n name) same) some (found ss ds name later))
   where
@@ -56,10 +56,10 @@ found (s ∷ ss) (d ∷ ds) name e some =
     by false is some later = subst (λ b. IsSome (cond b (Some d.value) (value_among ds name))) (sym is) (later some)
 
 -- Both accounts of what a file defines, by places in the text and by addresses, have the same names in the same order.
-pub same_names : (file : FileTree) → map (λ (d : Definition). d.name) (definitions file) ≡ names (defined.symbols file)
+pub same_names : (file : FileTree) → map (λ (d : DefinedValue). d.name) (definitions file) ≡ names (defined.symbols file)
 same_names file =
-    map-append (λ (d : Definition). d.name) (defined_by_list data_start placement.built_in) (defined_from 0 (end_behind data_start placement.built_in) file.items)
-    ∙ ap₂ (λ (xs ys : List (List ℕ)). xs ++ ys) (of_list data_start placement.built_in) (of_items 0 (end_behind data_start placement.built_in) file.items)
+    map-append (λ (d : DefinedValue). d.name) (defined_by_list data_start placement.built_in_list) (defined_from 0 (end_behind data_start placement.built_in_list) file.items)
+    ∙ ap₂ (λ (xs ys : List (List ℕ)). xs ++ ys) (of_list data_start placement.built_in_list) (of_items 0 (end_behind data_start placement.built_in_list) file.items)
 
 pub defined_valued : (file : FileTree) (name : List ℕ) → IsSome (definition_of (defined.symbols file) name) → IsSome (value_of_symbol file name)
 defined_valued file name some = found (defined.symbols file) (definitions file) name (same_names file) some

@@ -7,7 +7,7 @@ use Rattle.std.proofs.lemmas.Option.{none-some}
 use Rattle.std.proofs.lemmas.List.{map-append}
 use Rattle.std.proofs.lemmas.List.Elements.{filter_map-append}
 use Rattle.bs_fault.specs.declared.fault.Fault.{Fault}
-use Rattle.cmm_data.specs.Placement.{PlacedItem, DataSymbolTree, symbol_at, symbols_among, size_at, items_from, start_behind, end_behind, lists_behind, items_of_lists}
+use Rattle.cmm_data.specs.Placement.{PlacedItem, DataSymbolTree, symbol_at, placed_symbols, size_at, items_from, start_behind, end_behind, lists_behind, items_of_lists}
 use Rattle.cmm_tree.specs.Symbols.{DefinedSymbol, data_symbols, symbols, definition_of}
 use Rattle.cmm_tree.specs.Symbols as defined
 use Rattle.cmm_tree.specs.Tree.{DatumTree, Define, DataItemTree, DataListTree, FunctionTree, ItemTree, AFunction, AData, FileTree, functions_among, data_among}
@@ -173,23 +173,23 @@ differ_both (x ∷ xs) ys p q apart = (all_append (λ y. x ≢ y) xs ys p.0 apar
 abbrev pub data_names : List DataSymbolTree → List (List ℕ)
 data_names ss = map (λ (s : DataSymbolTree). s.name) ss
 
-one_name : (at address : ℕ) (d : DatumTree) (more : List PlacedItem) (later : List DefinedSymbol) → data_names (symbols_among more) ≡ names later →
-    data_names (symbols_among (record { at = at; address = address; datum = d } ∷ more)) ≡ names (defined.datum_symbols at d ++ later)
+one_name : (at address : ℕ) (d : DatumTree) (more : List PlacedItem) (later : List DefinedSymbol) → data_names (placed_symbols more) ≡ names later →
+    data_names (placed_symbols (record { at = at; address = address; datum = d } ∷ more)) ≡ names (defined.datum_symbols at d ++ later)
 one_name at address (Define name) more later e = ap (λ (ns : List (List ℕ)). name ∷ ns) e
 one_name at address d more later e = e
 
-pub item_names : (address : ℕ) (items : List DataItemTree) → data_names (symbols_among (items_from address items)) ≡ names (data_symbols items)
+pub item_names : (address : ℕ) (items : List DataItemTree) → data_names (placed_symbols (items_from address items)) ≡ names (data_symbols items)
 item_names address [] = refl
 item_names address (i ∷ items) =
     let next = address + size_at address i.datum in
     one_name i.at address i.datum (items_from next items) (data_symbols items) (item_names next items)
 
-pub list_names : (end : ℕ) (lists : List DataListTree) → data_names (symbols_among (items_of_lists (lists_behind end lists))) ≡ names (list_symbols lists)
+pub list_names : (end : ℕ) (lists : List DataListTree) → data_names (placed_symbols (items_of_lists (lists_behind end lists))) ≡ names (list_symbols lists)
 list_names end [] = refl
 list_names end (d ∷ lists) =
     let own = items_from (start_behind end) d.items in
     let later = items_of_lists (lists_behind (end_behind end d) lists) in
     ap data_names (filter_map-append (λ (i : PlacedItem). symbol_at i.address i.datum) own later)
-    ∙ map-append (λ (s : DataSymbolTree). s.name) (symbols_among own) (symbols_among later)
+    ∙ map-append (λ (s : DataSymbolTree). s.name) (placed_symbols own) (placed_symbols later)
     ∙ ap₂ (λ (xs ys : List (List ℕ)). xs ++ ys) (item_names (start_behind end) d.items) (list_names (end_behind end d) lists)
     ∙ sym (names_append (data_symbols d.items) (list_symbols lists))

@@ -2,7 +2,7 @@
 
 /// The new start that a service is to give to each block. A plan that is not valid means that the blocks
 /// are packed.
-#[derive(Clone, Copy, Debug)]
+#[derive(Clone, Copy)]
 pub enum Plan<'a> {
     /// No plan.
     Packed,

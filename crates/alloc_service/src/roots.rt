@@ -16,7 +16,7 @@ use image_form::{DescRow, Image};
 use rv_machine::{CODE_START, Memory, Table};
 
 /// What is on the stack.
-#[derive(Clone, Copy, PartialEq, Eq, Debug)]
+#[derive(Clone, Copy)]
 pub enum Stack {
     /// It does not read as frames.
     NoFrames,

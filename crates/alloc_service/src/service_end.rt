@@ -2,7 +2,7 @@
 use rv_machine::Cause;
 
 /// What a service reports.
-#[derive(Clone, Copy, PartialEq, Eq, Debug)]
+#[derive(Clone, Copy)]
 pub enum ServiceEnd {
     /// The blocks have moved, and the program goes on.
     Goes,

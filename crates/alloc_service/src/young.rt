@@ -11,7 +11,7 @@ use rv_machine::start::{YOUNG_START, YOUNG_TOP};
 use rv_machine::{BlockPlace, Memory};
 
 /// What came of taking the young blocks into the table.
-#[derive(Clone, Copy, PartialEq, Eq, Debug)]
+#[derive(Clone, Copy)]
 pub enum Taken {
     /// All the blocks are in the table.
     Entered,

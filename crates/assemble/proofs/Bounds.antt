@@ -10,7 +10,7 @@ use Rattle.assemble.specs.declared.source.Source.{Source}
 use Rattle.bs_words.specs.External.{External}
 use Rattle.bs_words.specs.declared.values.Value.{Value}
 use Rattle.bs_words.specs.declared.values.Value.TheVariants.{Word, Block, Function}
-use Rattle.cmm_data.specs.Placement.{DataSymbolTree, Definition, symbols_among, items_from, definition_of_data, defined_by_list, defined_from, definitions, value_of_symbol, start_behind, end_behind, end_of_lists, built_in, data_end}
+use Rattle.cmm_data.specs.Placement.{DataSymbolTree, DefinedValue, placed_symbols, items_from, definition_of_data, defined_by_list, defined_from, definitions, value_of_symbol, start_behind, end_behind, end_of_lists, built_in_list, data_end}
 use Rattle.bs_words.specs.Fits.{data_start}
 use Rattle.cmm_data.proofs.Table.{value_among-all}
 use Rattle.cmm_tree.specs.Tree.{FileTree, ItemTree, AFunction, AData, data_among}
@@ -133,10 +133,10 @@ IsLow end (Word address) = address ≤ end
 IsLow end (Function f) = Unit {0}
 IsLow end (Block serial offset) = Unit {0}
 
-abbrev AreLow : ℕ → List Definition → Type 0
-AreLow end ds = AllByRecursion (λ (d : Definition). IsLow end d.value) ds
+abbrev AreLow : ℕ → List DefinedValue → Type 0
+AreLow end ds = AllByRecursion (λ (d : DefinedValue). IsLow end d.value) ds
 
-low_append : (end : ℕ) (xs ys : List Definition) → AreLow end xs → AreLow end ys → AreLow end (xs ++ ys)
+low_append : (end : ℕ) (xs ys : List DefinedValue) → AreLow end xs → AreLow end ys → AreLow end (xs ++ ys)
 low_append end [] ys a b = b
 low_append end (x ∷ xs) ys a b = (a.0, low_append end xs ys a.1 b)
 
@@ -149,7 +149,7 @@ low_symbols low high end (s ∷ ss) lie h = (omega (arith, h, up s.address high 
     up low high (s ∷ ss) lie = omega (arith, lie.0, up s.address high ss lie.1)
 
 low_list : (from end : ℕ) (d : _) → end_behind from d ≤ end → AreLow end (defined_by_list from d)
-low_list from end d h = low_symbols (start_behind from) (end_behind from d) end (symbols_among (items_from (start_behind from) d.items)) (items_lie (start_behind from) d.items) h
+low_list from end d h = low_symbols (start_behind from) (end_behind from d) end (placed_symbols (items_from (start_behind from) d.items)) (items_lie (start_behind from) d.items) h
 
 low_items : (number from end : ℕ) (items : List ItemTree) → end_of_lists from (data_among items) ≤ end → AreLow end (defined_from number from items)
 low_items number from end [] h = tt
@@ -164,10 +164,10 @@ IfLow end o = IfSome o (IsLow end)
 
 symbol_low : (file : FileTree) (name : List ℕ) → IfLow (data_end file) (value_of_symbol file name)
 symbol_low file name =
-    let first = end_behind data_start built_in in
+    let first = end_behind data_start built_in_list in
     value_among-all (IsLow (data_end file)) (definitions file) name
-    (low_append (data_end file) (defined_by_list data_start built_in) (defined_from 0 first file.items)
-    (low_list data_start (data_end file) built_in (end_of_lists-above first (data_among file.items)))
+    (low_append (data_end file) (defined_by_list data_start built_in_list) (defined_from 0 first file.items)
+    (low_list data_start (data_end file) built_in_list (end_of_lists-above first (data_among file.items)))
     (low_items 0 first (data_end file) file.items (omega arith)))
 
 address_below : (end : ℕ) (entries : List ℕ) (limit : ℕ) (o : Option Value) → IfLow end o → ((i : ℕ) → get_or entries i 0 ≤ limit) → end < 2 ^ 32 → 4 * limit ≤ code_limit →
@@ -182,8 +182,8 @@ pub symbol_below : (s : Source) → IsSource s → first_too_large (laid_of s) �
 symbol_below s source fits name =
     let file = tree_of s in
     let short = (are_short (laid_of s) fits).bytes in
-    let start = end_of_lists-above (end_behind data_start built_in) (data_among file.items) in
-    let first : end_behind data_start built_in ≡ data_start + 8 = refl in
+    let start = end_of_lists-above (end_behind data_start built_in_list) (data_among file.items) in
+    let first : end_behind data_start built_in_list ≡ data_start + 8 = refl in
     let high : data_end file < 2 ^ 32 = omega (arith, short, length_of_data file (entries_of s), start, first) in
     let code = code_from file (entries_of s) stub_words s.pieces.now (forms_in s.places.now) in
     let each : (i : ℕ) → get_or (entries_of s) i 0 ≤ s.places.now.end = λ i. omega (arith, entry_most stub_words s.pieces.now (forms_in s.places.now) i, end_is s source) in

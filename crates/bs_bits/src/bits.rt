@@ -8,7 +8,7 @@ use std::marker::Model;
 
 /// A set of numbers below its size. Contracts see a list with a truth value for each number below
 /// the size: whether it is a member.
-#[derive(Clone, Debug, Drop)]
+#[derive(Clone, Drop)]
 pub struct Bits {
     size: u32,
     words: Vec<u64>,

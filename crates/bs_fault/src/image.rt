@@ -7,7 +7,7 @@ use bs_words::List;
 use std::alloc::{AllocError, Global};
 
 /// The kind of a fault.
-#[derive(Clone, Copy, PartialEq, Eq, Debug)]
+#[derive(Clone, Copy, Debug)]
 pub enum ImageFault {
     /// G1: the bytes end inside a field, or before the next one, or inside a section's body.
     Truncated,
@@ -24,7 +24,7 @@ pub enum ImageFault {
 }
 
 /// The first fault of an image, in the order of its bytes.
-#[derive(Clone, Copy, PartialEq, Eq, Debug)]
+#[derive(Clone, Copy, Debug)]
 pub struct ImageRefusal {
     pub fault: ImageFault,
     /// The number of bytes before the place of the fault.

@@ -7,7 +7,7 @@ use bs_words::List;
 use std::alloc::{AllocError, Global};
 
 /// A section of an image or of a unit.
-#[derive(Clone, Copy, PartialEq, Eq, Debug)]
+#[derive(Clone, Copy, Debug)]
 pub enum Section {
     /// The functions.
     Func,
@@ -30,7 +30,7 @@ pub enum Section {
 }
 
 /// B1: a section whose body passes its limit.
-#[derive(Clone, Copy, PartialEq, Eq, Debug)]
+#[derive(Clone, Copy, Debug)]
 pub struct Large {
     pub section: Section,
     /// The bytes that the body would have.

@@ -7,7 +7,7 @@ use bs_words::List;
 use std::alloc::{AllocError, Global};
 
 /// What is wrong with the words of a command line.
-#[derive(Clone, Copy, PartialEq, Eq, Debug)]
+#[derive(Clone, Copy)]
 pub enum Usage {
     /// U1: the words are not in their grammar.
     Words,

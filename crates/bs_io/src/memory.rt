@@ -12,7 +12,7 @@ use std::alloc::{AllocError, Global};
 use std::marker::Model;
 
 /// A source over bytes in memory. Given calls fail, and no call moves more than a given number of bytes.
-#[derive(Debug, Drop)]
+#[derive(Drop)]
 pub struct MemSource {
     bytes: List<u8>,
     taken: usize,
@@ -124,7 +124,7 @@ fn copy_front(from: &[u8], into: &mut [u8], most: usize) -> usize
 
 /// A sink into memory that was taken at the start. Given calls fail, and no call takes more than a given
 /// number of bytes.
-#[derive(Debug, Drop)]
+#[derive(Drop)]
 pub struct MemSink {
     held: Vec<u8>,
     room: usize,

@@ -4,7 +4,7 @@ ghost use Rattle.std.specs.Io.KnownBytes.{Consumes, Keeps, IsAtEnd};
 ghost use Rattle.bs_io.specs.Faults.{Risen};
 
 /// A read or a write failed, and its fault was counted.
-#[derive(Clone, Copy, Debug, PartialEq, Eq)]
+#[derive(Clone, Copy)]
 pub struct Failed;
 
 /// Bytes to be read, some of which may be known, and a count of faults that never falls.

@@ -2,7 +2,7 @@
 
 /// A comparison: equal, not equal, less, at most, greater, at least. Signed or unsigned is said by the operator that
 /// holds it.
-#[derive(Clone, Copy, PartialEq, Eq, Debug)]
+#[derive(Clone, Copy)]
 pub enum CmpOp {
     Eq,
     Ne,
@@ -14,7 +14,7 @@ pub enum CmpOp {
 
 /// An operator on two operands. On words of 64 bits, sums, differences and products wrap, `And`, `Or` and `Xor` go
 /// bit by bit, and the right operand of a shift is the number of bits.
-#[derive(Clone, Copy, PartialEq, Eq, Debug)]
+#[derive(Clone, Copy)]
 pub enum IntOp {
     Add,
     Sub,

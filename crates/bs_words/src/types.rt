@@ -2,7 +2,7 @@
 ghost use Rattle.std.specs.Prelude.{◌≡◌};
 
 /// The component of a parameter or a result. `Float` is read, and refused as a fault.
-#[derive(Clone, Copy, PartialEq, Eq, Debug)]
+#[derive(Clone, Copy, PartialEq, Eq)]
 pub enum Comp {
     /// What fits `Ty::Int`.
     Int,
@@ -31,7 +31,7 @@ impl Comp {
 }
 
 /// The static type of an expression.
-#[derive(Clone, Copy, PartialEq, Eq, Debug)]
+#[derive(Clone, Copy)]
 pub enum Ty {
     /// The expression does not come back.
     Never,
@@ -47,7 +47,7 @@ pub enum Ty {
 }
 
 /// The result that an application or an external call is written with.
-#[derive(Clone, Copy, PartialEq, Eq, Debug)]
+#[derive(Clone, Copy)]
 pub enum Ret {
     /// No value.
     Unit,
@@ -57,7 +57,7 @@ pub enum Ret {
 
 /// The width and reading of a load or a store. The number in a name is that of the bits, the lowest byte first: a
 /// load extends them to a word, `U` by zeros and `I` by the sign, and a store takes the lowest bits of a word.
-#[derive(Clone, Copy, PartialEq, Eq, Debug)]
+#[derive(Clone, Copy)]
 pub enum Chunk {
     U8,
     I8,
@@ -72,7 +72,7 @@ pub enum Chunk {
 }
 
 /// Where a register of the middle languages is.
-#[derive(Clone, Copy, PartialEq, Eq, Debug)]
+#[derive(Clone, Copy, PartialEq, Eq)]
 pub enum Loc {
     /// It has no place yet.
     Unset,

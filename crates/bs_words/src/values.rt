@@ -3,7 +3,7 @@ use crate::list::List;
 use crate::name::Name;
 
 /// A value of a run.
-#[derive(Clone, Copy, PartialEq, Eq, Debug)]
+#[derive(Clone, Copy, PartialEq, Eq)]
 pub enum Value {
     /// A word of 64 bits. Addresses of static data are words.
     Word(u64),
@@ -14,7 +14,7 @@ pub enum Value {
 }
 
 /// What an observer sees of a value: a word, or a block by the order of its allocation.
-#[derive(Clone, Copy, PartialEq, Eq, Debug)]
+#[derive(Clone, Copy)]
 pub enum Obs {
     /// A word of 64 bits. A function is seen as the word of its address.
     Word(u64),
@@ -23,14 +23,14 @@ pub enum Obs {
 }
 
 /// An external call as an observer sees it.
-#[derive(Clone, Debug, Drop)]
+#[derive(Clone, Drop)]
 pub struct Call {
     pub name: Name,
     pub args: List<Obs>,
 }
 
 /// Why a run is improper. An access is a load or a store; what fits a type is said at `Ty`.
-#[derive(Clone, Copy, PartialEq, Eq, Debug)]
+#[derive(Clone, Copy)]
 pub enum Kind {
     /// An access is not at a multiple of its bytes, or does not lie whole in one block, its header included, or in
     /// one list of static data; or its address is a function.

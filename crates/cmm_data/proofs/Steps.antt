@@ -9,7 +9,7 @@ use Rattle.bs_words.specs.declared.values.Value.{Value}
 use Rattle.bs_words.specs.declared.values.Value.TheVariants as value
 use Rattle.bs_words.specs.Memory.{StaticList}
 use Rattle.cmm_tree.specs.Tree.{DatumTree, Define, Byte, Half, Int, Val, Address, Skip, Align, Text, Global, AFloat, DataItemTree, DataListTree}
-use Rattle.cmm_data.specs.Placement.{PlacedItem, PlacedList, DataSymbolTree, symbol_at, symbols_among, size_at, items_from, end_of_items, start_behind, end_behind, lists_behind, items_of_lists}
+use Rattle.cmm_data.specs.Placement.{PlacedItem, PlacedList, DataSymbolTree, symbol_at, placed_symbols, size_at, items_from, end_of_items, start_behind, end_behind, lists_behind, items_of_lists}
 use Rattle.cmm_data.specs.Faults.{first_fault}
 use Rattle.cmm_data.specs.Contents.{DataByte, Plain, integer, zeros, symbol_bytes, bytes_at, bytes_of_items, root_at, roots_among, static_list, cells_of}
 use Rattle.cmm_data.proofs.Walk.{sound-first}
@@ -20,9 +20,9 @@ consed (Some s) more = refl
 
 pub symbols-step : (before after : List DataSymbolTree) (address : ℕ) (i : DataItemTree) (rest : List DataItemTree) →
     after ≡ before ++ option_to_list (symbol_at address i.datum) →
-    before ++ symbols_among (items_from address (i ∷ rest)) ≡ after ++ symbols_among (items_from (address + size_at address i.datum) rest)
+    before ++ placed_symbols (items_from address (i ∷ rest)) ≡ after ++ placed_symbols (items_from (address + size_at address i.datum) rest)
 symbols-step before after address i rest h =
-    let more = symbols_among (items_from (address + size_at address i.datum) rest) in
+    let more = placed_symbols (items_from (address + size_at address i.datum) rest) in
     ap (λ (v : List DataSymbolTree). before ++ v) (consed (symbol_at address i.datum) more)
     ∙ sym (append_assoc before (option_to_list (symbol_at address i.datum)) more)
     ∙ ap (λ (v : List DataSymbolTree). v ++ more) (sym h)
@@ -118,15 +118,15 @@ end-within address (i ∷ items) within none =
 -- ---- one list after the other
 
 pub symbols-list : (before after : List DataSymbolTree) (end : ℕ) (d : DataListTree) (lists : List DataListTree) →
-    after ≡ before ++ symbols_among (items_from (start_behind end) d.items) →
-    before ++ symbols_among (items_of_lists (lists_behind end (d ∷ lists)))
-    ≡ after ++ symbols_among (items_of_lists (lists_behind (end_behind end d) lists))
+    after ≡ before ++ placed_symbols (items_from (start_behind end) d.items) →
+    before ++ placed_symbols (items_of_lists (lists_behind end (d ∷ lists)))
+    ≡ after ++ placed_symbols (items_of_lists (lists_behind (end_behind end d) lists))
 symbols-list before after end d lists h =
     let items = items_from (start_behind end) d.items in
     let more = items_of_lists (lists_behind (end_behind end d) lists) in
     ap (λ (v : List DataSymbolTree). before ++ v) (filter_map-append (λ (i : PlacedItem). symbol_at i.address i.datum) items more)
-    ∙ sym (append_assoc before (symbols_among items) (symbols_among more))
-    ∙ ap (λ (v : List DataSymbolTree). v ++ symbols_among more) (sym h)
+    ∙ sym (append_assoc before (placed_symbols items) (placed_symbols more))
+    ∙ ap (λ (v : List DataSymbolTree). v ++ placed_symbols more) (sym h)
 
 pub roots-list : (before after : List ℕ) (end : ℕ) (d : DataListTree) (lists : List DataListTree) →
     after ≡ before ++ roots_among (items_from (start_behind end) d.items) →

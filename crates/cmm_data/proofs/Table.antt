@@ -11,7 +11,7 @@ use Rattle.std.proofs.lemmas.Slice.Eq.{bytes_eq-Decides}
 use Rattle.bs_words.specs.declared.values.Value.{Value}
 use Rattle.cmm_tree.specs.Tree.{DataItemTree}
 use Rattle.cmm_data.specs.declared.symbols.SymbolTable.{SymbolTable}
-use Rattle.cmm_data.specs.Placement.{Definition, value_among, symbol_at, size_at, definition_of_data, defined_at, DataSymbolTree, symbols_among, items_from}
+use Rattle.cmm_data.specs.Placement.{DefinedValue, value_among, symbol_at, size_at, definition_of_data, defined_at, DataSymbolTree, placed_symbols, items_from}
 use Rattle.cmm_data.specs.Symbols.{value_in, Adds}
 
 pub option_or-none : (a : Option Value) → option_or a None ≡ a
@@ -32,30 +32,30 @@ option_or-unknown (Some v) b h = absurd (cc)
 
 -- ---- the first definition of a name
 
-value_of-cond : (b : Bool) (d : Definition) (rest : Option Definition) →
-    option_map (λ (d : Definition). d.value) (cond b (Some d) rest) ≡ cond b (Some d.value) (option_map (λ (d : Definition). d.value) rest)
+value_of-cond : (b : Bool) (d : DefinedValue) (rest : Option DefinedValue) →
+    option_map (λ (d : DefinedValue). d.value) (cond b (Some d) rest) ≡ cond b (Some d.value) (option_map (λ (d : DefinedValue). d.value) rest)
 value_of-cond true d rest = refl
 value_of-cond false d rest = refl
 
-value_of-or : (a b : Option Definition) →
-    option_map (λ (d : Definition). d.value) (option_or a b) ≡ option_or (option_map (λ (d : Definition). d.value) a) (option_map (λ (d : Definition). d.value) b)
+value_of-or : (a b : Option DefinedValue) →
+    option_map (λ (d : DefinedValue). d.value) (option_or a b) ≡ option_or (option_map (λ (d : DefinedValue). d.value) a) (option_map (λ (d : DefinedValue). d.value) b)
 value_of-or None b = refl
 value_of-or (Some d) b = refl
 
 -- it is the first of these, or it is found among the others
-pub value_among-more : (d : Definition) (ds : List Definition) (name : List ℕ) →
+pub value_among-more : (d : DefinedValue) (ds : List DefinedValue) (name : List ℕ) →
     value_among (d ∷ ds) name ≡ cond (bytes_eq d.name name) (Some d.value) (value_among ds name)
-value_among-more d ds name = value_of-cond (bytes_eq d.name name) d (find (λ (d : Definition). bytes_eq d.name name) ds)
+value_among-more d ds name = value_of-cond (bytes_eq d.name name) d (find (λ (d : DefinedValue). bytes_eq d.name name) ds)
 
-pub value_among-append : (xs ys : List Definition) (name : List ℕ) →
+pub value_among-append : (xs ys : List DefinedValue) (name : List ℕ) →
     value_among (xs ++ ys) name ≡ option_or (value_among xs name) (value_among ys name)
 value_among-append xs ys name =
-    ap (option_map (λ (d : Definition). d.value)) (find-append (λ (d : Definition). bytes_eq d.name name) xs ys)
-    ∙ value_of-or (find (λ (d : Definition). bytes_eq d.name name) xs) (find (λ (d : Definition). bytes_eq d.name name) ys)
+    ap (option_map (λ (d : DefinedValue). d.value)) (find-append (λ (d : DefinedValue). bytes_eq d.name name) xs ys)
+    ∙ value_of-or (find (λ (d : DefinedValue). bytes_eq d.name name) xs) (find (λ (d : DefinedValue). bytes_eq d.name name) ys)
 
 -- what holds of the value of each definition holds of the one that is found
-pub value_among-all : (P : Value → Type 0) (ds : List Definition) (name : List ℕ) →
-    AllByRecursion (λ (d : Definition). P d.value) ds → IfSome (value_among ds name) P
+pub value_among-all : (P : Value → Type 0) (ds : List DefinedValue) (name : List ℕ) →
+    AllByRecursion (λ (d : DefinedValue). P d.value) ds → IfSome (value_among ds name) P
 value_among-all P [] name all = tt
 value_among-all P (d ∷ ds) name all =
     let Q : Option Value → Type 0 = λ o. IfSome o P in
@@ -65,8 +65,8 @@ value_among-all P (d ∷ ds) name all =
     by true later = all.0
     by false later = later
 
-pub value_among-from : (P : Value → Type 0) (ds : List Definition) (name : List ℕ) (v : Value) →
-    AllByRecursion (λ (d : Definition). P d.value) ds → value_among ds name ≡ Some v → P v
+pub value_among-from : (P : Value → Type 0) (ds : List DefinedValue) (name : List ℕ) (v : Value) →
+    AllByRecursion (λ (d : DefinedValue). P d.value) ds → value_among ds name ≡ Some v → P v
 value_among-from P ds name v all e =
     let Q : Option Value → Type 0 = λ o. IfSome o P in
     subst Q e (value_among-all P ds name all)
@@ -92,7 +92,7 @@ unknown-gets f name value q false differs h = sym (option_or-none (f q))
 pub adds-known : (table : SymbolTable) (name : List ℕ) (value : Value) →
     is_some (value_in table name) ≡ true → Adds table table (record { name = name; value = value } ∷ [])
 adds-known table name value h =
-    let d : Definition = record { name = name; value = value } in
+    let d : DefinedValue = record { name = name; value = value } in
     record {
       each = λ q.
           known-stays (value_in table) name value q (bytes_eq name q) refl h ∙ ap (option_or (value_in table q)) (sym (value_among-more d [] q));
@@ -103,7 +103,7 @@ pub adds-unknown : (old new : SymbolTable) (name : List ℕ) (value : Value) →
     ((q : List ℕ) → value_in new q ≡ update bytes_eq (value_in old) name (Some value) q) →
     Adds old new (record { name = name; value = value } ∷ [])
 adds-unknown old new name value h updates =
-    let d : Definition = record { name = name; value = value } in
+    let d : DefinedValue = record { name = name; value = value } in
     record {
       each = λ q.
           updates q
@@ -114,7 +114,7 @@ pub adds-none : (table : SymbolTable) → Adds table table []
 adds-none table = record { each = λ q. sym (option_or-none (value_in table q)) }
 
 -- what is added, and what is defined later
-pub adds-later : (old new : SymbolTable) (defined later : List Definition) → Adds old new defined → (name : List ℕ) →
+pub adds-later : (old new : SymbolTable) (defined later : List DefinedValue) → Adds old new defined → (name : List ℕ) →
     option_or (value_in old name) (value_among (defined ++ later) name) ≡ option_or (value_in new name) (value_among later name)
 adds-later old new defined later adds name =
     ap (option_or (value_in old name)) (value_among-append defined later name)
@@ -131,7 +131,7 @@ pub defined_at-next : (address : ℕ) (i : DataItemTree) (items : List DataItemT
     defined_at address (i ∷ items)
     ≡ map definition_of_data (option_to_list (symbol_at address i.datum)) ++ defined_at (address + size_at address i.datum) items
 defined_at-next address i items =
-    consed (symbol_at address i.datum) (symbols_among (items_from (address + size_at address i.datum) items))
+    consed (symbol_at address i.datum) (placed_symbols (items_from (address + size_at address i.datum) items))
 
 -- an empty table has no value
 pub value_in-empty : (table : SymbolTable) → table.values.entries ≡ [] → (name : List ℕ) → value_in table name ≡ None

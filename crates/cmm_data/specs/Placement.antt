@@ -97,12 +97,12 @@ end_of_lists end [] = end
 end_of_lists end (d ∷ lists) = end_of_lists (end_behind end d) lists
 
 -- the built-in list: 8 zero bytes and their symbol
-abbrev pub built_in : DataListTree
-built_in = record { at = 0; items = record { at = 0; datum = Define caml_bound_error } ∷ record { at = 0; datum = Int (Some 0) } ∷ [] }
+abbrev pub built_in_list : DataListTree
+built_in_list = record { at = 0; items = record { at = 0; datum = Define caml_bound_error } ∷ record { at = 0; datum = Int (Some 0) } ∷ [] }
 
 -- all lists, the built-in one first
 abbrev pub lists_of : FileTree → List DataListTree
-lists_of file = built_in ∷ data_lists file
+lists_of file = built_in_list ∷ data_lists file
 
 -- all lists at their places
 abbrev pub placed_lists : FileTree → List PlacedList
@@ -134,31 +134,31 @@ abbrev pub symbol_at : ℕ → DatumTree → Option DataSymbolTree
 symbol_at address (Define name) = Some (record { name = name; address = address })
 symbol_at address _ = None
 
-abbrev pub symbols_among : List PlacedItem → List DataSymbolTree
-symbols_among items = filter_map (λ (i : PlacedItem). symbol_at i.address i.datum) items
+abbrev pub placed_symbols : List PlacedItem → List DataSymbolTree
+placed_symbols items = filter_map (λ (i : PlacedItem). symbol_at i.address i.datum) items
 
 -- the symbols of static data in the order of their places, that of the built-in list first
 abbrev pub symbols_of : FileTree → List DataSymbolTree
-symbols_of file = symbols_among (placed_items file)
+symbols_of file = placed_symbols (placed_items file)
 
 -- What a name defines: a function, by its number among the file's functions, or an address of static data.
-pub record Definition : Type 0 where
+pub record DefinedValue : Type 0 where
   pub name : List ℕ
   pub value : Value
 
-abbrev pub definition_of_data : DataSymbolTree → Definition
+abbrev pub definition_of_data : DataSymbolTree → DefinedValue
 definition_of_data s = record { name = s.name; value = value.Word s.address }
 
 -- what items define that are from an address on
-abbrev pub defined_at : ℕ → List DataItemTree → List Definition
-defined_at address items = map definition_of_data (symbols_among (items_from address items))
+abbrev pub defined_at : ℕ → List DataItemTree → List DefinedValue
+defined_at address items = map definition_of_data (placed_symbols (items_from address items))
 
 -- what a list after this end of the data defines
-abbrev pub defined_by_list : ℕ → DataListTree → List Definition
+abbrev pub defined_by_list : ℕ → DataListTree → List DefinedValue
 defined_by_list end d = defined_at (start_behind end) d.items
 
 -- what items of a file define, after so many functions and after the end of the data before them
-abbrev pub defined_from : ℕ → ℕ → List ItemTree → List Definition
+abbrev pub defined_from : ℕ → ℕ → List ItemTree → List DefinedValue
 defined_from functions end [] = []
 defined_from functions end (AFunction f ∷ items) =
     record { name = f.name; value = value.Function functions } ∷ defined_from (suc functions) end items
@@ -166,12 +166,12 @@ defined_from functions end (AData d ∷ items) =
     defined_by_list end d ++ defined_from functions (end_behind end d) items
 
 -- what a file defines, in the order of its text, the built-in list first
-abbrev pub definitions : FileTree → List Definition
-definitions file = defined_by_list data_start built_in ++ defined_from 0 (end_behind data_start built_in) file.items
+abbrev pub definitions : FileTree → List DefinedValue
+definitions file = defined_by_list data_start built_in_list ++ defined_from 0 (end_behind data_start built_in_list) file.items
 
 -- the value of the first definition of a name
-abbrev pub value_among : List Definition → List ℕ → Option Value
-value_among ds name = option_map (λ (d : Definition). d.value) (find (λ (d : Definition). bytes_eq d.name name) ds)
+abbrev pub value_among : List DefinedValue → List ℕ → Option Value
+value_among ds name = option_map (λ (d : DefinedValue). d.value) (find (λ (d : DefinedValue). bytes_eq d.name name) ds)
 
 -- what a symbol stands for: a function or an address of static data. Of a symbol that is defined twice the
 -- first definition in the text counts.

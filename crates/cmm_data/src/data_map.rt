@@ -2,7 +2,7 @@
 use bs_words::{List, Name, Value};
 
 /// A symbol of static data.
-#[derive(Debug, Drop)]
+#[derive(Drop)]
 pub struct DataSymbol {
     pub name: Name,
     /// The address that it stands for.
@@ -11,7 +11,7 @@ pub struct DataSymbol {
 
 /// A list of static data: the address of its first byte, its bytes, and the values of its cells of 8 bytes.
 /// Zeros fill up the last cell where the bytes are no multiple of 8.
-#[derive(Debug, Drop)]
+#[derive(Drop)]
 pub struct DataCells {
     pub start: u32,
     pub size: u32,
@@ -19,7 +19,7 @@ pub struct DataCells {
 }
 
 /// The static data of a file at its place, the built-in list first.
-#[derive(Debug, Drop)]
+#[derive(Drop)]
 pub struct DataMap {
     /// In the order of their places.
     pub symbols: List<DataSymbol>,

@@ -4,7 +4,7 @@ ghost use Rattle.std.specs.Option.{option_to_list};
 ghost use Rattle.bs_words.specs.Fits.{data_limit, data_start};
 ghost use Rattle.cmm_tree.specs.Tree.{functions};
 ghost use Rattle.cmm_tree.specs.View.{file_view, data_item_view, datum_view};
-ghost use Rattle.cmm_data.specs.Placement.{items_from, end_of_items, symbol_at, symbols_among};
+ghost use Rattle.cmm_data.specs.Placement.{items_from, end_of_items, symbol_at, placed_symbols};
 ghost use Rattle.bs_words.specs.Symbol.{caml_bound_error};
 ghost use Rattle.cmm_data.specs.Faults.{first_fault, data_fault_of};
 ghost use Rattle.cmm_data.specs.Contents.{static_list, is_root_datum, root_at, roots_among};
@@ -105,7 +105,7 @@ fn place_items(
         })) }
     ensures symbols { IfOk result (λ _.
         map symbol_view symbols.new.items ≡ map symbol_view symbols.old.items ++
-        symbols_among (items_from start (map data_item_view items.now))) }
+        placed_symbols (items_from start (map data_item_view items.now))) }
     ensures roots { IfOk result (λ _.
         roots.new.items ≡ roots.old.items ++ roots_among (items_from start
         (map data_item_view items.now))) }

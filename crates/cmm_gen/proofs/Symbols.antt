@@ -7,7 +7,7 @@ use Rattle.std.proofs.lemmas.Slice.Eq.{bytes_eq-Decides}
 use Rattle.bs_words.specs.Fits.{data_start}
 use Rattle.bs_words.specs.declared.values.Value.TheVariants.{Word, Function}
 use Rattle.cmm_tree.specs.Tree.{FunctionTree, ItemTree, FileTree, functions_among}
-use Rattle.cmm_data.specs.Placement.{built_in, end_behind, defined_from, value_among, value_of_symbol}
+use Rattle.cmm_data.specs.Placement.{built_in_list, end_behind, defined_from, value_among, value_of_symbol}
 use Rattle.cmm_data.proofs.Table.{value_among-more}
 use Rattle.bs_words.specs.Symbol.{caml_bound_error}
 use Rattle.cmm_gen.specs.Drawn.{DrawnFunction, symbol_of}
@@ -73,6 +73,6 @@ value_at _ end _ _ (more k f fs tree items is rest) (suc j) n less e small =
 -- the symbol of a function stands for it
 pub function_symbol : (fs : List DrawnFunction) (file : FileTree) → AreItemsOf 0 fs file.items → (j : ℕ) → j < length fs → j < 2 ^ 64 → value_of_symbol file (symbol_of j) ≡ Some (Function j)
 function_symbol fs file are j less small =
-    value_among-more (record { name = caml_bound_error; value = Word data_start }) (defined_from 0 (end_behind data_start built_in) file.items) (symbol_of j)
-    ∙ ap (λ b. cond b (Some (Word data_start)) (value_among (defined_from 0 (end_behind data_start built_in) file.items) (symbol_of j))) (not_built_in j)
-    ∙ value_at 0 (end_behind data_start built_in) fs file.items are j j less (omega arith) small
+    value_among-more (record { name = caml_bound_error; value = Word data_start }) (defined_from 0 (end_behind data_start built_in_list) file.items) (symbol_of j)
+    ∙ ap (λ b. cond b (Some (Word data_start)) (value_among (defined_from 0 (end_behind data_start built_in_list) file.items) (symbol_of j))) (not_built_in j)
+    ∙ value_at 0 (end_behind data_start built_in_list) fs file.items are j j less (omega arith) small

@@ -17,7 +17,7 @@ use bs_words::List;
 use std::alloc::{AllocError, Global};
 
 /// What a text is cut into.
-#[derive(Debug, Drop)]
+#[derive(Drop)]
 pub struct Lexed {
     /// The tokens before the first `BadToken` or `Unclosed`, in order.
     pub tokens: List<Token>,

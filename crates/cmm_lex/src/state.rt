@@ -6,7 +6,7 @@ ghost use Rattle.cmm_lex.specs.Automaton.{accepts_number, after_operator, accept
 ghost use Rattle.cmm_lex.specs.Automaton.{accepts, is_dead};
 
 /// What a token is by its bytes' classes: words may be names or keywords.
-#[derive(Clone, Copy, PartialEq, Eq)]
+#[derive(Clone, Copy)]
 pub enum Shape {
     /// A name or a keyword.
     Word,

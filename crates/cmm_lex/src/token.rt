@@ -3,7 +3,7 @@ use bs_words::IntOp;
 
 /// A token: the place of its first byte and the place after its last, in bytes from the start of the
 /// text, and what it is. Its text is that slice of the source.
-#[derive(Clone, Copy, PartialEq, Eq, Debug)]
+#[derive(Clone, Copy)]
 pub struct Token {
     pub at: u32,
     pub end: u32,
@@ -11,7 +11,7 @@ pub struct Token {
 }
 
 /// What a token is, by its spelling.
-#[derive(Clone, Copy, PartialEq, Eq, Debug)]
+#[derive(Clone, Copy)]
 pub enum TokenKind {
     /// A word that is no keyword.
     Name,
@@ -34,7 +34,7 @@ pub enum TokenKind {
 }
 
 /// A parenthesis, a bracket or a colon.
-#[derive(Clone, Copy, PartialEq, Eq, Debug)]
+#[derive(Clone, Copy)]
 pub enum Sign {
     /// `(`
     Open,
@@ -49,7 +49,7 @@ pub enum Sign {
 }
 
 /// A word that the grammar keeps for itself, by its spelling.
-#[derive(Clone, Copy, PartialEq, Eq, Debug)]
+#[derive(Clone, Copy)]
 pub enum Keyword {
     // functions, types and results
     Function,

@@ -44,7 +44,10 @@ fn leaf_of(alloc: Global, source: &[u8], token: &Token) -> Result<Option<Expr>, 
         TokenKind::String => symbol_leaf(alloc, source, token),
         TokenKind::Name => Ok(Some(node(at, Form::Name(name_of(alloc, source, token)?)))),
         TokenKind::Keyword(Keyword::Exit) => Ok(Some(exit_to(alloc, at, Label::Bare))),
-        _ => Ok(None),
+        TokenKind::Keyword(_)
+        | TokenKind::Operator(_)
+        | TokenKind::FloatOperator
+        | TokenKind::Sign(_) => Ok(None),
     }
 }
 

@@ -129,7 +129,12 @@ pub fn head_of(kind: TokenKind) -> Option<Head>
         TokenKind::Operator(op) => Some(Head::Pair(Pair::Operator(op))),
         TokenKind::FloatOperator => Some(Head::Float),
         TokenKind::Keyword(keyword) => head_of_keyword(keyword),
-        _ => None,
+        TokenKind::Name
+        | TokenKind::Integer
+        | TokenKind::Pointer
+        | TokenKind::Float
+        | TokenKind::String
+        | TokenKind::Sign(_) => None,
     }
 }
 

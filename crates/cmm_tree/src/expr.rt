@@ -117,7 +117,7 @@ pub struct Binding {
 }
 
 /// The component of a mutable name.
-#[derive(Clone, Copy, PartialEq, Eq, Debug)]
+#[derive(Clone, Copy)]
 pub struct Declared {
     /// The place of its word.
     pub at: u32,
@@ -133,7 +133,7 @@ pub struct Case {
 }
 
 /// A number that chooses a case.
-#[derive(Clone, Copy, PartialEq, Eq, Debug)]
+#[derive(Clone, Copy)]
 pub struct CaseIndex {
     /// The place of the number, in bytes from the start of the text.
     pub at: u32,

@@ -5,7 +5,7 @@ ghost use Rattle.cmm_types.specs.Groups.{group_of};
 use cmm_tree::Form;
 
 /// Forms that are checked alike.
-#[derive(Clone, Copy, PartialEq, Eq, Debug)]
+#[derive(Clone, Copy)]
 pub enum Group {
     /// No part.
     Leaf,

@@ -10,7 +10,7 @@ use std::alloc::{AllocError, Global};
 use std::marker::Model;
 
 /// What a name in scope stands for: a value of this type, which an assignment may change or not.
-#[derive(Clone, Copy, PartialEq, Eq, Debug)]
+#[derive(Clone, Copy)]
 pub struct Meaning {
     pub ty: Ty,
     pub mutable: bool,

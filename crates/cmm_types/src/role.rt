@@ -1,7 +1,7 @@
 //! What a node does with a part of it.
 
 /// What a node does with the value of a part, as far as types are concerned.
-#[derive(Clone, Copy, PartialEq, Eq, Debug)]
+#[derive(Clone, Copy)]
 pub enum Role {
     /// The part need not have a value.
     Visited,

@@ -12,7 +12,7 @@ use bs_words::{Chunk, Comp, IntOp, Ret, Ty};
 use cmm_tree::{Declared, Param};
 
 /// What is found out of a node: its type if no float was in it, and whether a float form is in it.
-#[derive(Clone, Copy, PartialEq, Eq, Debug)]
+#[derive(Clone, Copy)]
 pub struct Seen {
     pub plain: Ty,
     pub float: bool,

@@ -12,7 +12,7 @@ use std::marker::Model;
 
 /// The definition of a symbol: the place of its string, in bytes from the start of the text, and of a
 /// function the number of its parameters.
-#[derive(Clone, Copy, PartialEq, Eq, Debug)]
+#[derive(Clone, Copy)]
 pub struct Definition {
     pub at: u32,
     pub parameters: Option<usize>,

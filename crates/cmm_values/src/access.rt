@@ -8,14 +8,14 @@ use crate::fit::{fits, misfit};
 use bs_words::{Chunk, Kind, Ty, Value, sext};
 
 /// A block on the heap: its header word, and the values of its cells.
-#[derive(Debug, Drop)]
+#[derive(Drop)]
 pub(crate) struct HeapCells {
     pub(crate) header: u64,
     pub(crate) cells: Vec<Value>,
 }
 
 /// A list of static data: the address of its first byte, its bytes, and the values of its cells.
-#[derive(Debug, Drop)]
+#[derive(Drop)]
 pub(crate) struct StaticCells {
     pub(crate) start: u32,
     pub(crate) size: u32,
@@ -23,7 +23,7 @@ pub(crate) struct StaticCells {
 }
 
 /// The cell that an access lies in.
-#[derive(Clone, Copy, PartialEq, Eq, Debug)]
+#[derive(Clone, Copy)]
 pub(crate) enum Cell {
     /// The header of a block.
     Header { serial: u64 },

@@ -27,7 +27,7 @@ use std::marker::Model;
 
 /// The memory of a run: the blocks by their serials, and the static data. Contracts see the definitions'
 /// memory.
-#[derive(Debug, Drop)]
+#[derive(Drop)]
 pub struct Memory {
     blocks: Vec<HeapCells>,
     statics: Vec<StaticCells>,

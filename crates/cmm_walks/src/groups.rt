@@ -8,7 +8,7 @@ use std::alloc::{AllocError, Global};
 use walk_tables::{Node, Step};
 
 /// Numbers of nodes.
-#[derive(Debug, Drop)]
+#[derive(Drop)]
 pub struct Group {
     pub members: Vec<usize>,
 }

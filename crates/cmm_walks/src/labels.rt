@@ -13,7 +13,7 @@ use walk_tables::{Node, Step};
 const UNLABELLED: u64 = 0x1_0000_0000;
 
 /// A label that a node begins with.
-#[derive(Clone, Copy, PartialEq, Eq, Debug)]
+#[derive(Clone, Copy)]
 pub struct Seed {
     pub label: u32,
     /// The number of the node.
@@ -22,7 +22,7 @@ pub struct Seed {
 
 /// The labels of nodes, and the nodes that were labelled, in their order; those before `done` have passed
 /// their labels on.
-#[derive(Debug, Drop)]
+#[derive(Drop)]
 pub struct Labels {
     pub of: Vec<u64>,
     pub queue: Vec<usize>,

@@ -3,7 +3,7 @@ ghost use Rattle.std.specs.Prelude.{◌≡◌};
 ghost use Rattle.cmm_walks.specs.First.{with_part};
 
 /// The greatest places that are asked for, in bytes from the start of the text.
-#[derive(Clone, Copy, PartialEq, Eq, Debug)]
+#[derive(Clone, Copy)]
 pub struct Limits {
     /// That of a binding.
     pub bound: u32,
@@ -14,7 +14,7 @@ pub struct Limits {
 }
 
 /// A place that the search is for.
-#[derive(Clone, Copy, PartialEq, Eq, Debug)]
+#[derive(Clone, Copy)]
 pub enum Part {
     /// That of a use.
     Used,

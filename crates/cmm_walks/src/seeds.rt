@@ -9,7 +9,7 @@ use std::alloc::{AllocError, Global};
 use walk_tables::{Node, Step};
 
 /// What is searched for: the least of one part, with all parts within limits.
-#[derive(Clone, Copy, PartialEq, Eq, Debug)]
+#[derive(Clone, Copy)]
 pub struct Goal {
     pub limits: Limits,
     pub part: Part,

@@ -20,7 +20,7 @@ use std::thread::Threads;
 use text_commands::{CheckRefusal, Gate, check_text};
 
 /// Why nothing is reported of a source.
-#[derive(Debug, Drop)]
+#[derive(Drop)]
 pub enum CheckFailure {
     /// A read of the source failed.
     ReadFault,

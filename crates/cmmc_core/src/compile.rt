@@ -15,7 +15,7 @@ use std::thread::Threads;
 use text_commands::{Gate, Refusal as TextRefusal, compile_text};
 
 /// Why there is no image.
-#[derive(Debug, Drop)]
+#[derive(Drop)]
 pub enum Refusal {
     /// A read of the source failed.
     ReadFault,

@@ -26,7 +26,7 @@ use std::alloc::{AllocError, Global};
 const LONGEST_IMAGE: u64 = 620_691_524;
 
 /// Why there is no outcome, or not the whole of it on out.
-#[derive(Debug, Drop)]
+#[derive(Drop)]
 pub enum RunRefusal {
     /// A read of the source failed.
     ReadFault,

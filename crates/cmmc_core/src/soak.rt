@@ -32,7 +32,7 @@ use text_commands::{CheckRefusal, Gate, Trial, trial_of};
 const STEPS: u64 = 1_000_000_000;
 
 /// Why nothing is reported of the text that is drawn.
-#[derive(Debug, Drop)]
+#[derive(Drop)]
 pub enum SoakRefusal {
     /// A section of its image would pass its limit.
     TooLarge(Large),

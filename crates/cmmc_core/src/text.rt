@@ -11,7 +11,7 @@ use cmm_limits::LONGEST_TEXT;
 use std::alloc::Global;
 
 /// Why a text was not read.
-#[derive(Debug, Drop)]
+#[derive(Drop)]
 pub enum Unread {
     /// A read of the source failed.
     ReadFault,

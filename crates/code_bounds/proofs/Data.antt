@@ -10,7 +10,7 @@ use Rattle.bs_words.specs.Fits.{data_limit, data_start}
 use Rattle.bs_words.specs.Symbol.{IsSymbol}
 use Rattle.cmm_data.specs.Contents.{root_cells}
 use Rattle.cmm_data.specs.Faults.{passes_limit, keeps_rule, fault_on, or_later, first_fault, data_fault_of}
-use Rattle.cmm_data.specs.Placement.{DataSymbolTree, PlacedItem, size_at, items_from, end_of_items, start_behind, end_behind, end_of_lists, lists_behind, lists_of, built_in, items_of_lists, symbol_at, symbols_among, symbols_of, data_end, data_bytes}
+use Rattle.cmm_data.specs.Placement.{DataSymbolTree, PlacedItem, size_at, items_from, end_of_items, start_behind, end_behind, end_of_lists, lists_behind, lists_of, built_in_list, items_of_lists, symbol_at, placed_symbols, symbols_of, data_end, data_bytes}
 use Rattle.cmm_tree.specs.Tree.{DatumTree, Define, Byte, Half, Int, Val, Address, Skip, Align, Text, Global, AFloat, DataItemTree, DataListTree, FileTree, ItemTree, AFunction, AData, data_among}
 use Rattle.image_form.specs.Image.{le32, sym_bytes, table_bytes, table_limit}
 use Rattle.image_form.proofs.Lengths.{length-words}
@@ -109,11 +109,11 @@ symbol_same address (Text bytes) rest = omega arith
 symbol_same address (Global name_at name) rest = omega arith
 symbol_same address AFloat rest = omega arith
 
-list_same : (address : ℕ) (items : List DataItemTree) → names_bytes (symbols_among (items_from address items)) ≡ list_bytes items
+list_same : (address : ℕ) (items : List DataItemTree) → names_bytes (placed_symbols (items_from address items)) ≡ list_bytes items
 list_same address [] = refl
 list_same address (i ∷ items) =
     let next = address + size_at address i.datum in
-    let here = symbol_same address i.datum (symbols_among (items_from next items)) in
+    let here = symbol_same address i.datum (placed_symbols (items_from next items)) in
     let others = list_same next items in
     omega (arith, here, others)
 
@@ -121,13 +121,13 @@ abbrev lists_bytes : List DataListTree → ℕ
 lists_bytes [] = 0
 lists_bytes (d ∷ lists) = list_bytes d.items + lists_bytes lists
 
-lists_same : (end : ℕ) (lists : List DataListTree) → names_bytes (symbols_among (items_of_lists (lists_behind end lists))) ≡ lists_bytes lists
+lists_same : (end : ℕ) (lists : List DataListTree) → names_bytes (placed_symbols (items_of_lists (lists_behind end lists))) ≡ lists_bytes lists
 lists_same end [] = refl
 lists_same end (d ∷ lists) =
     let own = items_from (start_behind end) d.items in
     let rest = items_of_lists (lists_behind (end_behind end d) lists) in
     let split = ap names_bytes (filter_map-append (λ (i : PlacedItem). symbol_at i.address i.datum) own rest) in
-    let both = names_append (symbols_among own) (symbols_among rest) in
+    let both = names_append (placed_symbols own) (placed_symbols rest) in
     let here = list_same (start_behind end) d.items in
     let others = lists_same (end_behind end d) lists in
     omega (arith, split, both, here, others)
@@ -153,7 +153,7 @@ syms_short file named short =
     let rows = syms_few (symbols_of file) named in
     let names = lists_same data_start (lists_of file) in
     let lists = lists_few file.items in
-    let first : list_bytes built_in.items ≡ 17 = refl in
+    let first : list_bytes built_in_list.items ≡ 17 = refl in
     omega (arith, table, rows, names, lists, first, short)
 
 -- ---- root cells

@@ -9,7 +9,7 @@ use std::alloc::{AllocError, AllocFailed};
 use thiserror::Error;
 
 /// A command with the values that it was given or has by default.
-#[derive(Debug, Drop)]
+#[derive(Drop)]
 pub enum Command {
     /// Reads a Cmm text and writes the image.
     Compile {
@@ -32,7 +32,7 @@ pub enum Command {
 }
 
 /// What a run is to do.
-#[derive(Debug, Drop)]
+#[derive(Drop)]
 pub struct RunWords {
     /// The name of the function that is called.
     pub entry: Name,
@@ -50,7 +50,7 @@ pub struct RunWords {
 }
 
 /// What a run of a text is to do.
-#[derive(Debug, Drop)]
+#[derive(Drop)]
 pub struct CheckWords {
     /// The name of the function that is called.
     pub entry: Name,
@@ -62,7 +62,7 @@ pub struct CheckWords {
 }
 
 /// When the mover asks during a run, and where it puts the blocks of the heap.
-#[derive(Clone, Copy, PartialEq, Eq, Debug)]
+#[derive(Clone, Copy)]
 pub enum Moves {
     /// It asks for nothing and plans nothing.
     Never,
@@ -73,7 +73,7 @@ pub enum Moves {
 }
 
 /// Why words are no command.
-#[derive(Clone, Copy, PartialEq, Eq, Debug, Drop, Error)]
+#[derive(Clone, Copy, Debug, Drop, Error)]
 pub enum WordsError {
     /// U1: they do not have the form of a command.
     #[error("the words are no command")]

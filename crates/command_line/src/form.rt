@@ -7,7 +7,7 @@ ghost use Rattle.command_line.specs.View.{texts};
 ghost use Rattle.command_line.specs.Words.{word_of, slots_of, wanted_of, prefix_of, fills, IsForm};
 
 /// The command that a first word names.
-#[derive(Clone, Copy, PartialEq, Eq, Debug)]
+#[derive(Clone, Copy)]
 pub(crate) enum CommandWord {
     Compile,
     Run,
@@ -17,7 +17,7 @@ pub(crate) enum CommandWord {
 }
 
 /// What a word after the first is for.
-#[derive(Clone, Copy, PartialEq, Eq, Debug)]
+#[derive(Clone, Copy)]
 pub(crate) enum Slot {
     /// The one word that is no option.
     Plain,

@@ -14,7 +14,7 @@ fn all_below(numbers: &[u32], bound: usize) -> bool
 }
 
 /// One place. It reads first, and then writes.
-#[derive(Debug, Drop)]
+#[derive(Drop)]
 pub struct Place {
     /// The places that may come next, once the numbers are written.
     pub next: List<u32>,
@@ -42,7 +42,7 @@ pub fn bare_place(alloc: Global) -> Place
 }
 
 /// A graph of places, which are numbered from 0 by their order.
-#[derive(Debug, Drop)]
+#[derive(Drop)]
 pub struct Flow {
     pub places: List<Place>,
 

@@ -6,7 +6,7 @@ ghost use Rattle.dataflow.specs.Rows.{row};
 use bs_bits::Bits;
 
 /// A set of numbers for each place of a graph.
-#[derive(Debug, Drop)]
+#[derive(Drop)]
 pub struct Rows {
     pub rows: Vec<Bits>,
 }

@@ -5,7 +5,7 @@ ghost use Rattle.eval_frames.specs.Groups.{group_of};
 use cmm_tree::Form;
 
 /// What a node does first.
-#[derive(Clone, Copy, PartialEq, Eq, Debug)]
+#[derive(Clone, Copy, PartialEq, Eq)]
 pub enum Group {
     /// It computes with floats, which no accepted file does.
     Float,

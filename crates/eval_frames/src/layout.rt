@@ -5,7 +5,7 @@ ghost use Rattle.bs_words.specs.Contents.{contents};
 use bs_words::List;
 
 /// For each function of the file, in order: the bytes of its frame, and its address.
-#[derive(Debug, Drop)]
+#[derive(Drop)]
 pub struct Layout {
     /// Bytes of the stack that one activation takes.
     pub frames: List<u32>,

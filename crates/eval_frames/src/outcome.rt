@@ -2,7 +2,7 @@
 use bs_words::{Call, Kind, List, Obs};
 
 /// How a run ends.
-#[derive(Debug, Drop)]
+#[derive(Drop)]
 pub enum Outcome {
     /// It returned a value, or none.
     Returned(Option<Obs>),
@@ -17,7 +17,7 @@ pub enum Outcome {
 }
 
 /// What is reported of a run.
-#[derive(Debug, Drop)]
+#[derive(Drop)]
 pub struct Eval {
     /// How it ended.
     pub outcome: Outcome,

@@ -13,7 +13,7 @@ use bs_words::{Kind, Ret, Ty, Value};
 use cmm_values::{fits, misfit};
 
 /// What tests make of a value, or of none.
-#[derive(Clone, Copy, Debug)]
+#[derive(Clone, Copy)]
 pub enum Verdict {
     /// It passes them.
     Kept,
@@ -25,7 +25,7 @@ pub enum Verdict {
 
 /// Tests that a value meets one after the other, however many they are: what they make of it depends on
 /// whether there is a value, and on whether it fits int and val.
-#[derive(Clone, Copy, Debug)]
+#[derive(Clone, Copy)]
 pub struct Tests {
     /// Of no value.
     pub absent: Verdict,

@@ -7,7 +7,7 @@ use bs_words::{Call, Kind};
 use cmm_values::Memory;
 
 /// Why a run stops before its end.
-#[derive(Debug, Drop)]
+#[derive(Drop)]
 pub enum Stop {
     /// No unit of fuel was left.
     OutOfFuel,

@@ -13,7 +13,7 @@ pub trait Gate {
 }
 
 /// A gate that does nothing, which the program uses.
-#[derive(Clone, Copy, PartialEq, Eq, Debug)]
+#[derive(Clone, Copy)]
 pub struct OpenGate;
 
 impl Gate for OpenGate {

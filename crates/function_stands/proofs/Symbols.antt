@@ -6,7 +6,7 @@ use Rattle.bs_words.specs.Fits.{data_limit, data_start}
 use Rattle.bs_words.specs.declared.values.Value.{Value}
 use Rattle.bs_words.specs.declared.values.Value.TheVariants.{Word, Function}
 use Rattle.cmm_data.specs.Faults.{data_fault_of, first_fault}
-use Rattle.cmm_data.specs.Placement.{Definition, built_in, defined_at, defined_by_list, defined_from, definition_of_data, definitions, end_behind, items_from, items_of_lists, lists_behind, size_at, start_behind, symbol_at, value_of_symbol}
+use Rattle.cmm_data.specs.Placement.{DefinedValue, built_in_list, defined_at, defined_by_list, defined_from, definition_of_data, definitions, end_behind, items_from, items_of_lists, lists_behind, size_at, start_behind, symbol_at, value_of_symbol}
 use Rattle.cmm_data.proofs.Steps.{end-within}
 use Rattle.cmm_data.proofs.Table.{defined_at-next, value_among-from}
 use Rattle.cmm_data.proofs.Walk.{sound-first, sound-list, start-within}
@@ -17,10 +17,10 @@ pub data IsInFile (count : ℕ) : Value → Type 0 where
   of_function : {f : ℕ} → f < count → IsInFile count (Function f)
   of_data : {a : ℕ} → a ≤ data_start + data_limit → IsInFile count (Word a)
 
-abbrev AllPlaced : ℕ → List Definition → Type 0
-AllPlaced count ds = AllByRecursion (λ (d : Definition). IsInFile count d.value) ds
+abbrev AllPlaced : ℕ → List DefinedValue → Type 0
+AllPlaced count ds = AllByRecursion (λ (d : DefinedValue). IsInFile count d.value) ds
 
-both_placed : (count : ℕ) (ds es : List Definition) → AllPlaced count ds → AllPlaced count es → AllPlaced count (ds ++ es)
+both_placed : (count : ℕ) (ds es : List DefinedValue) → AllPlaced count ds → AllPlaced count es → AllPlaced count (ds ++ es)
 both_placed count [] es all more = more
 both_placed count (d ∷ ds) es all more = (all.0, both_placed count ds es all.1 more)
 
@@ -72,11 +72,11 @@ from_placed count before end (AData d ∷ items) h few none =
 
 file_placed : (file : FileTree) → data_fault_of file ≡ None → AllPlaced (length (functions file)) (definitions file)
 file_placed file none =
-    let sound = sound-list data_start built_in (data_among file.items) none in
+    let sound = sound-list data_start built_in_list (data_among file.items) none in
     let within : data_start ≤ data_start + data_limit = omega arith in
-    both_placed (length (functions file)) (defined_by_list data_start built_in) (defined_from 0 (end_behind data_start built_in) file.items)
-    (list_placed (length (functions file)) data_start built_in within sound.0)
-    (from_placed (length (functions file)) 0 (end_behind data_start built_in) file.items (list_within data_start built_in within sound.0) (omega arith) sound.1)
+    both_placed (length (functions file)) (defined_by_list data_start built_in_list) (defined_from 0 (end_behind data_start built_in_list) file.items)
+    (list_placed (length (functions file)) data_start built_in_list within sound.0)
+    (from_placed (length (functions file)) 0 (end_behind data_start built_in_list) file.items (list_within data_start built_in_list within sound.0) (omega arith) sound.1)
 
 -- what a symbol of the file stands for
 pub symbol_placed : (file : FileTree) (name : List ℕ) (v : Value) → data_fault_of file ≡ None → value_of_symbol file name ≡ Some v →

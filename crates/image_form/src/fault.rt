@@ -26,7 +26,7 @@ impl From<AllocError> for ImageError {
 }
 
 /// Why the body of a section was not read.
-#[derive(Debug, Drop)]
+#[derive(Drop)]
 pub(crate) enum Stop {
     Memory,
     /// A field breaks a rule or passes the end of the body. It is known by the number of bytes of the

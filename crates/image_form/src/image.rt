@@ -3,7 +3,7 @@
 use bs_words::{Comp, List, Name, Ret};
 
 /// A compiled program.
-#[derive(Debug, Drop)]
+#[derive(Drop)]
 pub struct Image {
     /// How wide the fields of its descriptors are when it is written: 16 bits in version 1, and 32 in
     /// version 2. No run depends on it.
@@ -25,8 +25,9 @@ pub struct Image {
 }
 
 /// A function.
-#[derive(Debug, Drop)]
+#[derive(Drop)]
 pub struct FuncRow {
+    /// Its symbol.
     pub name: Name,
     /// The bytes of code before the first word of the function.
     pub offset: u32,
@@ -34,28 +35,34 @@ pub struct FuncRow {
     pub words: u32,
     /// The bytes of its frame on the stack.
     pub frame: u32,
+    /// The components of its parameters, in order: at most 16.
     pub params: List<Comp>,
+    /// What it gives.
     pub result: Ret,
 }
 
 /// A symbol of the data.
-#[derive(Debug, Drop)]
+#[derive(Drop)]
 pub struct SymRow {
+    /// The name by which the text defines it.
     pub name: Name,
     /// The bytes of data before its place.
     pub offset: u32,
 }
 
 /// An external call.
-#[derive(Debug, Drop)]
+#[derive(Drop)]
 pub struct ExtRow {
+    /// The name of what is called outside the program.
     pub name: Name,
+    /// The components of its arguments, in order: at most 16.
     pub params: List<Comp>,
+    /// What it gives.
     pub result: Ret,
 }
 
 /// Which places of a frame hold OCaml values at a return address.
-#[derive(Debug, Drop)]
+#[derive(Drop)]
 pub struct DescRow {
     /// The bytes of code before the return address.
     pub after: u32,

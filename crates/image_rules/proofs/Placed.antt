@@ -10,7 +10,7 @@ use Rattle.bs_words.specs.Memory.{StaticList}
 use Rattle.bs_words.specs.declared.values.Value.{Value}
 use Rattle.cmm_tree.specs.Tree.{DatumTree, Define, Byte, Half, Int, Val, Address, Skip, Align, Text, Global, AFloat, DataItemTree, DataListTree, FileTree, data_lists}
 use Rattle.cmm_data.specs.Contents.{DataByte, bytes_at, bytes_of_items, cells_of, root_at, roots_among, root_cells, static_list, statics}
-use Rattle.cmm_data.specs.Placement.{DataSymbolTree, PlacedItem, size_at, items_from, end_of_items, start_behind, end_behind, end_of_lists, lists_behind, lists_of, built_in, items_of_lists, symbol_at, symbols_among, symbols_of, value_of_symbol, data_end, data_bytes}
+use Rattle.cmm_data.specs.Placement.{DataSymbolTree, PlacedItem, size_at, items_from, end_of_items, start_behind, end_behind, end_of_lists, lists_behind, lists_of, built_in_list, items_of_lists, symbol_at, placed_symbols, symbols_of, value_of_symbol, data_end, data_bytes}
 use Rattle.cmm_data.proofs.Laws.{end_of_items-above}
 use Rattle.cmm_data.proofs.Steps.{length-bytes_at}
 
@@ -75,8 +75,8 @@ data_length file g eight =
 
 pub data_nonempty : (file : FileTree) → 8 ≤ data_bytes file
 data_nonempty file =
-    let first : end_behind data_start built_in ≡ data_start + 8 = refl in
-    omega (arith, end_of_lists-above (end_behind data_start built_in) (data_lists file), first)
+    let first : end_behind data_start built_in_list ≡ data_start + 8 = refl in
+    omega (arith, end_of_lists-above (end_behind data_start built_in_list) (data_lists file), first)
 
 -- ---- symbols
 
@@ -107,13 +107,13 @@ symbol_lies address size high (Text bytes) rest lie = lie_less address (address 
 symbol_lies address size high (Global name_at name) rest lie = lie_less address (address + size) high rest (omega arith) lie
 symbol_lies address size high AFloat rest lie = lie_less address (address + size) high rest (omega arith) lie
 
-pub items_lie : (address : ℕ) (items : List DataItemTree) → Lie address (end_of_items address items) (symbols_among (items_from address items))
+pub items_lie : (address : ℕ) (items : List DataItemTree) → Lie address (end_of_items address items) (placed_symbols (items_from address items))
 items_lie address [] = omega arith
 items_lie address (i ∷ items) =
     let size = size_at address i.datum in
-    symbol_lies address size (end_of_items (address + size) items) i.datum (symbols_among (items_from (address + size) items)) (items_lie (address + size) items)
+    symbol_lies address size (end_of_items (address + size) items) i.datum (placed_symbols (items_from (address + size) items)) (items_lie (address + size) items)
 
-lists_lie : (end : ℕ) (lists : List DataListTree) → Lie end (end_of_lists end lists) (symbols_among (items_of_lists (lists_behind end lists)))
+lists_lie : (end : ℕ) (lists : List DataListTree) → Lie end (end_of_lists end lists) (placed_symbols (items_of_lists (lists_behind end lists)))
 lists_lie end [] = omega arith
 lists_lie end (d ∷ lists) =
     let start = start_behind end in
@@ -121,8 +121,8 @@ lists_lie end (d ∷ lists) =
     let own = items_from start d.items in
     let rest = items_of_lists (lists_behind next lists) in
     let high = end_of_lists next lists in
-    let both = lie_append start next high (symbols_among own) (symbols_among rest) (items_lie start d.items) (lists_lie next lists) in
-    let from = lie_less end start high (symbols_among own ++ symbols_among rest) (omega arith) both in
+    let both = lie_append start next high (placed_symbols own) (placed_symbols rest) (items_lie start d.items) (lists_lie next lists) in
+    let from = lie_less end start high (placed_symbols own ++ placed_symbols rest) (omega arith) both in
     subst (Lie end high) (sym (filter_map-append (λ (i : PlacedItem). symbol_at i.address i.datum) own rest)) from
 
 -- The symbols of a file lie in its data, in the order of their places.

@@ -6,7 +6,7 @@ ghost use Rattle.interfere.specs.Moves.{is_from_to};
 use mach_ir::{CopyKind, Instr, MachOp, Op, Pure, Reg};
 
 /// A move: the numbers of the register that it reads and of the one that it writes.
-#[derive(Clone, Copy, PartialEq, Eq, Debug)]
+#[derive(Clone, Copy)]
 pub struct Move {
     pub from: u32,
     pub to: u32,

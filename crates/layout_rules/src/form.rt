@@ -4,7 +4,7 @@
 ///
 /// A branch has all three. A jump has the first, a jal, and the last. What always takes the same
 /// words is in the first.
-#[derive(Copy, Clone, PartialEq, Eq, Debug)]
+#[derive(Copy, Clone, Debug)]
 pub enum Form {
     /// One instruction, with the offset in its own field.
     Near,

@@ -4,7 +4,7 @@ use bs_words::{Comp, Loc, Name, Ret};
 use mach_ir::{Label, Op, Seq, Test};
 
 /// A location, with the component as which it is read or written.
-#[derive(Clone, Copy, PartialEq, Eq, Debug)]
+#[derive(Clone, Copy)]
 pub struct Spot {
     pub loc: Loc,
     pub comp: Comp,

@@ -6,7 +6,7 @@ use bs_words::Loc;
 use dataflow::Rows;
 
 /// The numbers of the registers that are live before each instruction of a function.
-#[derive(Debug, Drop)]
+#[derive(Drop)]
 pub struct LiveMap {
     /// A set for each instruction, in their order, and one after the last.
     pub before: Rows,

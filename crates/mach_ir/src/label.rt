@@ -4,7 +4,7 @@ use std::marker::Model;
 
 /// The number of a place that control goes to. Where it is, and how often, is said by
 /// `WellFormed`. Contracts see the number.
-#[derive(Clone, Copy, PartialEq, Eq, PartialOrd, Ord, Debug)]
+#[derive(Clone, Copy, PartialEq, Eq, PartialOrd, Ord)]
 pub struct Label(pub u32);
 
 impl Model for Label {

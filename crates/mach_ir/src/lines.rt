@@ -15,7 +15,7 @@ use bs_words::{List, Loc};
 use std::alloc::{AllocError, Global};
 
 /// How the levels of the text go at an instruction.
-#[derive(Clone, Copy, PartialEq, Eq, Debug)]
+#[derive(Clone, Copy)]
 pub enum Turn {
     /// It has the level of what is round it.
     Stays,

@@ -15,7 +15,7 @@ use bs_words::{CmpOp, Name, Ret};
 use std::alloc::{AllocError, Global};
 
 /// What an `if` tests.
-#[derive(Clone, Copy, PartialEq, Eq, Debug)]
+#[derive(Clone, Copy)]
 pub enum Test {
     /// Its operand holds as a condition.
     Holds,

@@ -8,7 +8,7 @@ use crate::seq::Seq;
 use bs_words::{Chunk, Comp, IntOp, Name, Ret};
 
 /// How a value is copied: between registers, into a slot, or out of one. The three mean the same.
-#[derive(Clone, Copy, PartialEq, Eq, Debug)]
+#[derive(Clone, Copy)]
 pub enum CopyKind {
     /// Between registers.
     Move,
@@ -20,7 +20,7 @@ pub enum CopyKind {
 
 /// The right operand of an operator, a comparison or a bound test: the last register among the operands, or a
 /// constant that the machine has an immediate for.
-#[derive(Clone, Copy, PartialEq, Eq, Debug)]
+#[derive(Clone, Copy)]
 pub enum Right {
     /// The last register among the operands.
     Register,
@@ -84,7 +84,7 @@ pub enum Calling {
 }
 
 /// What may leave a straight run with no mark.
-#[derive(Clone, Copy, PartialEq, Eq, Debug)]
+#[derive(Clone, Copy)]
 pub enum Leaving {
     /// The first operand is the bound, the second the index. It raises where the index is not below
     /// the bound.

@@ -10,7 +10,7 @@ use bs_words::{Comp, Loc};
 /// with the number. `loc` is `Unset` while its place is open. A register that spilling, splitting
 /// or reloading made has the origin of the register from which it was made; the origin of every
 /// other one is its own number.
-#[derive(Clone, Copy, PartialEq, Eq, Debug)]
+#[derive(Clone, Copy)]
 pub struct Reg {
     pub number: u32,
     pub comp: Comp,

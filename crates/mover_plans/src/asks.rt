@@ -9,7 +9,7 @@ use rand_pcg::Lcg64Xsh32;
 use std::marker::Model;
 
 /// The asks of a seed, one instruction after the other. Contracts see the generator that draws them.
-#[derive(Debug, Drop)]
+#[derive(Drop)]
 pub struct SeededAsks {
     words: Lcg64Xsh32,
 }

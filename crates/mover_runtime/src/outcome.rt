@@ -3,7 +3,7 @@ use bs_words::Obs;
 use rv_machine::Cause;
 
 /// How a run has ended, or that it goes on.
-#[derive(Clone, Copy, PartialEq, Eq, Debug)]
+#[derive(Clone, Copy)]
 pub enum RunEnd {
     /// The entry has returned, with a value or none.
     Returned(Option<Obs>),

@@ -10,7 +10,7 @@ use bs_words::List;
 use mover_plans::{SeededAsks, plan_word};
 
 /// When the mover asks, and where it moves blocks.
-#[derive(Debug, Drop)]
+#[derive(Drop)]
 pub enum Schedule {
     /// It asks for nothing and plans nothing.
     Never,

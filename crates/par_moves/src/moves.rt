@@ -6,7 +6,7 @@ use bs_words::{Comp, Loc};
 use rv_isa::Register;
 
 /// A move of one value of the component `comp`. `Loc::Unset` is a location like any other here.
-#[derive(Clone, Copy, PartialEq, Eq, Debug)]
+#[derive(Clone, Copy)]
 pub struct Move {
     pub from: Loc,
     pub to: Loc,

@@ -10,7 +10,7 @@ use mach_ir::{Colours, Instr, Mach, Reg, Seq};
 use std::alloc::{AllocError, Global};
 
 /// Which registers are put at their places.
-#[derive(Clone, Copy, PartialEq, Eq, Debug)]
+#[derive(Clone, Copy)]
 pub(crate) enum Putting {
     /// Each of them.
     Everywhere,

@@ -3,7 +3,7 @@
 /// The rows of OP: `rd` becomes the operation on `rs1` and `rs2`, each of 64 bits. Sums, differences and products
 /// wrap, and `Xor`, `Or` and `And` go bit by bit. A quotient by 0 is 2^64 - 1, and its remainder `rs1` (the manual's
 /// chapter on the M extension).
-#[derive(Copy, Clone, PartialEq, Eq, Debug)]
+#[derive(Copy, Clone, Debug)]
 pub enum AluOp {
     Add,
     Sub,
@@ -39,7 +39,7 @@ pub enum AluOp {
 
 /// The rows of OP-32: the operation of the row of OP without the `w`, on the low 32 bits, its result extended by its
 /// sign. A shift is by the low 5 bits of `rs2`, and a quotient by 0 is 2^64 - 1 here too.
-#[derive(Copy, Clone, PartialEq, Eq, Debug)]
+#[derive(Copy, Clone, Debug)]
 pub enum AluWordOp {
     Addw,
     Subw,
@@ -55,7 +55,7 @@ pub enum AluWordOp {
 
 /// The rows of OP-IMM with a 12-bit immediate: the operation of the row of OP without the `i`, on `rs1` and the
 /// immediate, extended by its sign (in `Sltiu` too).
-#[derive(Copy, Clone, PartialEq, Eq, Debug)]
+#[derive(Copy, Clone, Debug)]
 pub enum AluImmOp {
     Addi,
     Slti,
@@ -66,7 +66,7 @@ pub enum AluImmOp {
 }
 
 /// The rows of OP-IMM that shift by a 6-bit amount: to the left, to the right with zeros, to the right with the sign.
-#[derive(Copy, Clone, PartialEq, Eq, Debug)]
+#[derive(Copy, Clone, Debug)]
 pub enum ShiftOp {
     Slli,
     Srli,
@@ -75,7 +75,7 @@ pub enum ShiftOp {
 
 /// The rows of OP-IMM-32 that shift the low 32 bits by a 5-bit amount, in the order of `ShiftOp`; the result is
 /// extended by its sign.
-#[derive(Copy, Clone, PartialEq, Eq, Debug)]
+#[derive(Copy, Clone, Debug)]
 pub enum ShiftWordOp {
     Slliw,
     Srliw,
@@ -84,7 +84,7 @@ pub enum ShiftWordOp {
 
 /// The rows of LOAD: 1, 2, 4 or 8 bytes (`b`, `h`, `w`, `d`), the lowest first. Fewer than 8 are extended by their
 /// sign, or with `u` by zeros.
-#[derive(Copy, Clone, PartialEq, Eq, Debug)]
+#[derive(Copy, Clone, Debug)]
 pub enum LoadWidth {
     Lb,
     Lh,
@@ -96,7 +96,7 @@ pub enum LoadWidth {
 }
 
 /// The rows of STORE: the low 1, 2, 4 or 8 bytes (`b`, `h`, `w`, `d`), the lowest first.
-#[derive(Copy, Clone, PartialEq, Eq, Debug)]
+#[derive(Copy, Clone, Debug)]
 pub enum StoreWidth {
     Sb,
     Sh,
@@ -105,7 +105,7 @@ pub enum StoreWidth {
 }
 
 /// The rows of BRANCH: equal, not equal, less, not less, and the last two on unsigned numbers (`u`).
-#[derive(Copy, Clone, PartialEq, Eq, Debug)]
+#[derive(Copy, Clone, Debug)]
 pub enum Condition {
     Beq,
     Bne,
@@ -117,7 +117,7 @@ pub enum Condition {
 
 /// An instruction. Registers are numbers from 0 to 31. An immediate is its bits as an unsigned
 /// number; what the instruction does extends them by their sign.
-#[derive(Copy, Clone, PartialEq, Eq, Debug)]
+#[derive(Copy, Clone, Debug)]
 pub enum Instr {
     /// `imm`: the upper 20 bits of a 32-bit number, 0 to 2^20 - 1.
     Lui {

@@ -7,7 +7,7 @@ ghost use Rattle.std.specs.Prelude.{◌≡◌, option_copied, slice_get};
 
 /// An integer register, x0 to x31, in the order of their numbers. Those that have no sentence hold values of a
 /// function (`COLOURS`), and some of them arguments of a call (`ARGUMENT_REGISTERS`).
-#[derive(Copy, Clone, PartialEq, Eq, Debug)]
+#[derive(Copy, Clone)]
 pub enum Register {
     /// Reads 0, and takes nothing.
     Zero,

@@ -4,7 +4,7 @@
 ghost use Rattle.std.specs.Prelude.{◌≡◌, ◌+◌, ◌*◌, ◌/◌, ◌%◌};
 
 /// The fields of a word, from its lowest bit: 7, 5, 3, 5, 5 and 7 bits.
-#[derive(Copy, Clone, PartialEq, Eq, Debug)]
+#[derive(Copy, Clone)]
 pub struct Fields {
     pub opcode: u8,
     pub rd: u8,

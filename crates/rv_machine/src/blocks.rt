@@ -4,7 +4,7 @@ ghost use Rattle.std.specs.Prelude.{◌≡◌};
 use std::marker::Model;
 
 /// The place of a block: the address of its first cell, and the number of its cells.
-#[derive(Debug, Drop)]
+#[derive(Drop)]
 pub struct BlockPlace {
     start: u64,
     words: u64,

@@ -1,7 +1,7 @@
 //! Why a machine stops.
 
 /// What stops a machine before its program ends.
-#[derive(Clone, Copy, PartialEq, Eq, Debug)]
+#[derive(Clone, Copy)]
 pub enum Cause {
     /// The program counter has left the code, or a taken target is no multiple of 4.
     BadFetch,

@@ -8,7 +8,7 @@ use crate::region::Region;
 use std::marker::Model;
 
 /// The regions that may be written. Contracts see their list, in the order of the fields.
-#[derive(Debug, Drop)]
+#[derive(Drop)]
 pub struct Memory {
     statics: Region,
     domain: Region,

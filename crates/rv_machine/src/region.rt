@@ -6,7 +6,7 @@ ghost use Rattle.bs_words.specs.Memory.{IsWidth};
 use std::marker::Model;
 
 /// A region: `bytes` bytes from the address `start` on. Contracts see its words.
-#[derive(Debug, Drop)]
+#[derive(Drop)]
 pub struct Region {
     start: u64,
     bytes: u64,

@@ -7,7 +7,7 @@ use std::alloc::AllocError;
 use thiserror::Error;
 
 /// What a run is given.
-#[derive(Debug, Drop)]
+#[derive(Drop)]
 pub struct Setup {
     /// The function that is called.
     pub entry: Name,
@@ -19,7 +19,7 @@ pub struct Setup {
 }
 
 /// An argument: a word, or the address of a symbol of the data.
-#[derive(Debug, Drop)]
+#[derive(Drop)]
 pub enum Arg {
     /// A word of 64 bits.
     Word(u64),
@@ -28,7 +28,7 @@ pub enum Arg {
 }
 
 /// Why there is no machine.
-#[derive(Clone, Copy, PartialEq, Eq, Debug, Error)]
+#[derive(Clone, Copy, Debug, Error)]
 pub enum LoadError {
     /// No function of the image has the entry's name.
     #[error("the image has no such function")]

@@ -8,7 +8,7 @@ use crate::table::Table;
 use std::alloc::{AllocError, Global};
 
 /// What moving blocks needs, so that no service takes memory.
-#[derive(Debug, Drop)]
+#[derive(Drop)]
 pub struct Space {
     pub table: Table,
     /// Room for the blocks of the young area.

@@ -2,7 +2,7 @@
 use crate::cause::Cause;
 
 /// What a step reports.
-#[derive(Clone, Copy, PartialEq, Eq, Debug)]
+#[derive(Clone, Copy)]
 pub enum StepEnd {
     /// The instruction has retired.
     Retired,

@@ -8,7 +8,7 @@ use std::alloc::{AllocError, Global};
 use std::marker::Model;
 
 /// A mark for each word of the heap and of the young area, found by its address; 0 is no mark.
-#[derive(Debug, Drop)]
+#[derive(Drop)]
 pub struct Table {
     // The bytes of each half of the heap.
     heap: u64,

@@ -8,7 +8,7 @@ use Rattle.bs_words.specs.Memory.{StaticList, Cell, InHeader, InBlock, InStatic,
 use Rattle.bs_words.specs.declared.values.Value.{Value}
 use Rattle.bs_words.specs.declared.values.Value.TheVariants.{Word, Block, Function}
 use Rattle.cmm_data.specs.Contents.{DataByte, Plain, OfFunction, little_endian, zeros, integer, symbol_bytes, bytes_at, bytes_of_items, number_of, word_of_bytes, cell_of, cells_of, static_list, first_memory}
-use Rattle.cmm_data.specs.Placement.{items_from, size_at, start_behind, end_behind, lists_behind, built_in, value_of_symbol}
+use Rattle.cmm_data.specs.Placement.{items_from, size_at, start_behind, end_behind, lists_behind, built_in_list, value_of_symbol}
 use Rattle.cmm_lex.proofs.Languages.{AreBytes}
 use Rattle.cmm_reader.specs.Text as said
 use Rattle.cmm_reader.specs.Text.{ReadsAs}
@@ -144,7 +144,7 @@ beginning_bounded file p = record { each = each }
     each : (cell : Cell) → Bounded (value_in (first_memory file) cell)
     each (InHeader s) = zero_word
     each (InBlock s i) = zero_word
-    each (InStatic l i) = lists_bounded (value_of_symbol file) data_start (built_in ∷ data_lists file) ((tt, (tt, tt)), lists_among file.items p) l i
+    each (InStatic l i) = lists_bounded (value_of_symbol file) data_start (built_in_list ∷ data_lists file) ((tt, (tt, tt)), lists_among file.items p) l i
 
 pub read_bytes : (text : List ℕ) (file : FileTree) → ReadsAs text (Ok file) → AreBytes text → ItemsBytes file.items
 read_bytes text _ (said.file tokens items short cut are faultless) bytes = items_bytes _ items tokens are (tokens_bytes 0 text tokens None cut bytes)

@@ -12,7 +12,7 @@ use mach_ir::{Instr, MachOp, Reg};
 use std::alloc::{AllocError, Global};
 
 /// A register is moved to itself before the instruction at a place.
-#[derive(Clone, Copy, Debug)]
+#[derive(Clone, Copy)]
 pub struct Move {
     pub reg: Reg,
     /// The number of instructions before that one.

@@ -10,7 +10,7 @@ use dataflow::{Flow, Rows};
 use std::alloc::{AllocError, Global};
 
 /// Before how many places a number was seen.
-#[derive(Clone, Copy, PartialEq, Eq, Debug)]
+#[derive(Clone, Copy)]
 pub enum Sight {
     /// Before none.
     Unseen,

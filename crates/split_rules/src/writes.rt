@@ -2,7 +2,7 @@
 
 /// A write of a register: how many instructions come after it, and the register's number. The entry
 /// writes the parameters, before all instructions.
-#[derive(Clone, Copy, PartialEq, Eq, Debug)]
+#[derive(Clone, Copy)]
 pub struct Write {
     pub left: u32,
     pub number: u32,

@@ -1,7 +1,7 @@
 //! The stages.
 
 /// A stage of the compiler, in the order in which a file goes through them (OCaml's `asmcomp/asmgen.ml`).
-#[derive(Clone, Copy, PartialEq, Eq, Debug, Drop)]
+#[derive(Clone, Copy, Drop)]
 pub enum Stage {
     /// Each function as it is selected.
     Select,

@@ -18,7 +18,7 @@ use std::alloc::{AllocError, Global};
 use thiserror::Error;
 
 /// A call of a function of a file.
-#[derive(Debug, Drop)]
+#[derive(Drop)]
 pub struct FileCall {
     /// The number of the function among those of the file.
     pub entry: u32,
@@ -29,7 +29,7 @@ pub struct FileCall {
 }
 
 /// Why no function of a file is called.
-#[derive(Clone, Copy, PartialEq, Eq, Debug, Drop, Error)]
+#[derive(Clone, Copy, Debug, Drop, Error)]
 pub enum CallRefusal {
     /// The file has no function of the entry's name.
     #[error("no function has the entry's name")]

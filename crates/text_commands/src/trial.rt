@@ -18,7 +18,7 @@ use std::alloc::Global;
 use std::thread::Threads;
 
 /// The image of a text, and the outcome of a run of one of its functions by its meaning.
-#[derive(Debug, Drop)]
+#[derive(Drop)]
 pub struct Trial {
     pub image: Image,
     pub outcome: List<u8>,

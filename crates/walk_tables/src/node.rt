@@ -7,7 +7,7 @@ ghost use Rattle.walk_tables.specs.declared.node.Step.TheVariants as steps;
 use crate::items::Action;
 
 /// What a walk does at a node.
-#[derive(Clone, Copy, PartialEq, Eq, Debug)]
+#[derive(Clone, Copy)]
 pub enum Step {
     /// No event.
     Quiet,
@@ -20,7 +20,7 @@ pub enum Step {
 }
 
 /// The nodes that may come next, by number. Most nodes have one or two, which need no memory of their own.
-#[derive(Debug, Drop)]
+#[derive(Drop)]
 pub enum Next {
     /// None: a walk ends there.
     Nowhere,
@@ -47,7 +47,7 @@ impl Next {
 }
 
 /// One node: what a walk does there, and the numbers of the nodes that may come next.
-#[derive(Debug, Drop)]
+#[derive(Drop)]
 pub struct Node {
     pub step: Step,
     pub next: Next,

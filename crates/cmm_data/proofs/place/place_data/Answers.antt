@@ -4,7 +4,7 @@ use Rattle.bs_words.specs.Fits.{data_limit, data_start}
 use Rattle.bs_words.specs.Memory.{StaticList}
 use Rattle.cmm_tree.specs.Tree.{ItemTree, AData, DataListTree, data_among}
 use Rattle.cmm_tree.specs.View.{item_view, file_view, data_list_view}
-use Rattle.cmm_data.specs.Placement.{start_behind, items_from, end_behind, end_of_lists, lists_behind, items_of_lists, symbols_among, value_of_symbol}
+use Rattle.cmm_data.specs.Placement.{start_behind, items_from, end_behind, end_of_lists, lists_behind, items_of_lists, placed_symbols, value_of_symbol}
 use Rattle.cmm_data.specs.Faults.{first_fault}
 use Rattle.cmm_data.specs.Contents.{static_list, roots_among}
 use Rattle.cmm_data.specs.Symbols.{value_in}
@@ -57,7 +57,7 @@ loop-item-preserved c =
           let ends = end-within (start_behind end) d.items (start-within end c.loop-item.invariant.within) sound.0 in
           let placed : cells_view w.in_ok-placed.placed ≡ static_list (value_in c.in_ok-table.table) (placed_list end d) =
           rw (w.start_behind-start.ensures, w.as_slice-items.ensures) at w.in_ok-placed.ensures.list in
-          let added_symbols : map symbol_view w.place_items.new.symbols.items ≡ map symbol_view c.loop-item.symbols.items ++ symbols_among (items_from (start_behind end) d.items) =
+          let added_symbols : map symbol_view w.place_items.new.symbols.items ≡ map symbol_view c.loop-item.symbols.items ++ placed_symbols (items_from (start_behind end) d.items) =
           rw (w.start_behind-start.ensures, w.as_slice-items.ensures) at w.in_ok-placed.ensures.symbols in
           let added_roots : w.place_items.new.roots.items ≡ c.loop-item.roots.items ++ roots_among (items_from (start_behind end) d.items) =
           rw (w.start_behind-start.ensures, w.as_slice-items.ensures) at w.in_ok-placed.ensures.roots in
@@ -76,10 +76,10 @@ loop-item-preserved c =
                 ∙ ap (λ e. end_of_lists e (data_among rest)) behind;
             symbols =
                 c.loop-item.invariant.symbols
-                ∙ ap (λ (l : List ItemTree). map symbol_view c.loop-item.symbols.items ++ symbols_among (items_of_lists (lists_behind end (data_among l)))) here
+                ∙ ap (λ (l : List ItemTree). map symbol_view c.loop-item.symbols.items ++ placed_symbols (items_of_lists (lists_behind end (data_among l)))) here
                 ∙ symbols-list (map symbol_view c.loop-item.symbols.items) (map symbol_view w.place_items.new.symbols.items) end d (data_among rest) added_symbols
-                ∙ ap (λ e. map symbol_view w.place_items.new.symbols.items ++ symbols_among (items_of_lists (lists_behind e (data_among rest)))) behind
-                ∙ ap (λ v. map symbol_view v.items ++ symbols_among (items_of_lists (lists_behind c.match-item.end (data_among rest)))) (sym w.symbols-is);
+                ∙ ap (λ e. map symbol_view w.place_items.new.symbols.items ++ placed_symbols (items_of_lists (lists_behind e (data_among rest)))) behind
+                ∙ ap (λ v. map symbol_view v.items ++ placed_symbols (items_of_lists (lists_behind c.match-item.end (data_among rest)))) (sym w.symbols-is);
             roots =
                 c.loop-item.invariant.roots
                 ∙ ap (λ (l : List ItemTree). c.loop-item.roots.items ++ roots_among (items_of_lists (lists_behind end (data_among l)))) here
@@ -117,9 +117,9 @@ loop-item-preserved c =
                 ∙ ap (λ e. end_of_lists e (data_among rest)) stays;
             symbols =
                 c.loop-item.invariant.symbols
-                ∙ ap (λ (l : List DataListTree). map symbol_view c.loop-item.symbols.items ++ symbols_among (items_of_lists (lists_behind end l))) here
-                ∙ ap (λ e. map symbol_view c.loop-item.symbols.items ++ symbols_among (items_of_lists (lists_behind e (data_among rest)))) stays
-                ∙ ap (λ v. map symbol_view v.items ++ symbols_among (items_of_lists (lists_behind c.match-item.end (data_among rest)))) (sym w.symbols-is);
+                ∙ ap (λ (l : List DataListTree). map symbol_view c.loop-item.symbols.items ++ placed_symbols (items_of_lists (lists_behind end l))) here
+                ∙ ap (λ e. map symbol_view c.loop-item.symbols.items ++ placed_symbols (items_of_lists (lists_behind e (data_among rest)))) stays
+                ∙ ap (λ v. map symbol_view v.items ++ placed_symbols (items_of_lists (lists_behind c.match-item.end (data_among rest)))) (sym w.symbols-is);
             roots =
                 c.loop-item.invariant.roots
                 ∙ ap (λ (l : List DataListTree). c.loop-item.roots.items ++ roots_among (items_of_lists (lists_behind end l))) here

@@ -2,7 +2,7 @@ use Rattle.std.proofs.Common.{◌≡◌, ◌+◌, ◌≤◌, ◌++◌, drop, map
 use Rattle.bs_words.specs.Fits.{data_limit, data_start}
 use Rattle.cmm_tree.specs.Tree.{data_among}
 use Rattle.cmm_tree.specs.View.{item_view, file_view}
-use Rattle.cmm_data.specs.Placement.{lists_behind, items_of_lists, end_of_lists, symbols_among, symbols_of, value_of_symbol, data_end}
+use Rattle.cmm_data.specs.Placement.{lists_behind, items_of_lists, end_of_lists, placed_symbols, symbols_of, value_of_symbol, data_end}
 use Rattle.cmm_data.specs.Faults.{first_fault}
 use Rattle.cmm_data.specs.Contents.{static_list, statics, roots_among, root_cells}
 use Rattle.cmm_data.specs.Map.{symbol_view, cells_view}
@@ -18,7 +18,7 @@ invariant-loop-item l =
       end : data_end (file_view l.file) ≡ end_of_lists l.end (data_among (map item_view (drop l.item-index l.item-items)));
       symbols :
           symbols_of (file_view l.file)
-          ≡ map symbol_view l.symbols.items ++ symbols_among (items_of_lists (lists_behind l.end (data_among (map item_view (drop l.item-index l.item-items)))));
+          ≡ map symbol_view l.symbols.items ++ placed_symbols (items_of_lists (lists_behind l.end (data_among (map item_view (drop l.item-index l.item-items)))));
       roots :
           root_cells (file_view l.file)
           ≡ l.roots.items ++ roots_among (items_of_lists (lists_behind l.end (data_among (map item_view (drop l.item-index l.item-items)))));

@@ -1,7 +1,7 @@
 use Rattle.std.proofs.Common.{◌≡◌, ◌+◌, ◌%◌, ◌<◌, ◌≤◌, ◌++◌, drop, map, None}
 use Rattle.bs_words.specs.Fits.{data_limit, data_start}
 use Rattle.cmm_tree.specs.View.{data_item_view}
-use Rattle.cmm_data.specs.Placement.{items_from, end_of_items, symbols_among}
+use Rattle.cmm_data.specs.Placement.{items_from, end_of_items, placed_symbols}
 use Rattle.cmm_data.specs.Faults.{first_fault}
 use Rattle.cmm_data.specs.Contents.{bytes_of_items, cells_of, roots_among}
 use Rattle.cmm_data.specs.Filling.{pending, cells_with}
@@ -20,8 +20,8 @@ invariant-loop-item l =
       small : pending l.filling < 8;
       place : pending l.filling ≡ l.address % 8;
       symbols :
-          map symbol_view l.fn.symbols.items ++ symbols_among (items_from l.start (map data_item_view l.items))
-          ≡ map symbol_view l.symbols.items ++ symbols_among (items_from l.address (map data_item_view (drop l.item-index l.items)));
+          map symbol_view l.fn.symbols.items ++ placed_symbols (items_from l.start (map data_item_view l.items))
+          ≡ map symbol_view l.symbols.items ++ placed_symbols (items_from l.address (map data_item_view (drop l.item-index l.items)));
       roots :
           l.fn.roots.items ++ roots_among (items_from l.start (map data_item_view l.items))
           ≡ l.roots.items ++ roots_among (items_from l.address (map data_item_view (drop l.item-index l.items)));

@@ -4,7 +4,7 @@ use Rattle.bs_words.specs.declared.values.Value.{Value}
 use Rattle.bs_words.specs.declared.values.Value.TheVariants as value
 use Rattle.cmm_tree.specs.Tree.{ItemTree, AFunction, AData, data_among, functions_among}
 use Rattle.cmm_tree.specs.View.{item_view, function_view, data_list_view}
-use Rattle.cmm_data.specs.Placement.{Definition, start_behind, items_from, end_behind, lists_behind, items_of_lists, defined_from, defined_by_list, value_among}
+use Rattle.cmm_data.specs.Placement.{DefinedValue, start_behind, items_from, end_behind, lists_behind, items_of_lists, defined_from, defined_by_list, value_among}
 use Rattle.bs_words.specs.Symbol.{caml_bound_error}
 use Rattle.cmm_data.specs.Faults.{first_fault}
 use Rattle.cmm_data.specs.Symbols.{value_in, Adds}
@@ -58,7 +58,7 @@ loop-item-preserved c = elim c.match-item.branch [
       let here : map item_view (drop k items) ≡ AFunction f ∷ rest =
       map_drop-cons item_view items k c.item-item.result c.loop-item-test.true c.item-item.is
       ∙ ap (λ i. item_view i ∷ rest) w.in-Function.is in
-      let d : Definition = record { name = f.name; value = value.Function c.loop-item.functions } in
+      let d : DefinedValue = record { name = f.name; value = value.Function c.loop-item.functions } in
       let adds : Adds c.loop-item.table w.define-in-Function.new.self (d ∷ []) = rw w.as_bytes.ensures at w.in_ok-define-in-Function.ensures in
       let next : suc c.loop-item.functions ≡ c.match-item.functions = omega (arith, w.functions-is) in
       let stays : c.loop-item.end ≡ c.match-item.end = sym w.end-is in
