@@ -8,7 +8,7 @@ use std::ops::Index;
 /// A list of items over a vector. Contracts see the items, first to last, as `contents`.
 ///
 /// It has no `Model`, so that it can be inside a recursive type.
-#[derive(Clone, Drop)]
+#[derive(Clone, Debug, Drop)]
 pub struct List<T> {
     items: Vec<T>,
 }
