@@ -1,4 +1,4 @@
-//! What `cmmc` says to each line of standard input, in tables.
+//! What `cmmc` and the layers below it say to each line of standard input, in tables.
 //!
 //! A line `= NAME` begins a table and prints nothing. The lines after it are the table's rows: `Subject` has the names, and
 //! what the rows of each table are about. The wanted lines of each table were made apart from this program.
@@ -17,6 +17,7 @@ fn main(rt: HostRuntime) -> Result<()> {
     let top = Called { alloc };
     let mut subject = Subject::Commands;
     let mut table = Table::new(&rt, &top, alloc);
+    let mut image = Vec::new(alloc);
     let mut out = BufWriter::new(alloc, rt.stdout())?;
     for line in BufReader::new(alloc, rt.stdin())?.lines(alloc) {
         let line = line?;
@@ -26,7 +27,7 @@ fn main(rt: HostRuntime) -> Result<()> {
                 table = Table::new(&rt, &top, alloc);
             }
             None => {
-                let said = subject.said_to(&mut table, line.as_str())?;
+                let said = subject.said_to(&mut table, &mut image, line.as_str())?;
                 out.write_all(said.as_slice())?;
             }
         }

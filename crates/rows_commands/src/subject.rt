@@ -1,6 +1,7 @@
 //! What the tables are about.
-use anyhow::{Result, bail};
+use anyhow::Result;
 use rows_answers::{devices, faults, limits, listings};
+use rows_base::Layer;
 use rows_compiled::{compiled, generated, jobs, plans};
 use rows_lines::{Table, Top};
 use rows_top::evaluated;
@@ -11,6 +12,10 @@ use std::thread::Threads;
 /// says to it is shown.
 #[derive(Clone, Copy)]
 pub(crate) enum Subject {
+    /// What a layer below the compiler says (`rows_base`).
+    Base(Layer),
+    /// How operations and structures of Mach and Linear print (`rows_stages`).
+    Stages,
     /// Words that are no command, values in and out of their grammars and limits, the commands' answers, and reads and
     /// writes that fail in turn. The answers were counted by hand.
     Commands,
@@ -55,6 +60,7 @@ impl Subject {
     /// The subject with this name.
     pub(crate) fn of(name: &str) -> Result<Subject> {
         match name {
+            "stages" => Ok(Subject::Stages),
             "commands" => Ok(Subject::Commands),
             "checks" => Ok(Subject::Checks),
             "faults" => Ok(Subject::Faults),
@@ -69,17 +75,20 @@ impl Subject {
             "held" => Ok(Subject::Held),
             "shared" => Ok(Subject::Shared),
             "evaluated" => Ok(Subject::Evaluated),
-            _ => bail!("no table: {name}"),
+            _ => Ok(Subject::Base(Layer::of(name)?)),
         }
     }
 
-    /// What is shown of a row.
+    /// What is shown of a row. `image` has the bytes of the last image that a row of `rows_base` gave.
     pub(crate) fn said_to<R: Threads + Sync, T: Top>(
         self,
         table: &mut Table<'_, R, T>,
+        image: &mut Vec<u8>,
         row: &str,
     ) -> Result<Vec<u8>> {
         match self {
+            Subject::Base(layer) => layer.said_to(table.alloc(), image, row),
+            Subject::Stages => rows_stages::said_to(table.alloc(), row),
             Subject::Commands | Subject::Checks | Subject::Operators | Subject::Images => {
                 Ok(table.said_to(row)?)
             }
