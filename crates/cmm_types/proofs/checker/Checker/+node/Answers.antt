@@ -1,6 +1,7 @@
 use Rattle.std.proofs.Common.{◌≡◌, ◌≢◌, ◌+◌, ◌<◌, ◌||◌, drop, get_or, set, length, refl, ap, sym, subst, ◌∙◌, arith, length-set, get_or-set_other, vec_len}
 use Rattle.std.proofs.Math.Bool.{or-false}
 use Rattle.std.proofs.lemmas.List.{at_drop_all, take_all}
+use Rattle.std.proofs.lemmas.Result.{IfOk-from_err}
 use Rattle.cmm_types.specs.Types.{with_bindings, with_parameters, type_without_float, type_of_last, row_holds_float, bindings_hold_float, cases_hold_float, handlers_hold_float, type_of_cases, type_of_handlers, join}
 use Rattle.cmm_tree.specs.Symbols.{definition_of}
 use Rattle.cmm_tree.specs.View.{expr_view, params_view, label_view}
@@ -484,3 +485,225 @@ visit_handler-returns-clause-names t c =
     left_parameters c.args.self.now.names c.visit.new.self.names c.leave.new.self (params_view c.args.handler.now.params.items) c.len-outer.result (c.len-outer.ensures ∙ ap length c.note_params.ensures.names)
     (c.in_ok-seen.ensures.names ∙ c.in_ok-bind_params.ensures.names ∙ ap (with_parameters (params_view c.as_slice-params.result.now)) c.note_params.ensures.names ∙ ap (λ l. with_parameters (params_view l) c.args.self.now.names) c.as_slice-params.ensures.value)
     c.leave.ensures
+
+-- ---- want of memory: no clause says anything of it
+
+pub bind-returns-in_err-seen : goal.bind-returns-in_err-seen
+bind-returns-in_err-seen t c =
+    let e = c.from_residual.ensures.0 in
+    record { view = IfOk-from_err _ _ e; value_view = IfOk-from_err _ _ e; typed = IfOk-from_err _ _ e; names = IfOk-from_err _ _ e; labels = IfOk-from_err _ _ e; found = IfOk-from_err _ _ e; float = IfOk-from_err _ _ e }
+
+pub bind-returns-in_err-bind : goal.bind-returns-in_err-bind
+bind-returns-in_err-bind t c =
+    let e = c.from_residual-in_err-bind.ensures.0 in
+    record { view = IfOk-from_err _ _ e; value_view = IfOk-from_err _ _ e; typed = IfOk-from_err _ _ e; names = IfOk-from_err _ _ e; labels = IfOk-from_err _ _ e; found = IfOk-from_err _ _ e; float = IfOk-from_err _ _ e }
+
+pub bind_all-returns-in_err-held : goal.bind_all-returns-in_err-held
+bind_all-returns-in_err-held t c =
+    let e = c.from_residual.ensures.0 in
+    record { view = IfOk-from_err _ _ e; typed = IfOk-from_err _ _ e; names = IfOk-from_err _ _ e; labels = IfOk-from_err _ _ e; found = IfOk-from_err _ _ e; float = IfOk-from_err _ _ e }
+
+pub binding_row-returns-in_err-held : goal.binding_row-returns-in_err-held
+binding_row-returns-in_err-held t c =
+    let e = c.from_residual.ensures.0 in
+    record { view = IfOk-from_err _ _ e; typed = IfOk-from_err _ _ e; names = IfOk-from_err _ _ e; labels = IfOk-from_err _ _ e; found = IfOk-from_err _ _ e; float = IfOk-from_err _ _ e }
+
+pub case_row-returns-in_err-seen : goal.case_row-returns-in_err-seen
+case_row-returns-in_err-seen t c =
+    let e = c.from_residual.ensures.0 in
+    record { view = IfOk-from_err _ _ e; typed = IfOk-from_err _ _ e; names = IfOk-from_err _ _ e; labels = IfOk-from_err _ _ e; found = IfOk-from_err _ _ e; plain = IfOk-from_err _ _ e; float = IfOk-from_err _ _ e }
+
+pub handler_row-returns-in_err-seen : goal.handler_row-returns-in_err-seen
+handler_row-returns-in_err-seen t c =
+    let e = c.from_residual.ensures.0 in
+    record { view = IfOk-from_err _ _ e; typed = IfOk-from_err _ _ e; names = IfOk-from_err _ _ e; labels = IfOk-from_err _ _ e; found = IfOk-from_err _ _ e; plain = IfOk-from_err _ _ e; float = IfOk-from_err _ _ e }
+
+pub operand-returns-in_err-seen : goal.operand-returns-in_err-seen
+operand-returns-in_err-seen t c =
+    let e = c.from_residual.ensures.0 in
+    record { view = IfOk-from_err _ _ e; typed = IfOk-from_err _ _ e; names = IfOk-from_err _ _ e; labels = IfOk-from_err _ _ e; found = IfOk-from_err _ _ e; plain = IfOk-from_err _ _ e; float = IfOk-from_err _ _ e }
+
+pub operands-returns-in_err-seen : goal.operands-returns-in_err-seen
+operands-returns-in_err-seen t c =
+    let e = c.from_residual.ensures.0 in
+    record { view = IfOk-from_err _ _ e; typed = IfOk-from_err _ _ e; names = IfOk-from_err _ _ e; labels = IfOk-from_err _ _ e; found = IfOk-from_err _ _ e; plain = IfOk-from_err _ _ e; float = IfOk-from_err _ _ e }
+
+pub row-returns-in_err-seen : goal.row-returns-in_err-seen
+row-returns-in_err-seen t c =
+    let e = c.from_residual.ensures.0 in
+    record { view = IfOk-from_err _ _ e; typed = IfOk-from_err _ _ e; names = IfOk-from_err _ _ e; labels = IfOk-from_err _ _ e; found = IfOk-from_err _ _ e; plain = IfOk-from_err _ _ e; float = IfOk-from_err _ _ e }
+
+pub visit-returns-in_err-seen : goal.visit-returns-in_err-seen
+visit-returns-in_err-seen t c =
+    let e = c.from_residual.ensures.0 in
+    record { view = IfOk-from_err _ _ e; typed = IfOk-from_err _ _ e; names = IfOk-from_err _ _ e; labels = IfOk-from_err _ _ e; found = IfOk-from_err _ _ e; plain = IfOk-from_err _ _ e; float = IfOk-from_err _ _ e }
+
+pub visit_branch-returns-in_err-tested-in-If : goal.visit_branch-returns-in_err-tested-in-If
+visit_branch-returns-in_err-tested-in-If t c =
+    let e = c.from_residual.ensures.0 in
+    record { view = IfOk-from_err _ _ e; typed = IfOk-from_err _ _ e; names = IfOk-from_err _ _ e; labels = IfOk-from_err _ _ e; found = IfOk-from_err _ _ e; plain = IfOk-from_err _ _ e; float = IfOk-from_err _ _ e }
+
+pub visit_branch-returns-in_err-first-in-If : goal.visit_branch-returns-in_err-first-in-If
+visit_branch-returns-in_err-first-in-If t c =
+    let e = c.from_residual-in_err-first-in-If.ensures.0 in
+    record { view = IfOk-from_err _ _ e; typed = IfOk-from_err _ _ e; names = IfOk-from_err _ _ e; labels = IfOk-from_err _ _ e; found = IfOk-from_err _ _ e; plain = IfOk-from_err _ _ e; float = IfOk-from_err _ _ e }
+
+pub visit_branch-returns-in_err-second-in-If : goal.visit_branch-returns-in_err-second-in-If
+visit_branch-returns-in_err-second-in-If t c =
+    let e = c.from_residual-in_err-second-in-If.ensures.0 in
+    record { view = IfOk-from_err _ _ e; typed = IfOk-from_err _ _ e; names = IfOk-from_err _ _ e; labels = IfOk-from_err _ _ e; found = IfOk-from_err _ _ e; plain = IfOk-from_err _ _ e; float = IfOk-from_err _ _ e }
+
+pub visit_branch-returns-in_err-chosen-in-Switch : goal.visit_branch-returns-in_err-chosen-in-Switch
+visit_branch-returns-in_err-chosen-in-Switch t c =
+    let e = c.from_residual-in_err-chosen-in-Switch.ensures.0 in
+    record { view = IfOk-from_err _ _ e; typed = IfOk-from_err _ _ e; names = IfOk-from_err _ _ e; labels = IfOk-from_err _ _ e; found = IfOk-from_err _ _ e; plain = IfOk-from_err _ _ e; float = IfOk-from_err _ _ e }
+
+pub visit_branch-returns-in_err-seen-in-Switch : goal.visit_branch-returns-in_err-seen-in-Switch
+visit_branch-returns-in_err-seen-in-Switch t c =
+    let e = c.from_residual-in_err-seen-in-Switch.ensures.0 in
+    record { view = IfOk-from_err _ _ e; typed = IfOk-from_err _ _ e; names = IfOk-from_err _ _ e; labels = IfOk-from_err _ _ e; found = IfOk-from_err _ _ e; plain = IfOk-from_err _ _ e; float = IfOk-from_err _ _ e }
+
+pub visit_call-returns-in_err-called-in-App : goal.visit_call-returns-in_err-called-in-App
+visit_call-returns-in_err-called-in-App t c =
+    let e = c.from_residual.ensures.0 in
+    record { view = IfOk-from_err _ _ e; typed = IfOk-from_err _ _ e; names = IfOk-from_err _ _ e; labels = IfOk-from_err _ _ e; found = IfOk-from_err _ _ e; plain = IfOk-from_err _ _ e; float = IfOk-from_err _ _ e }
+
+pub visit_call-returns-in_err-passed-in-App : goal.visit_call-returns-in_err-passed-in-App
+visit_call-returns-in_err-passed-in-App t c =
+    let e = c.from_residual-in_err-passed-in-App.ensures.0 in
+    record { view = IfOk-from_err _ _ e; typed = IfOk-from_err _ _ e; names = IfOk-from_err _ _ e; labels = IfOk-from_err _ _ e; found = IfOk-from_err _ _ e; plain = IfOk-from_err _ _ e; float = IfOk-from_err _ _ e }
+
+pub visit_call-returns-in_err-passed-in-Extcall : goal.visit_call-returns-in_err-passed-in-Extcall
+visit_call-returns-in_err-passed-in-Extcall t c =
+    let e = c.from_residual-in_err-passed-in-Extcall.ensures.0 in
+    record { view = IfOk-from_err _ _ e; typed = IfOk-from_err _ _ e; names = IfOk-from_err _ _ e; labels = IfOk-from_err _ _ e; found = IfOk-from_err _ _ e; plain = IfOk-from_err _ _ e; float = IfOk-from_err _ _ e }
+
+pub visit_cases-returns-in_err-seen : goal.visit_cases-returns-in_err-seen
+visit_cases-returns-in_err-seen t c =
+    let e = c.from_residual.ensures.0 in
+    record { view = IfOk-from_err _ _ e; typed = IfOk-from_err _ _ e; names = IfOk-from_err _ _ e; labels = IfOk-from_err _ _ e; found = IfOk-from_err _ _ e; plain = IfOk-from_err _ _ e; float = IfOk-from_err _ _ e }
+
+pub visit_handler-returns-in_err-bind_params : goal.visit_handler-returns-in_err-bind_params
+visit_handler-returns-in_err-bind_params t c =
+    let e = c.from_residual.ensures.0 in
+    record { view = IfOk-from_err _ _ e; body_view = IfOk-from_err _ _ e; typed = IfOk-from_err _ _ e; names = IfOk-from_err _ _ e; labels = IfOk-from_err _ _ e; found = IfOk-from_err _ _ e; plain = IfOk-from_err _ _ e; float = IfOk-from_err _ _ e }
+
+pub visit_handler-returns-in_err-seen : goal.visit_handler-returns-in_err-seen
+visit_handler-returns-in_err-seen t c =
+    let e = c.from_residual-in_err-seen.ensures.0 in
+    record { view = IfOk-from_err _ _ e; body_view = IfOk-from_err _ _ e; typed = IfOk-from_err _ _ e; names = IfOk-from_err _ _ e; labels = IfOk-from_err _ _ e; found = IfOk-from_err _ _ e; plain = IfOk-from_err _ _ e; float = IfOk-from_err _ _ e }
+
+pub visit_handlers-returns-in_err-seen : goal.visit_handlers-returns-in_err-seen
+visit_handlers-returns-in_err-seen t c =
+    let e = c.from_residual.ensures.0 in
+    record { view = IfOk-from_err _ _ e; typed = IfOk-from_err _ _ e; names = IfOk-from_err _ _ e; labels = IfOk-from_err _ _ e; found = IfOk-from_err _ _ e; plain = IfOk-from_err _ _ e; float = IfOk-from_err _ _ e }
+
+pub visit_operation-returns-in_err-seen-in-Assign : goal.visit_operation-returns-in_err-seen-in-Assign
+visit_operation-returns-in_err-seen-in-Assign t c =
+    let e = c.from_residual.ensures.0 in
+    record { view = IfOk-from_err _ _ e; typed = IfOk-from_err _ _ e; names = IfOk-from_err _ _ e; labels = IfOk-from_err _ _ e; found = IfOk-from_err _ _ e; plain = IfOk-from_err _ _ e; float = IfOk-from_err _ _ e }
+
+pub visit_operation-returns-in_err-first-in-Operator : goal.visit_operation-returns-in_err-first-in-Operator
+visit_operation-returns-in_err-first-in-Operator t c =
+    let e = c.from_residual-in_err-first-in-Operator.ensures.0 in
+    record { view = IfOk-from_err _ _ e; typed = IfOk-from_err _ _ e; names = IfOk-from_err _ _ e; labels = IfOk-from_err _ _ e; found = IfOk-from_err _ _ e; plain = IfOk-from_err _ _ e; float = IfOk-from_err _ _ e }
+
+pub visit_operation-returns-in_err-second-in-Operator : goal.visit_operation-returns-in_err-second-in-Operator
+visit_operation-returns-in_err-second-in-Operator t c =
+    let e = c.from_residual-in_err-second-in-Operator.ensures.0 in
+    record { view = IfOk-from_err _ _ e; typed = IfOk-from_err _ _ e; names = IfOk-from_err _ _ e; labels = IfOk-from_err _ _ e; found = IfOk-from_err _ _ e; plain = IfOk-from_err _ _ e; float = IfOk-from_err _ _ e }
+
+pub visit_operation-returns-in_err-seen-in-Load : goal.visit_operation-returns-in_err-seen-in-Load
+visit_operation-returns-in_err-seen-in-Load t c =
+    let e = c.from_residual-in_err-seen-in-Load.ensures.0 in
+    record { view = IfOk-from_err _ _ e; typed = IfOk-from_err _ _ e; names = IfOk-from_err _ _ e; labels = IfOk-from_err _ _ e; found = IfOk-from_err _ _ e; plain = IfOk-from_err _ _ e; float = IfOk-from_err _ _ e }
+
+pub visit_operation-returns-in_err-first-in-Store : goal.visit_operation-returns-in_err-first-in-Store
+visit_operation-returns-in_err-first-in-Store t c =
+    let e = c.from_residual-in_err-first-in-Store.ensures.0 in
+    record { view = IfOk-from_err _ _ e; typed = IfOk-from_err _ _ e; names = IfOk-from_err _ _ e; labels = IfOk-from_err _ _ e; found = IfOk-from_err _ _ e; plain = IfOk-from_err _ _ e; float = IfOk-from_err _ _ e }
+
+pub visit_operation-returns-in_err-second-in-Store : goal.visit_operation-returns-in_err-second-in-Store
+visit_operation-returns-in_err-second-in-Store t c =
+    let e = c.from_residual-in_err-second-in-Store.ensures.0 in
+    record { view = IfOk-from_err _ _ e; typed = IfOk-from_err _ _ e; names = IfOk-from_err _ _ e; labels = IfOk-from_err _ _ e; found = IfOk-from_err _ _ e; plain = IfOk-from_err _ _ e; float = IfOk-from_err _ _ e }
+
+pub visit_operation-returns-in_err-first-in-Checkbound : goal.visit_operation-returns-in_err-first-in-Checkbound
+visit_operation-returns-in_err-first-in-Checkbound t c =
+    let e = c.from_residual-in_err-first-in-Checkbound.ensures.0 in
+    record { view = IfOk-from_err _ _ e; typed = IfOk-from_err _ _ e; names = IfOk-from_err _ _ e; labels = IfOk-from_err _ _ e; found = IfOk-from_err _ _ e; plain = IfOk-from_err _ _ e; float = IfOk-from_err _ _ e }
+
+pub visit_operation-returns-in_err-second-in-Checkbound : goal.visit_operation-returns-in_err-second-in-Checkbound
+visit_operation-returns-in_err-second-in-Checkbound t c =
+    let e = c.from_residual-in_err-second-in-Checkbound.ensures.0 in
+    record { view = IfOk-from_err _ _ e; typed = IfOk-from_err _ _ e; names = IfOk-from_err _ _ e; labels = IfOk-from_err _ _ e; found = IfOk-from_err _ _ e; plain = IfOk-from_err _ _ e; float = IfOk-from_err _ _ e }
+
+pub visit_operation-returns-in_err-seen-in-Raise : goal.visit_operation-returns-in_err-seen-in-Raise
+visit_operation-returns-in_err-seen-in-Raise t c =
+    let e = c.from_residual-in_err-seen-in-Raise.ensures.0 in
+    record { view = IfOk-from_err _ _ e; typed = IfOk-from_err _ _ e; names = IfOk-from_err _ _ e; labels = IfOk-from_err _ _ e; found = IfOk-from_err _ _ e; plain = IfOk-from_err _ _ e; float = IfOk-from_err _ _ e }
+
+pub visit_row-returns-in_err-row-in-Float : goal.visit_row-returns-in_err-row-in-Float
+visit_row-returns-in_err-row-in-Float t c =
+    let e = c.from_residual.ensures.0 in
+    record { view = IfOk-from_err _ _ e; typed = IfOk-from_err _ _ e; names = IfOk-from_err _ _ e; labels = IfOk-from_err _ _ e; found = IfOk-from_err _ _ e; plain = IfOk-from_err _ _ e; float = IfOk-from_err _ _ e }
+
+pub visit_row-returns-in_err-seen-in-Alloc : goal.visit_row-returns-in_err-seen-in-Alloc
+visit_row-returns-in_err-seen-in-Alloc t c =
+    let e = c.from_residual-in_err-seen-in-Alloc.ensures.0 in
+    record { view = IfOk-from_err _ _ e; typed = IfOk-from_err _ _ e; names = IfOk-from_err _ _ e; labels = IfOk-from_err _ _ e; found = IfOk-from_err _ _ e; plain = IfOk-from_err _ _ e; float = IfOk-from_err _ _ e }
+
+pub visit_row-returns-in_err-seen-in-Seq : goal.visit_row-returns-in_err-seen-in-Seq
+visit_row-returns-in_err-seen-in-Seq t c =
+    let e = c.from_residual-in_err-seen-in-Seq.ensures.0 in
+    record { view = IfOk-from_err _ _ e; typed = IfOk-from_err _ _ e; names = IfOk-from_err _ _ e; labels = IfOk-from_err _ _ e; found = IfOk-from_err _ _ e; plain = IfOk-from_err _ _ e; float = IfOk-from_err _ _ e }
+
+pub visit_row-returns-in_err-passed-in-Exit : goal.visit_row-returns-in_err-passed-in-Exit
+visit_row-returns-in_err-passed-in-Exit t c =
+    let e = c.from_residual-in_err-passed-in-Exit.ensures.0 in
+    record { view = IfOk-from_err _ _ e; typed = IfOk-from_err _ _ e; names = IfOk-from_err _ _ e; labels = IfOk-from_err _ _ e; found = IfOk-from_err _ _ e; plain = IfOk-from_err _ _ e; float = IfOk-from_err _ _ e }
+
+pub visit_scope-returns-in_err-bound-in-Let : goal.visit_scope-returns-in_err-bound-in-Let
+visit_scope-returns-in_err-bound-in-Let t c =
+    let e = c.from_residual.ensures.0 in
+    record { view = IfOk-from_err _ _ e; typed = IfOk-from_err _ _ e; names = IfOk-from_err _ _ e; labels = IfOk-from_err _ _ e; found = IfOk-from_err _ _ e; plain = IfOk-from_err _ _ e; float = IfOk-from_err _ _ e }
+
+pub visit_scope-returns-in_err-seen-in-Let : goal.visit_scope-returns-in_err-seen-in-Let
+visit_scope-returns-in_err-seen-in-Let t c =
+    let e = c.from_residual-in_err-seen-in-Let.ensures.0 in
+    record { view = IfOk-from_err _ _ e; typed = IfOk-from_err _ _ e; names = IfOk-from_err _ _ e; labels = IfOk-from_err _ _ e; found = IfOk-from_err _ _ e; plain = IfOk-from_err _ _ e; float = IfOk-from_err _ _ e }
+
+pub visit_scope-returns-in_err-add_all-in-Catch : goal.visit_scope-returns-in_err-add_all-in-Catch
+visit_scope-returns-in_err-add_all-in-Catch t c =
+    let e = c.from_residual-in_err-add_all-in-Catch.ensures.0 in
+    record { view = IfOk-from_err _ _ e; typed = IfOk-from_err _ _ e; names = IfOk-from_err _ _ e; labels = IfOk-from_err _ _ e; found = IfOk-from_err _ _ e; plain = IfOk-from_err _ _ e; float = IfOk-from_err _ _ e }
+
+pub visit_scope-returns-in_err-first-in-Catch : goal.visit_scope-returns-in_err-first-in-Catch
+visit_scope-returns-in_err-first-in-Catch t c =
+    let e = c.from_residual-in_err-first-in-Catch.ensures.0 in
+    record { view = IfOk-from_err _ _ e; typed = IfOk-from_err _ _ e; names = IfOk-from_err _ _ e; labels = IfOk-from_err _ _ e; found = IfOk-from_err _ _ e; plain = IfOk-from_err _ _ e; float = IfOk-from_err _ _ e }
+
+pub visit_scope-returns-in_err-add_lasting-in-Catch : goal.visit_scope-returns-in_err-add_lasting-in-Catch
+visit_scope-returns-in_err-add_lasting-in-Catch t c =
+    let e = c.from_residual-in_err-add_lasting-in-Catch.ensures.0 in
+    record { view = IfOk-from_err _ _ e; typed = IfOk-from_err _ _ e; names = IfOk-from_err _ _ e; labels = IfOk-from_err _ _ e; found = IfOk-from_err _ _ e; plain = IfOk-from_err _ _ e; float = IfOk-from_err _ _ e }
+
+pub visit_scope-returns-in_err-second-in-Catch : goal.visit_scope-returns-in_err-second-in-Catch
+visit_scope-returns-in_err-second-in-Catch t c =
+    let e = c.from_residual-in_err-second-in-Catch.ensures.0 in
+    record { view = IfOk-from_err _ _ e; typed = IfOk-from_err _ _ e; names = IfOk-from_err _ _ e; labels = IfOk-from_err _ _ e; found = IfOk-from_err _ _ e; plain = IfOk-from_err _ _ e; float = IfOk-from_err _ _ e }
+
+pub visit_scope-returns-in_err-tried-in-Try : goal.visit_scope-returns-in_err-tried-in-Try
+visit_scope-returns-in_err-tried-in-Try t c =
+    let e = c.from_residual-in_err-tried-in-Try.ensures.0 in
+    record { view = IfOk-from_err _ _ e; typed = IfOk-from_err _ _ e; names = IfOk-from_err _ _ e; labels = IfOk-from_err _ _ e; found = IfOk-from_err _ _ e; plain = IfOk-from_err _ _ e; float = IfOk-from_err _ _ e }
+
+pub visit_scope-returns-in_err-bind-in-Try : goal.visit_scope-returns-in_err-bind-in-Try
+visit_scope-returns-in_err-bind-in-Try t c =
+    let e = c.from_residual-in_err-bind-in-Try.ensures.0 in
+    record { view = IfOk-from_err _ _ e; typed = IfOk-from_err _ _ e; names = IfOk-from_err _ _ e; labels = IfOk-from_err _ _ e; found = IfOk-from_err _ _ e; plain = IfOk-from_err _ _ e; float = IfOk-from_err _ _ e }
+
+pub visit_scope-returns-in_err-handled-in-Try : goal.visit_scope-returns-in_err-handled-in-Try
+visit_scope-returns-in_err-handled-in-Try t c =
+    let e = c.from_residual-in_err-handled-in-Try.ensures.0 in
+    record { view = IfOk-from_err _ _ e; typed = IfOk-from_err _ _ e; names = IfOk-from_err _ _ e; labels = IfOk-from_err _ _ e; found = IfOk-from_err _ _ e; plain = IfOk-from_err _ _ e; float = IfOk-from_err _ _ e }
