@@ -7,7 +7,8 @@ use Rattle.cmm_tree.specs.Tree.{Expression, Expressions, Bindings, Cases, Handle
 use Rattle.cmm_tree.specs.Tree as tree
 use Rattle.cmm_tree.specs.declared.expr.Expr.{Expr}
 use Rattle.cmm_types.specs.declared.role.Role.TheVariants as roles
-use Rattle.cmm_types.specs.Types.{Scoped, with_bindings, holds_float, row_holds_float, is_float_result}
+use Rattle.bs_words.specs.declared.types.Ty.{Ty}
+use Rattle.cmm_types.specs.Types.{Scoped, with_bindings, holds_float, row_holds_float, is_float_result, join, type_without_float, type_of_cases, type_of_handlers}
 use Rattle.cmm_types.specs.Standing.{Visible, handler_of, labels_of, lasting_labels_of}
 use Rattle.cmm_tree.specs.Symbols.{DefinedSymbol}
 use Rattle.cmm_types.specs.Faults.{row_length, is_header}
@@ -134,3 +135,20 @@ app_float w r g {w1} {r0} {g0} {called} {passed} {both} {given} {all} hw hr hg h
     ha
     ∙ ap (λ p. p || given) (hb ∙ ap (λ p. p || passed) (hc ∙ ap holds_float hw) ∙ ap (λ p. holds_float w || p) (hp ∙ ap row_holds_float hr))
     ∙ ap (λ p. (holds_float w || row_holds_float r) || p) (hi ∙ ap is_float_result hg)
+
+-- ---- types and floats, by those of the parts
+
+pub or_of : (c d : Bool) {a b both : Bool} → both ≡ (a || b) → a ≡ c → b ≡ d → both ≡ (c || d)
+or_of c d {a} {b} {both} h ha hb = h ∙ ap (λ p. p || b) ha ∙ ap (λ p. c || p) hb
+
+pub join_of : (c d : Ty) {a b both : Ty} → both ≡ join a b → a ≡ c → b ≡ d → both ≡ join c d
+join_of c d {a} {b} {both} h ha hb = h ∙ ap (λ p. join p b) ha ∙ ap (λ p. join c p) hb
+
+pub plain_of : (n : List Scoped) (w : Expression) {n0 : List Scoped} {w0 : Expression} {plain : Ty} → n0 ≡ n → w0 ≡ w → plain ≡ type_without_float n0 w0 → plain ≡ type_without_float n w
+plain_of n w {n0} {w0} {plain} hn hw h = h ∙ ap (λ p. type_without_float p w0) hn ∙ ap (type_without_float n) hw
+
+pub cases_plain_of : (n : List Scoped) (k : Cases) {n0 : List Scoped} {k0 : Cases} {plain : Ty} → n0 ≡ n → k0 ≡ k → plain ≡ type_of_cases n0 k0 → plain ≡ type_of_cases n k
+cases_plain_of n k {n0} {k0} {plain} hn hk h = h ∙ ap (λ p. type_of_cases p k0) hn ∙ ap (type_of_cases n) hk
+
+pub handlers_plain_of : (n : List Scoped) (k : Handlers) {n0 : List Scoped} {k0 : Handlers} {plain : Ty} → n0 ≡ n → k0 ≡ k → plain ≡ type_of_handlers n0 k0 → plain ≡ type_of_handlers n k
+handlers_plain_of n k {n0} {k0} {plain} hn hk h = h ∙ ap (λ p. type_of_handlers p k0) hn ∙ ap (type_of_handlers n) hk

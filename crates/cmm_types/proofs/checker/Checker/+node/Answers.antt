@@ -1,7 +1,8 @@
 use Rattle.std.proofs.Common.{◌≡◌, ◌≢◌, ◌+◌, ◌<◌, ◌||◌, drop, get_or, set, length, refl, ap, sym, subst, ◌∙◌, arith, length-set, get_or-set_other, vec_len}
 use Rattle.std.proofs.Math.Bool.{or-false}
 use Rattle.std.proofs.lemmas.List.{at_drop_all, take_all}
-use Rattle.cmm_types.specs.Types.{with_bindings, with_parameters, type_without_float, type_of_last, row_holds_float, bindings_hold_float, cases_hold_float, handlers_hold_float, type_of_cases, type_of_handlers, join}
+use Rattle.std.proofs.lemmas.Result.{IfOk-from_err}
+use Rattle.cmm_types.specs.Types.{with_bindings, with_parameters, type_without_float, type_of_last, holds_float, is_float_result, row_holds_float, bindings_hold_float, cases_hold_float, handlers_hold_float, type_of_cases, type_of_handlers, join}
 use Rattle.cmm_tree.specs.Symbols.{definition_of}
 use Rattle.cmm_tree.specs.View.{expr_view, params_view, label_view}
 use Rattle.cmm_types.specs.declared.role.Role.TheVariants as roles
@@ -16,7 +17,7 @@ use Rattle.cmm_tree.specs.View.{form_view}
 use Rattle.cmm_tree.proofs.Rows.{seq_view, exit_view, alloc_view, float_view, extcall_view, app_view, let_view, switch_view, catch_view}
 use Rattle.cmm_types.proofs.Views.{seq_typed, float_typed, exit_typed, alloc_typed, extcall_typed, app_typed, switch_typed, catch_typed}
 use Rattle.cmm_types.proofs.Arms.{told, plain_by, float_by, row_same, bindings_same, cases_same, handlers_same, lent_same, float_kept, alloc_kept, seq_kept, exit_kept, extcall_kept, app_kept, switch_kept, let_kept, catch_kept, left_bindings, left_parameters, left_labels, annotated_in, cases_in_scope, handlers_in_scope, one_in, let_annotated}
-use Rattle.cmm_types.proofs.Told.{count_is, float_found, alloc_found, exit_found, app_found, extcall_found, switch_found, let_found, catch_found, app_float}
+use Rattle.cmm_types.proofs.Told.{count_is, float_found, alloc_found, exit_found, app_found, extcall_found, switch_found, let_found, catch_found, app_float, or_of, join_of, plain_of, cases_plain_of, handlers_plain_of}
 use Rattle.cmm_types.specs.Standing.{labels_of}
 use borrow.Enum.Total.{values_d, values_d_at, values_o, values_o_at}
 use Rattle.cmm_tree.specs.contracts.expr.Form.{enum}
@@ -386,7 +387,7 @@ visit_call-returns-in_ok-passed-in-Extcall-clause-found t c =
 pub visit_call-returns-in_ok-passed-in-Extcall-clause-float : goal.visit_call-returns-in_ok-passed-in-Extcall-clause-float
 visit_call-returns-in_ok-passed-in-Extcall-clause-float t c =
     let same = row_same c.in-Extcall.arguments-is in
-    float_by _ (ap (form_view c.args.at) c.in-Extcall.is ∙ extcall_view c.args.at c.in-Extcall.frame c.in-Extcall.name c.in-Extcall.arguments c.in-Extcall.given c.in-Extcall.result_at) (cc (c.in_ok-passed-in-Extcall.ensures.float, c.either-in-Extcall.ensures, c.is_float_ret-in-Extcall.ensures, c.in-Extcall.given-is, same))
+    float_by _ (ap (form_view c.args.at) c.in-Extcall.is ∙ extcall_view c.args.at c.in-Extcall.frame c.in-Extcall.name c.in-Extcall.arguments c.in-Extcall.given c.in-Extcall.result_at) (or_of (row_holds_float (row_of c.in-Extcall.arguments.items)) (is_float_result c.in-Extcall.given) c.either-in-Extcall.ensures (c.in_ok-passed-in-Extcall.ensures.float ∙ ap row_holds_float same) (c.is_float_ret-in-Extcall.ensures ∙ ap is_float_result c.in-Extcall.given-is))
 
 pub visit_branch-returns-in_ok-seen-in-Switch-clause-view : goal.visit_branch-returns-in_ok-seen-in-Switch-clause-view
 visit_branch-returns-in_ok-seen-in-Switch-clause-view t c =
@@ -411,13 +412,13 @@ visit_branch-returns-in_ok-seen-in-Switch-clause-found t c =
 pub visit_branch-returns-in_ok-seen-in-Switch-clause-plain : goal.visit_branch-returns-in_ok-seen-in-Switch-clause-plain
 visit_branch-returns-in_ok-seen-in-Switch-clause-plain t c =
     let same = cases_same c.in-Switch.cases-is in
-    plain_by c.args.self.now.names _ (ap (form_view c.args.at) c.in-Switch.is ∙ switch_view c.args.at c.in-Switch.size_at c.in-Switch.size c.in-Switch.selector c.in-Switch.cases) (cc (c.in_ok-seen-in-Switch.ensures.plain, c.in_ok-chosen-in-Switch.ensures.names, same))
+    plain_by c.args.self.now.names _ (ap (form_view c.args.at) c.in-Switch.is ∙ switch_view c.args.at c.in-Switch.size_at c.in-Switch.size c.in-Switch.selector c.in-Switch.cases) (cases_plain_of c.args.self.now.names (cases_of c.in-Switch.cases.items) c.in_ok-chosen-in-Switch.ensures.names same c.in_ok-seen-in-Switch.ensures.plain)
 
 pub visit_branch-returns-in_ok-seen-in-Switch-clause-float : goal.visit_branch-returns-in_ok-seen-in-Switch-clause-float
 visit_branch-returns-in_ok-seen-in-Switch-clause-float t c =
     let same = cases_same c.in-Switch.cases-is in
     let lent = lent_same c.deref_mut-in-Switch.ensures.value c.in-Switch.selector-is in
-    float_by _ (ap (form_view c.args.at) c.in-Switch.is ∙ switch_view c.args.at c.in-Switch.size_at c.in-Switch.size c.in-Switch.selector c.in-Switch.cases) (cc (c.in_ok-seen-in-Switch.ensures.float, c.in_ok-chosen-in-Switch.ensures.float, c.either-in-Switch.ensures, same, lent))
+    float_by _ (ap (form_view c.args.at) c.in-Switch.is ∙ switch_view c.args.at c.in-Switch.size_at c.in-Switch.size c.in-Switch.selector c.in-Switch.cases) (or_of (holds_float (expr_view c.in-Switch.selector.value)) (cases_hold_float (cases_of c.in-Switch.cases.items)) c.either-in-Switch.ensures (c.in_ok-chosen-in-Switch.ensures.float ∙ ap holds_float lent) (c.in_ok-seen-in-Switch.ensures.float ∙ ap cases_hold_float same))
 
 pub visit_scope-returns-in_ok-seen-in-Let-clause-view : goal.visit_scope-returns-in_ok-seen-in-Let-clause-view
 visit_scope-returns-in_ok-seen-in-Let-clause-view t c =
@@ -441,13 +442,13 @@ pub visit_scope-returns-in_ok-seen-in-Let-clause-plain : goal.visit_scope-return
 visit_scope-returns-in_ok-seen-in-Let-clause-plain t c =
     let same = bindings_same c.in-Let.bindings-is in
     let lent = lent_same c.deref_mut.ensures.value c.in-Let.body-is in
-    plain_by c.args.self.now.names _ (ap (form_view c.args.at) c.in-Let.is ∙ let_view c.args.at c.in-Let.bindings c.in-Let.body) (cc (c.in_ok-seen-in-Let.ensures.plain, c.in_ok-bound-in-Let.ensures.names, same, lent))
+    plain_by c.args.self.now.names _ (ap (form_view c.args.at) c.in-Let.is ∙ let_view c.args.at c.in-Let.bindings c.in-Let.body) (plain_of (with_bindings c.args.self.now.names (bindings_of c.in-Let.bindings.items)) (expr_view c.in-Let.body.value) (c.in_ok-bound-in-Let.ensures.names ∙ ap (with_bindings c.args.self.now.names) same) lent c.in_ok-seen-in-Let.ensures.plain)
 
 pub visit_scope-returns-in_ok-seen-in-Let-clause-float : goal.visit_scope-returns-in_ok-seen-in-Let-clause-float
 visit_scope-returns-in_ok-seen-in-Let-clause-float t c =
     let same = bindings_same c.in-Let.bindings-is in
     let lent = lent_same c.deref_mut.ensures.value c.in-Let.body-is in
-    float_by _ (ap (form_view c.args.at) c.in-Let.is ∙ let_view c.args.at c.in-Let.bindings c.in-Let.body) (cc (c.in_ok-seen-in-Let.ensures.float, c.in_ok-bound-in-Let.ensures.float, c.either.ensures, same, lent))
+    float_by _ (ap (form_view c.args.at) c.in-Let.is ∙ let_view c.args.at c.in-Let.bindings c.in-Let.body) (or_of (bindings_hold_float (bindings_of c.in-Let.bindings.items)) (holds_float (expr_view c.in-Let.body.value)) c.either.ensures (c.in_ok-bound-in-Let.ensures.float ∙ ap bindings_hold_float same) (c.in_ok-seen-in-Let.ensures.float ∙ ap holds_float lent))
 
 pub visit_scope-returns-in_ok-second-in-Catch-clause-view : goal.visit_scope-returns-in_ok-second-in-Catch-clause-view
 visit_scope-returns-in_ok-second-in-Catch-clause-view t c =
@@ -471,16 +472,238 @@ pub visit_scope-returns-in_ok-second-in-Catch-clause-plain : goal.visit_scope-re
 visit_scope-returns-in_ok-second-in-Catch-clause-plain t c =
     let same = handlers_same c.in-Catch.handlers-is in
     let lent = lent_same c.deref_mut-in-Catch.ensures.value c.in-Catch.body-is in
-    plain_by c.args.self.now.names _ (ap (form_view c.args.at) c.in-Catch.is ∙ catch_view c.args.at c.in-Catch.body c.in-Catch.handlers) (cc (c.join.ensures, c.in_ok-second-in-Catch.ensures.plain, c.in_ok-first-in-Catch.ensures.plain, c.in_ok-first-in-Catch.ensures.names, c.note_repeated.ensures.names, same, lent))
+    plain_by c.args.self.now.names _ (ap (form_view c.args.at) c.in-Catch.is ∙ catch_view c.args.at c.in-Catch.body c.in-Catch.handlers) (join_of (type_without_float c.args.self.now.names (expr_view c.in-Catch.body.value)) (type_of_handlers c.args.self.now.names (handlers_of c.in-Catch.handlers.items)) c.join.ensures (plain_of c.args.self.now.names (expr_view c.in-Catch.body.value) c.note_repeated.ensures.names lent c.in_ok-first-in-Catch.ensures.plain) (handlers_plain_of c.args.self.now.names (handlers_of c.in-Catch.handlers.items) (c.in_ok-first-in-Catch.ensures.names ∙ c.note_repeated.ensures.names) same c.in_ok-second-in-Catch.ensures.plain))
 
 pub visit_scope-returns-in_ok-second-in-Catch-clause-float : goal.visit_scope-returns-in_ok-second-in-Catch-clause-float
 visit_scope-returns-in_ok-second-in-Catch-clause-float t c =
     let same = handlers_same c.in-Catch.handlers-is in
     let lent = lent_same c.deref_mut-in-Catch.ensures.value c.in-Catch.body-is in
-    float_by _ (ap (form_view c.args.at) c.in-Catch.is ∙ catch_view c.args.at c.in-Catch.body c.in-Catch.handlers) (cc (c.in_ok-second-in-Catch.ensures.float, c.in_ok-first-in-Catch.ensures.float, c.either-in-Catch.ensures, same, lent))
+    float_by _ (ap (form_view c.args.at) c.in-Catch.is ∙ catch_view c.args.at c.in-Catch.body c.in-Catch.handlers) (or_of (holds_float (expr_view c.in-Catch.body.value)) (handlers_hold_float (handlers_of c.in-Catch.handlers.items)) c.either-in-Catch.ensures (c.in_ok-first-in-Catch.ensures.float ∙ ap holds_float lent) (c.in_ok-second-in-Catch.ensures.float ∙ ap handlers_hold_float same))
 
 pub visit_handler-returns-clause-names : goal.visit_handler-returns-clause-names
 visit_handler-returns-clause-names t c =
     left_parameters c.args.self.now.names c.visit.new.self.names c.leave.new.self (params_view c.args.handler.now.params.items) c.len-outer.result (c.len-outer.ensures ∙ ap length c.note_params.ensures.names)
     (c.in_ok-seen.ensures.names ∙ c.in_ok-bind_params.ensures.names ∙ ap (with_parameters (params_view c.as_slice-params.result.now)) c.note_params.ensures.names ∙ ap (λ l. with_parameters (params_view l) c.args.self.now.names) c.as_slice-params.ensures.value)
     c.leave.ensures
+
+-- ---- want of memory: no clause says anything of it
+
+pub bind-returns-in_err-seen : goal.bind-returns-in_err-seen
+bind-returns-in_err-seen t c =
+    let e = c.from_residual.ensures.0 in
+    record { view = IfOk-from_err _ _ e; value_view = IfOk-from_err _ _ e; typed = IfOk-from_err _ _ e; names = IfOk-from_err _ _ e; labels = IfOk-from_err _ _ e; found = IfOk-from_err _ _ e; float = IfOk-from_err _ _ e }
+
+pub bind-returns-in_err-bind : goal.bind-returns-in_err-bind
+bind-returns-in_err-bind t c =
+    let e = c.from_residual-in_err-bind.ensures.0 in
+    record { view = IfOk-from_err _ _ e; value_view = IfOk-from_err _ _ e; typed = IfOk-from_err _ _ e; names = IfOk-from_err _ _ e; labels = IfOk-from_err _ _ e; found = IfOk-from_err _ _ e; float = IfOk-from_err _ _ e }
+
+pub bind_all-returns-in_err-held : goal.bind_all-returns-in_err-held
+bind_all-returns-in_err-held t c =
+    let e = c.from_residual.ensures.0 in
+    record { view = IfOk-from_err _ _ e; typed = IfOk-from_err _ _ e; names = IfOk-from_err _ _ e; labels = IfOk-from_err _ _ e; found = IfOk-from_err _ _ e; float = IfOk-from_err _ _ e }
+
+pub binding_row-returns-in_err-held : goal.binding_row-returns-in_err-held
+binding_row-returns-in_err-held t c =
+    let e = c.from_residual.ensures.0 in
+    record { view = IfOk-from_err _ _ e; typed = IfOk-from_err _ _ e; names = IfOk-from_err _ _ e; labels = IfOk-from_err _ _ e; found = IfOk-from_err _ _ e; float = IfOk-from_err _ _ e }
+
+pub case_row-returns-in_err-seen : goal.case_row-returns-in_err-seen
+case_row-returns-in_err-seen t c =
+    let e = c.from_residual.ensures.0 in
+    record { view = IfOk-from_err _ _ e; typed = IfOk-from_err _ _ e; names = IfOk-from_err _ _ e; labels = IfOk-from_err _ _ e; found = IfOk-from_err _ _ e; plain = IfOk-from_err _ _ e; float = IfOk-from_err _ _ e }
+
+pub handler_row-returns-in_err-seen : goal.handler_row-returns-in_err-seen
+handler_row-returns-in_err-seen t c =
+    let e = c.from_residual.ensures.0 in
+    record { view = IfOk-from_err _ _ e; typed = IfOk-from_err _ _ e; names = IfOk-from_err _ _ e; labels = IfOk-from_err _ _ e; found = IfOk-from_err _ _ e; plain = IfOk-from_err _ _ e; float = IfOk-from_err _ _ e }
+
+pub operand-returns-in_err-seen : goal.operand-returns-in_err-seen
+operand-returns-in_err-seen t c =
+    let e = c.from_residual.ensures.0 in
+    record { view = IfOk-from_err _ _ e; typed = IfOk-from_err _ _ e; names = IfOk-from_err _ _ e; labels = IfOk-from_err _ _ e; found = IfOk-from_err _ _ e; plain = IfOk-from_err _ _ e; float = IfOk-from_err _ _ e }
+
+pub operands-returns-in_err-seen : goal.operands-returns-in_err-seen
+operands-returns-in_err-seen t c =
+    let e = c.from_residual.ensures.0 in
+    record { view = IfOk-from_err _ _ e; typed = IfOk-from_err _ _ e; names = IfOk-from_err _ _ e; labels = IfOk-from_err _ _ e; found = IfOk-from_err _ _ e; plain = IfOk-from_err _ _ e; float = IfOk-from_err _ _ e }
+
+pub row-returns-in_err-seen : goal.row-returns-in_err-seen
+row-returns-in_err-seen t c =
+    let e = c.from_residual.ensures.0 in
+    record { view = IfOk-from_err _ _ e; typed = IfOk-from_err _ _ e; names = IfOk-from_err _ _ e; labels = IfOk-from_err _ _ e; found = IfOk-from_err _ _ e; plain = IfOk-from_err _ _ e; float = IfOk-from_err _ _ e }
+
+pub visit-returns-in_err-seen : goal.visit-returns-in_err-seen
+visit-returns-in_err-seen t c =
+    let e = c.from_residual.ensures.0 in
+    record { view = IfOk-from_err _ _ e; typed = IfOk-from_err _ _ e; names = IfOk-from_err _ _ e; labels = IfOk-from_err _ _ e; found = IfOk-from_err _ _ e; plain = IfOk-from_err _ _ e; float = IfOk-from_err _ _ e }
+
+pub visit_branch-returns-in_err-tested-in-If : goal.visit_branch-returns-in_err-tested-in-If
+visit_branch-returns-in_err-tested-in-If t c =
+    let e = c.from_residual.ensures.0 in
+    record { view = IfOk-from_err _ _ e; typed = IfOk-from_err _ _ e; names = IfOk-from_err _ _ e; labels = IfOk-from_err _ _ e; found = IfOk-from_err _ _ e; plain = IfOk-from_err _ _ e; float = IfOk-from_err _ _ e }
+
+pub visit_branch-returns-in_err-first-in-If : goal.visit_branch-returns-in_err-first-in-If
+visit_branch-returns-in_err-first-in-If t c =
+    let e = c.from_residual-in_err-first-in-If.ensures.0 in
+    record { view = IfOk-from_err _ _ e; typed = IfOk-from_err _ _ e; names = IfOk-from_err _ _ e; labels = IfOk-from_err _ _ e; found = IfOk-from_err _ _ e; plain = IfOk-from_err _ _ e; float = IfOk-from_err _ _ e }
+
+pub visit_branch-returns-in_err-second-in-If : goal.visit_branch-returns-in_err-second-in-If
+visit_branch-returns-in_err-second-in-If t c =
+    let e = c.from_residual-in_err-second-in-If.ensures.0 in
+    record { view = IfOk-from_err _ _ e; typed = IfOk-from_err _ _ e; names = IfOk-from_err _ _ e; labels = IfOk-from_err _ _ e; found = IfOk-from_err _ _ e; plain = IfOk-from_err _ _ e; float = IfOk-from_err _ _ e }
+
+pub visit_branch-returns-in_err-chosen-in-Switch : goal.visit_branch-returns-in_err-chosen-in-Switch
+visit_branch-returns-in_err-chosen-in-Switch t c =
+    let e = c.from_residual-in_err-chosen-in-Switch.ensures.0 in
+    record { view = IfOk-from_err _ _ e; typed = IfOk-from_err _ _ e; names = IfOk-from_err _ _ e; labels = IfOk-from_err _ _ e; found = IfOk-from_err _ _ e; plain = IfOk-from_err _ _ e; float = IfOk-from_err _ _ e }
+
+pub visit_branch-returns-in_err-seen-in-Switch : goal.visit_branch-returns-in_err-seen-in-Switch
+visit_branch-returns-in_err-seen-in-Switch t c =
+    let e = c.from_residual-in_err-seen-in-Switch.ensures.0 in
+    record { view = IfOk-from_err _ _ e; typed = IfOk-from_err _ _ e; names = IfOk-from_err _ _ e; labels = IfOk-from_err _ _ e; found = IfOk-from_err _ _ e; plain = IfOk-from_err _ _ e; float = IfOk-from_err _ _ e }
+
+pub visit_call-returns-in_err-called-in-App : goal.visit_call-returns-in_err-called-in-App
+visit_call-returns-in_err-called-in-App t c =
+    let e = c.from_residual.ensures.0 in
+    record { view = IfOk-from_err _ _ e; typed = IfOk-from_err _ _ e; names = IfOk-from_err _ _ e; labels = IfOk-from_err _ _ e; found = IfOk-from_err _ _ e; plain = IfOk-from_err _ _ e; float = IfOk-from_err _ _ e }
+
+pub visit_call-returns-in_err-passed-in-App : goal.visit_call-returns-in_err-passed-in-App
+visit_call-returns-in_err-passed-in-App t c =
+    let e = c.from_residual-in_err-passed-in-App.ensures.0 in
+    record { view = IfOk-from_err _ _ e; typed = IfOk-from_err _ _ e; names = IfOk-from_err _ _ e; labels = IfOk-from_err _ _ e; found = IfOk-from_err _ _ e; plain = IfOk-from_err _ _ e; float = IfOk-from_err _ _ e }
+
+pub visit_call-returns-in_err-passed-in-Extcall : goal.visit_call-returns-in_err-passed-in-Extcall
+visit_call-returns-in_err-passed-in-Extcall t c =
+    let e = c.from_residual-in_err-passed-in-Extcall.ensures.0 in
+    record { view = IfOk-from_err _ _ e; typed = IfOk-from_err _ _ e; names = IfOk-from_err _ _ e; labels = IfOk-from_err _ _ e; found = IfOk-from_err _ _ e; plain = IfOk-from_err _ _ e; float = IfOk-from_err _ _ e }
+
+pub visit_cases-returns-in_err-seen : goal.visit_cases-returns-in_err-seen
+visit_cases-returns-in_err-seen t c =
+    let e = c.from_residual.ensures.0 in
+    record { view = IfOk-from_err _ _ e; typed = IfOk-from_err _ _ e; names = IfOk-from_err _ _ e; labels = IfOk-from_err _ _ e; found = IfOk-from_err _ _ e; plain = IfOk-from_err _ _ e; float = IfOk-from_err _ _ e }
+
+pub visit_handler-returns-in_err-bind_params : goal.visit_handler-returns-in_err-bind_params
+visit_handler-returns-in_err-bind_params t c =
+    let e = c.from_residual.ensures.0 in
+    record { view = IfOk-from_err _ _ e; body_view = IfOk-from_err _ _ e; typed = IfOk-from_err _ _ e; names = IfOk-from_err _ _ e; labels = IfOk-from_err _ _ e; found = IfOk-from_err _ _ e; plain = IfOk-from_err _ _ e; float = IfOk-from_err _ _ e }
+
+pub visit_handler-returns-in_err-seen : goal.visit_handler-returns-in_err-seen
+visit_handler-returns-in_err-seen t c =
+    let e = c.from_residual-in_err-seen.ensures.0 in
+    record { view = IfOk-from_err _ _ e; body_view = IfOk-from_err _ _ e; typed = IfOk-from_err _ _ e; names = IfOk-from_err _ _ e; labels = IfOk-from_err _ _ e; found = IfOk-from_err _ _ e; plain = IfOk-from_err _ _ e; float = IfOk-from_err _ _ e }
+
+pub visit_handlers-returns-in_err-seen : goal.visit_handlers-returns-in_err-seen
+visit_handlers-returns-in_err-seen t c =
+    let e = c.from_residual.ensures.0 in
+    record { view = IfOk-from_err _ _ e; typed = IfOk-from_err _ _ e; names = IfOk-from_err _ _ e; labels = IfOk-from_err _ _ e; found = IfOk-from_err _ _ e; plain = IfOk-from_err _ _ e; float = IfOk-from_err _ _ e }
+
+pub visit_operation-returns-in_err-seen-in-Assign : goal.visit_operation-returns-in_err-seen-in-Assign
+visit_operation-returns-in_err-seen-in-Assign t c =
+    let e = c.from_residual.ensures.0 in
+    record { view = IfOk-from_err _ _ e; typed = IfOk-from_err _ _ e; names = IfOk-from_err _ _ e; labels = IfOk-from_err _ _ e; found = IfOk-from_err _ _ e; plain = IfOk-from_err _ _ e; float = IfOk-from_err _ _ e }
+
+pub visit_operation-returns-in_err-first-in-Operator : goal.visit_operation-returns-in_err-first-in-Operator
+visit_operation-returns-in_err-first-in-Operator t c =
+    let e = c.from_residual-in_err-first-in-Operator.ensures.0 in
+    record { view = IfOk-from_err _ _ e; typed = IfOk-from_err _ _ e; names = IfOk-from_err _ _ e; labels = IfOk-from_err _ _ e; found = IfOk-from_err _ _ e; plain = IfOk-from_err _ _ e; float = IfOk-from_err _ _ e }
+
+pub visit_operation-returns-in_err-second-in-Operator : goal.visit_operation-returns-in_err-second-in-Operator
+visit_operation-returns-in_err-second-in-Operator t c =
+    let e = c.from_residual-in_err-second-in-Operator.ensures.0 in
+    record { view = IfOk-from_err _ _ e; typed = IfOk-from_err _ _ e; names = IfOk-from_err _ _ e; labels = IfOk-from_err _ _ e; found = IfOk-from_err _ _ e; plain = IfOk-from_err _ _ e; float = IfOk-from_err _ _ e }
+
+pub visit_operation-returns-in_err-seen-in-Load : goal.visit_operation-returns-in_err-seen-in-Load
+visit_operation-returns-in_err-seen-in-Load t c =
+    let e = c.from_residual-in_err-seen-in-Load.ensures.0 in
+    record { view = IfOk-from_err _ _ e; typed = IfOk-from_err _ _ e; names = IfOk-from_err _ _ e; labels = IfOk-from_err _ _ e; found = IfOk-from_err _ _ e; plain = IfOk-from_err _ _ e; float = IfOk-from_err _ _ e }
+
+pub visit_operation-returns-in_err-first-in-Store : goal.visit_operation-returns-in_err-first-in-Store
+visit_operation-returns-in_err-first-in-Store t c =
+    let e = c.from_residual-in_err-first-in-Store.ensures.0 in
+    record { view = IfOk-from_err _ _ e; typed = IfOk-from_err _ _ e; names = IfOk-from_err _ _ e; labels = IfOk-from_err _ _ e; found = IfOk-from_err _ _ e; plain = IfOk-from_err _ _ e; float = IfOk-from_err _ _ e }
+
+pub visit_operation-returns-in_err-second-in-Store : goal.visit_operation-returns-in_err-second-in-Store
+visit_operation-returns-in_err-second-in-Store t c =
+    let e = c.from_residual-in_err-second-in-Store.ensures.0 in
+    record { view = IfOk-from_err _ _ e; typed = IfOk-from_err _ _ e; names = IfOk-from_err _ _ e; labels = IfOk-from_err _ _ e; found = IfOk-from_err _ _ e; plain = IfOk-from_err _ _ e; float = IfOk-from_err _ _ e }
+
+pub visit_operation-returns-in_err-first-in-Checkbound : goal.visit_operation-returns-in_err-first-in-Checkbound
+visit_operation-returns-in_err-first-in-Checkbound t c =
+    let e = c.from_residual-in_err-first-in-Checkbound.ensures.0 in
+    record { view = IfOk-from_err _ _ e; typed = IfOk-from_err _ _ e; names = IfOk-from_err _ _ e; labels = IfOk-from_err _ _ e; found = IfOk-from_err _ _ e; plain = IfOk-from_err _ _ e; float = IfOk-from_err _ _ e }
+
+pub visit_operation-returns-in_err-second-in-Checkbound : goal.visit_operation-returns-in_err-second-in-Checkbound
+visit_operation-returns-in_err-second-in-Checkbound t c =
+    let e = c.from_residual-in_err-second-in-Checkbound.ensures.0 in
+    record { view = IfOk-from_err _ _ e; typed = IfOk-from_err _ _ e; names = IfOk-from_err _ _ e; labels = IfOk-from_err _ _ e; found = IfOk-from_err _ _ e; plain = IfOk-from_err _ _ e; float = IfOk-from_err _ _ e }
+
+pub visit_operation-returns-in_err-seen-in-Raise : goal.visit_operation-returns-in_err-seen-in-Raise
+visit_operation-returns-in_err-seen-in-Raise t c =
+    let e = c.from_residual-in_err-seen-in-Raise.ensures.0 in
+    record { view = IfOk-from_err _ _ e; typed = IfOk-from_err _ _ e; names = IfOk-from_err _ _ e; labels = IfOk-from_err _ _ e; found = IfOk-from_err _ _ e; plain = IfOk-from_err _ _ e; float = IfOk-from_err _ _ e }
+
+pub visit_row-returns-in_err-row-in-Float : goal.visit_row-returns-in_err-row-in-Float
+visit_row-returns-in_err-row-in-Float t c =
+    let e = c.from_residual.ensures.0 in
+    record { view = IfOk-from_err _ _ e; typed = IfOk-from_err _ _ e; names = IfOk-from_err _ _ e; labels = IfOk-from_err _ _ e; found = IfOk-from_err _ _ e; plain = IfOk-from_err _ _ e; float = IfOk-from_err _ _ e }
+
+pub visit_row-returns-in_err-seen-in-Alloc : goal.visit_row-returns-in_err-seen-in-Alloc
+visit_row-returns-in_err-seen-in-Alloc t c =
+    let e = c.from_residual-in_err-seen-in-Alloc.ensures.0 in
+    record { view = IfOk-from_err _ _ e; typed = IfOk-from_err _ _ e; names = IfOk-from_err _ _ e; labels = IfOk-from_err _ _ e; found = IfOk-from_err _ _ e; plain = IfOk-from_err _ _ e; float = IfOk-from_err _ _ e }
+
+pub visit_row-returns-in_err-seen-in-Seq : goal.visit_row-returns-in_err-seen-in-Seq
+visit_row-returns-in_err-seen-in-Seq t c =
+    let e = c.from_residual-in_err-seen-in-Seq.ensures.0 in
+    record { view = IfOk-from_err _ _ e; typed = IfOk-from_err _ _ e; names = IfOk-from_err _ _ e; labels = IfOk-from_err _ _ e; found = IfOk-from_err _ _ e; plain = IfOk-from_err _ _ e; float = IfOk-from_err _ _ e }
+
+pub visit_row-returns-in_err-passed-in-Exit : goal.visit_row-returns-in_err-passed-in-Exit
+visit_row-returns-in_err-passed-in-Exit t c =
+    let e = c.from_residual-in_err-passed-in-Exit.ensures.0 in
+    record { view = IfOk-from_err _ _ e; typed = IfOk-from_err _ _ e; names = IfOk-from_err _ _ e; labels = IfOk-from_err _ _ e; found = IfOk-from_err _ _ e; plain = IfOk-from_err _ _ e; float = IfOk-from_err _ _ e }
+
+pub visit_scope-returns-in_err-bound-in-Let : goal.visit_scope-returns-in_err-bound-in-Let
+visit_scope-returns-in_err-bound-in-Let t c =
+    let e = c.from_residual.ensures.0 in
+    record { view = IfOk-from_err _ _ e; typed = IfOk-from_err _ _ e; names = IfOk-from_err _ _ e; labels = IfOk-from_err _ _ e; found = IfOk-from_err _ _ e; plain = IfOk-from_err _ _ e; float = IfOk-from_err _ _ e }
+
+pub visit_scope-returns-in_err-seen-in-Let : goal.visit_scope-returns-in_err-seen-in-Let
+visit_scope-returns-in_err-seen-in-Let t c =
+    let e = c.from_residual-in_err-seen-in-Let.ensures.0 in
+    record { view = IfOk-from_err _ _ e; typed = IfOk-from_err _ _ e; names = IfOk-from_err _ _ e; labels = IfOk-from_err _ _ e; found = IfOk-from_err _ _ e; plain = IfOk-from_err _ _ e; float = IfOk-from_err _ _ e }
+
+pub visit_scope-returns-in_err-add_all-in-Catch : goal.visit_scope-returns-in_err-add_all-in-Catch
+visit_scope-returns-in_err-add_all-in-Catch t c =
+    let e = c.from_residual-in_err-add_all-in-Catch.ensures.0 in
+    record { view = IfOk-from_err _ _ e; typed = IfOk-from_err _ _ e; names = IfOk-from_err _ _ e; labels = IfOk-from_err _ _ e; found = IfOk-from_err _ _ e; plain = IfOk-from_err _ _ e; float = IfOk-from_err _ _ e }
+
+pub visit_scope-returns-in_err-first-in-Catch : goal.visit_scope-returns-in_err-first-in-Catch
+visit_scope-returns-in_err-first-in-Catch t c =
+    let e = c.from_residual-in_err-first-in-Catch.ensures.0 in
+    record { view = IfOk-from_err _ _ e; typed = IfOk-from_err _ _ e; names = IfOk-from_err _ _ e; labels = IfOk-from_err _ _ e; found = IfOk-from_err _ _ e; plain = IfOk-from_err _ _ e; float = IfOk-from_err _ _ e }
+
+pub visit_scope-returns-in_err-add_lasting-in-Catch : goal.visit_scope-returns-in_err-add_lasting-in-Catch
+visit_scope-returns-in_err-add_lasting-in-Catch t c =
+    let e = c.from_residual-in_err-add_lasting-in-Catch.ensures.0 in
+    record { view = IfOk-from_err _ _ e; typed = IfOk-from_err _ _ e; names = IfOk-from_err _ _ e; labels = IfOk-from_err _ _ e; found = IfOk-from_err _ _ e; plain = IfOk-from_err _ _ e; float = IfOk-from_err _ _ e }
+
+pub visit_scope-returns-in_err-second-in-Catch : goal.visit_scope-returns-in_err-second-in-Catch
+visit_scope-returns-in_err-second-in-Catch t c =
+    let e = c.from_residual-in_err-second-in-Catch.ensures.0 in
+    record { view = IfOk-from_err _ _ e; typed = IfOk-from_err _ _ e; names = IfOk-from_err _ _ e; labels = IfOk-from_err _ _ e; found = IfOk-from_err _ _ e; plain = IfOk-from_err _ _ e; float = IfOk-from_err _ _ e }
+
+pub visit_scope-returns-in_err-tried-in-Try : goal.visit_scope-returns-in_err-tried-in-Try
+visit_scope-returns-in_err-tried-in-Try t c =
+    let e = c.from_residual-in_err-tried-in-Try.ensures.0 in
+    record { view = IfOk-from_err _ _ e; typed = IfOk-from_err _ _ e; names = IfOk-from_err _ _ e; labels = IfOk-from_err _ _ e; found = IfOk-from_err _ _ e; plain = IfOk-from_err _ _ e; float = IfOk-from_err _ _ e }
+
+pub visit_scope-returns-in_err-bind-in-Try : goal.visit_scope-returns-in_err-bind-in-Try
+visit_scope-returns-in_err-bind-in-Try t c =
+    let e = c.from_residual-in_err-bind-in-Try.ensures.0 in
+    record { view = IfOk-from_err _ _ e; typed = IfOk-from_err _ _ e; names = IfOk-from_err _ _ e; labels = IfOk-from_err _ _ e; found = IfOk-from_err _ _ e; plain = IfOk-from_err _ _ e; float = IfOk-from_err _ _ e }
+
+pub visit_scope-returns-in_err-handled-in-Try : goal.visit_scope-returns-in_err-handled-in-Try
+visit_scope-returns-in_err-handled-in-Try t c =
+    let e = c.from_residual-in_err-handled-in-Try.ensures.0 in
+    record { view = IfOk-from_err _ _ e; typed = IfOk-from_err _ _ e; names = IfOk-from_err _ _ e; labels = IfOk-from_err _ _ e; found = IfOk-from_err _ _ e; plain = IfOk-from_err _ _ e; float = IfOk-from_err _ _ e }
