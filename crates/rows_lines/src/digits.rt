@@ -1,4 +1,6 @@
 //! Bytes as hexadecimal digits, two a byte.
+ghost use Rattle.std.specs.Prelude.{◌<◌};
+
 use std::alloc::{AllocError, Global};
 
 /// The bytes that these digits write.
@@ -28,17 +30,24 @@ fn value_of(digit: u8) -> u8 {
 }
 
 /// Puts the digits of the bytes, and the end of a line where there are any, after what is there.
-pub(crate) fn push_digits(
-    alloc: Global,
-    said: &mut Vec<u8>,
-    bytes: &[u8],
-) -> Result<(), AllocError> {
+pub(crate) fn push_digits(said: &mut Vec<u8>, bytes: &[u8]) -> Result<(), AllocError> {
     for byte in bytes {
-        let digits = format!(in alloc; "{byte:02x}")?;
-        said.extend_from_slice(digits.as_bytes())?;
+        said.push(digit(*byte / 16))?;
+        said.push(digit(*byte % 16))?;
     }
     if !bytes.is_empty() {
         said.push(b'\n')?;
     }
     Ok(())
+}
+
+/// The digit that writes a number.
+fn digit(number: u8) -> u8
+    requires { number < 16 }
+{
+    if number < 10 {
+        b'0' + number
+    } else {
+        b'a' - 10 + number
+    }
 }

@@ -13,27 +13,20 @@
 
 ghost use Rattle.std.specs.Thread.{IsSync};
 
+mod devices;
 mod digits;
 mod line;
 mod sticking;
 mod watch;
 
-use bs_io::{MemSink, MemSource};
-use bs_words::List;
+use bs_io::MemSource;
+use devices::Devices;
 use digits::{bytes_of, push_digits};
 use line::Line;
 use std::alloc::{AllocError, Global};
 use std::thread::Threads;
 pub use sticking::Sticking;
 pub use watch::{Counting, Holding, Watch};
-
-/// The most bytes that are kept of out, and of err.
-const KEPT: usize = 1 << 25;
-
-const LINE: usize = 1 << 12;
-
-/// The most bytes of one read or write, where a line does not say.
-pub(crate) const PIECE: usize = 1 << 16;
 
 /// The top call.
 pub trait Top {
@@ -89,28 +82,30 @@ impl<'a, R: Threads + Sync, T: Top> Table<'a, R, T> {
         let Some((words, input)) = line.split_once(" | ") else {
             return b"no bar\n".to_vec(self.alloc);
         };
+        self.read(input)?;
         let line = Line::of(self.alloc, words)?;
-        let is_image = matches!(line.words.first(), Some(word) if word.as_str() == "compile");
-        let answer = self.answer(line, input)?;
+        let is_image = line.is_compile();
+        let answer = self.answered(line, self.input.as_slice(), Watch::Open)?;
         said(self.alloc, is_image, &answer)
     }
 
     /// What the program answers to the words of a line, with what it reads.
     pub fn answer_to(&mut self, words: &str, input: &str) -> Result<Answer, AllocError> {
-        self.answer(Line::of(self.alloc, words)?, input)
+        self.read(input)?;
+        self.answer_of(words, self.input.as_slice(), Watch::Open)
     }
 
     /// What the program answers to the words of a line that reads these bytes.
     pub fn answer_of(&self, words: &str, input: &[u8], watch: Watch) -> Result<Answer, AllocError> {
-        let line = Line::of(self.alloc, words)?;
-        self.answered(line, input.to_vec(self.alloc)?, watch)
+        self.answered(Line::of(self.alloc, words)?, input, watch)
     }
 
-    fn answer(&mut self, line: Line, input: &str) -> Result<Answer, AllocError> {
+    /// Keeps what a line reads.
+    fn read(&mut self, input: &str) -> Result<(), AllocError> {
         if input != "same" {
             self.input = self.input_of(input)?;
         }
-        self.answered(line, self.input.clone()?, Watch::Open)
+        Ok(())
     }
 
     /// The bytes that a command reads.
@@ -125,53 +120,42 @@ impl<'a, R: Threads + Sync, T: Top> Table<'a, R, T> {
         Ok(answer.out)
     }
 
-    /// What the program answers to a line.
-    fn answered(&self, line: Line, input: Vec<u8>, watch: Watch) -> Result<Answer, AllocError> {
-        let alloc = self.alloc;
-        let Line {
-            words,
-            read_fails,
-            out_fails,
-            err_fails,
-            out_sticks,
-            err_sticks,
-            piece,
-        } = line;
-        let piece = if piece == 0 { PIECE } else { piece };
-        let mut source = MemSource::new(List::from_vec(input), List::from_vec(read_fails), piece);
-        let out = MemSink::new(alloc, KEPT, List::from_vec(out_fails), piece)?;
-        let mut out = Sticking::new(out, out_sticks);
-        let err = MemSink::new(alloc, LINE, List::from_vec(err_fails), piece)?;
-        let mut err = Sticking::new(err, err_sticks);
+    /// What the program answers to a line that reads these bytes.
+    fn answered(&self, line: Line, input: &[u8], watch: Watch) -> Result<Answer, AllocError> {
+        let Line { words, plan } = line;
+        let mut devices = Devices::new(self.alloc, plan, input.to_vec(self.alloc)?)?;
         let status = self.top.status(
             self.rt,
             words.as_slice(),
-            &mut source,
-            &mut out,
-            &mut err,
+            &mut devices.source,
+            &mut devices.out,
+            &mut devices.err,
             watch,
         );
-        Ok(Answer {
-            status,
-            out: out.bytes().to_vec(alloc)?,
-            err: err.bytes().to_vec(alloc)?,
-        })
+        devices.answer(self.alloc, status)
     }
 }
 
 /// The status, and what went to out and to err.
 fn said(alloc: Global, is_image: bool, answer: &Answer) -> Result<Vec<u8>, AllocError> {
     let mut said = b"status ".to_vec(alloc)?;
+    push_answer(&mut said, is_image, answer)?;
+    Ok(said)
+}
+
+/// Puts the number of the status, and what went to out and to err, after what is there.
+fn push_answer(said: &mut Vec<u8>, is_image: bool, answer: &Answer) -> Result<(), AllocError> {
     said.push(b'0' + answer.status % 10)?;
     said.push(b'\n')?;
     if is_image {
-        push_digits(alloc, &mut said, answer.out.as_slice())?;
+        push_digits(said, answer.out.as_slice())?;
     } else {
         said.extend_from_slice(answer.out.as_slice())?;
     }
     said.extend_from_slice(answer.err.as_slice())?;
-    if !said.ends_with(b"\n") {
-        said.extend_from_slice(b"..\n")?;
+    if said.ends_with(b"\n") {
+        Ok(())
+    } else {
+        said.extend_from_slice(b"..\n")
     }
-    Ok(said)
 }

@@ -1,20 +1,12 @@
 //! The words of a line.
-use crate::PIECE;
+use crate::devices::Plan;
 use std::alloc::{AllocError, Global};
 
-/// The words of the command, and before them which reads and writes fail.
+/// The words of the command, and what is said before them.
 #[derive(Drop)]
 pub(crate) struct Line {
     pub words: Vec<String>,
-    /// The numbers of the reads, and of the writes of out and of err, that fail, counted from 0.
-    pub read_fails: Vec<u64>,
-    pub out_fails: Vec<u64>,
-    pub err_fails: Vec<u64>,
-    /// The numbers of the writes of out and of err that take nothing.
-    pub out_sticks: Vec<u64>,
-    pub err_sticks: Vec<u64>,
-    /// The most bytes of one read or write.
-    pub piece: usize,
+    pub plan: Plan,
 }
 
 impl Line {
@@ -22,31 +14,43 @@ impl Line {
     pub fn of(alloc: Global, text: &str) -> Result<Line, AllocError> {
         let mut line = Line {
             words: Vec::new(alloc),
-            read_fails: Vec::new(alloc),
-            out_fails: Vec::new(alloc),
-            err_fails: Vec::new(alloc),
-            out_sticks: Vec::new(alloc),
-            err_sticks: Vec::new(alloc),
-            piece: PIECE,
+            plan: Plan::new(alloc),
         };
         for word in text.split(' ') {
-            if let Some(number) = word.strip_prefix("read-fails=") {
-                line.read_fails.push(number_of(number))?;
-            } else if let Some(number) = word.strip_prefix("out-fails=") {
-                line.out_fails.push(number_of(number))?;
-            } else if let Some(number) = word.strip_prefix("err-fails=") {
-                line.err_fails.push(number_of(number))?;
-            } else if let Some(number) = word.strip_prefix("out-sticks=") {
-                line.out_sticks.push(number_of(number))?;
-            } else if let Some(number) = word.strip_prefix("err-sticks=") {
-                line.err_sticks.push(number_of(number))?;
-            } else if let Some(number) = word.strip_prefix("piece=") {
-                line.piece = number_of(number) as usize;
-            } else {
-                line.words.push(String::from_str(alloc, word)?)?;
-            }
+            line.add(alloc, word)?;
         }
         Ok(line)
+    }
+
+    /// Whether the answer's out is an image.
+    pub fn is_compile(&self) -> bool {
+        matches!(self.words.first(), Some(word) if word.as_str() == "compile")
+    }
+
+    /// Takes the next word in.
+    fn add(&mut self, alloc: Global, word: &str) -> Result<(), AllocError> {
+        let (name, digits) = word.split_once('=').unwrap_or(("", word));
+        let number = number_of(digits);
+        let pushed = match name {
+            "read-fails" => self.plan.read_fails.push(number),
+            "out-fails" => self.plan.out.fails.push(number),
+            "err-fails" => self.plan.err.fails.push(number),
+            "out-sticks" => self.plan.out.sticks.push(number),
+            "err-sticks" => self.plan.err.sticks.push(number),
+            "piece" => {
+                self.plan.piece = number as usize;
+                Ok(())
+            }
+            _ => return self.add_word(alloc, word),
+        };
+        pushed?;
+        Ok(())
+    }
+
+    /// Takes the next word of the command in.
+    fn add_word(&mut self, alloc: Global, word: &str) -> Result<(), AllocError> {
+        self.words.push(String::from_str(alloc, word)?)?;
+        Ok(())
     }
 }
 
