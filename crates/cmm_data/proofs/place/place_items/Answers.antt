@@ -5,7 +5,7 @@ use Rattle.bs_words.specs.Memory.{StaticList}
 use Rattle.bs_words.specs.declared.values.Value.{Value}
 use Rattle.cmm_tree.specs.Tree.{DataItemTree}
 use Rattle.cmm_tree.specs.View.{data_item_view}
-use Rattle.cmm_data.specs.Placement.{size_at, items_from, end_of_items, symbols_among}
+use Rattle.cmm_data.specs.Placement.{size_at, items_from, end_of_items, placed_symbols}
 use Rattle.cmm_data.specs.Faults.{first_fault}
 use Rattle.cmm_data.specs.Contents.{bytes_at, bytes_of_items, roots_among}
 use Rattle.cmm_data.specs.Filling.{cells_with}
@@ -109,9 +109,9 @@ loop-item-preserved c =
           (length-bytes_at values address i.datum ∙ sym c.size_at-address.ensures);
       symbols =
           c.loop-item.invariant.symbols
-          ∙ ap (λ (l : List DataItemTree). symbols_before ++ symbols_among (items_from address l)) here
+          ∙ ap (λ (l : List DataItemTree). symbols_before ++ placed_symbols (items_from address l)) here
           ∙ symbols-step symbols_before symbols_after address i rest c.in_ok-add_symbol.ensures
-          ∙ ap (λ e. symbols_after ++ symbols_among (items_from e rest)) moved;
+          ∙ ap (λ e. symbols_after ++ placed_symbols (items_from e rest)) moved;
       roots =
           c.loop-item.invariant.roots
           ∙ ap (λ (l : List DataItemTree). roots_before ++ roots_among (items_from address l)) here
@@ -141,7 +141,7 @@ returns-clause-symbols c =
     let address = c.loop-item.address in
     let symbols = map symbol_view c.loop-item.symbols.items in
     sym (c.loop-item.invariant.symbols
-    ∙ at_drop_all (λ l. symbols ++ symbols_among (items_from address (map data_item_view l))) c.args.items.now c.loop-item.item-index c.loop-item-test.false
+    ∙ at_drop_all (λ l. symbols ++ placed_symbols (items_from address (map data_item_view l))) c.args.items.now c.loop-item.item-index c.loop-item-test.false
     ∙ append-nil symbols)
 
 pub returns-clause-roots : goal.returns-clause-roots
