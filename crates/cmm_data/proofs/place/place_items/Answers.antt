@@ -1,4 +1,4 @@
-use Rattle.std.proofs.Common.{◌≡◌, ◌∙◌, ℕ, ◌+◌, ◌%◌, ◌≤◌, ◌++◌, ◌∷◌, [], List, drop, map, append-nil, refl, ap, sym, arith, ◌-◌, None, Fits, w64}
+use Rattle.std.proofs.Common.{◌≡◌, ◌∙◌, ℕ, ◌+◌, ◌%◌, ◌≤◌, ◌++◌, ◌∷◌, List, drop, map, append-nil, refl, ap, sym, arith, ◌-◌, None, Fits, w64}
 use Rattle.std.proofs.lemmas.List.{at_drop_all}
 use Rattle.bs_words.specs.Fits.{data_limit, data_start}
 use Rattle.bs_words.specs.Memory.{StaticList}
