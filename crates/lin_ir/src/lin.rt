@@ -51,10 +51,14 @@ pub struct Line {
 /// One function.
 #[derive(Clone, Drop)]
 pub struct Lin {
+    /// Its symbol.
     pub name: Name,
+    /// Where its arguments are at its entry, in order.
     pub params: Seq<Spot>,
+    /// What it gives.
     pub result: Ret,
     /// Its slots are those below this number.
     pub slots: u32,
+    /// Its lines, in the order in which they are laid out.
     pub code: Seq<Line>,
 }

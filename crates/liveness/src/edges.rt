@@ -13,7 +13,9 @@ use std::alloc::{AllocError, Global};
 /// Where control goes from a place: the places that come next, and the handler that a raise leads to.
 #[derive(Drop)]
 pub struct Edges {
+    /// The places that come next.
     pub next: List<u32>,
+    /// The handler's place that a raise leads to, where one may come.
     pub aside: List<u32>,
 }
 

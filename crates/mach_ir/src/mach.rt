@@ -146,7 +146,18 @@ impl MachOp {
             MachOp::Op(Op::Access(_)) => false,
             MachOp::Op(Op::Leaving(_)) => false,
             MachOp::Mark(Mark::Handler { label: _ }) => true,
-            MachOp::Mark(_) => false,
+            MachOp::Mark(
+                Mark::Exit { .. }
+                | Mark::If { .. }
+                | Mark::Else { .. }
+                | Mark::Switch(_)
+                | Mark::Case { .. }
+                | Mark::Catch
+                | Mark::With { .. }
+                | Mark::Try { .. }
+                | Mark::Leave { .. }
+                | Mark::End { .. },
+            ) => false,
         }
     }
 
@@ -204,12 +215,16 @@ impl Instr {
 /// One function.
 #[derive(Clone, Drop)]
 pub struct Mach {
+    /// Its symbol.
     pub name: Name,
+    /// The registers in which its arguments come, in order.
     pub params: Seq<Reg>,
+    /// What it gives.
     pub result: Ret,
     /// Each label is below this number.
     pub labels: u32,
     /// For each of the colours the register of least number that is placed there.
     pub colours: Seq<Reg>,
+    /// Its instructions, in the order of the text.
     pub code: Seq<Instr>,
 }

@@ -31,8 +31,11 @@ use std::alloc::AllocError;
 /// An external call, as the text has it.
 #[derive(Clone, Copy)]
 pub struct Outside<'e> {
+    /// Whether it is a frame call: it may allocate, and may raise.
     pub frame: bool,
+    /// The name of what is called.
     pub name: &'e Name,
+    /// What it answers.
     pub result: Ret,
 }
 

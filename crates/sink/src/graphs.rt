@@ -24,7 +24,18 @@ pub fn is_held(op: &MachOp) -> bool
         MachOp::Op(Op::Access(_)) => false,
         MachOp::Op(Op::Leaving(_)) => false,
         MachOp::Mark(Mark::Handler { label: _ }) => true,
-        MachOp::Mark(_) => false,
+        MachOp::Mark(
+            Mark::Exit { .. }
+            | Mark::If { .. }
+            | Mark::Else { .. }
+            | Mark::Switch(_)
+            | Mark::Case { .. }
+            | Mark::Catch
+            | Mark::With { .. }
+            | Mark::Try { .. }
+            | Mark::Leave { .. }
+            | Mark::End { .. },
+        ) => false,
     }
 }
 
