@@ -4,11 +4,13 @@
 //! what the rows of each table are about. The wanted lines of each table were made apart from this program.
 #![tactic(auto)]
 
+mod called;
+mod evaluated;
 mod subject;
 
 use anyhow::Result;
+use called::Called;
 use rows_lines::Table;
-use rows_top::called::Called;
 use std::io::{self, BufRead, BufReader, BufWriter, Write};
 use subject::Subject;
 

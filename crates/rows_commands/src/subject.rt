@@ -1,14 +1,14 @@
 //! What the tables are about.
+use crate::evaluated;
 use anyhow::Result;
 use rows_answers::{devices, faults, limits, listings};
 use rows_base::Layer;
 use rows_compiled::{compiled, generated, jobs, plans};
 use rows_lines::{Table, Top};
-use rows_top::evaluated;
 use std::thread::Threads;
 
 /// What a table is about, which says how its rows are read and what is shown of the answers. Where no module of
-/// `rows_answers`, `rows_compiled` or `rows_top` is named, a row has the form of `rows_lines`, and all that `cmmc`
+/// `rows_answers` or `rows_compiled`, and none of this program's, is named, a row has the form of `rows_lines`, and all that `cmmc`
 /// says to it is shown.
 #[derive(Clone, Copy)]
 pub(crate) enum Subject {

@@ -7,9 +7,9 @@ use std::thread::Threads;
 
 /// The top call.
 #[derive(Clone, Copy)]
-pub struct Called {
+pub(crate) struct Called {
     /// Where memory comes from.
-    pub alloc: Global,
+    pub(crate) alloc: Global,
 }
 
 impl Top for Called {
