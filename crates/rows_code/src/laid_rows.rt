@@ -13,7 +13,7 @@ use std::mem;
 
 /// What the functions of a table are.
 #[derive(Clone, Copy)]
-pub(crate) enum Laid {
+pub enum Laid {
     /// Lists of pieces (`pieces`).
     Pieces,
     /// Linear functions (`functions`).

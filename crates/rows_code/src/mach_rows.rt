@@ -19,7 +19,7 @@ use std::mem;
 
 /// What is made of the functions of a table.
 #[derive(Clone, Copy)]
-pub(crate) enum Passes {
+pub enum Passes {
     /// What is live in them, and the split functions (`webs`).
     Splits,
     /// The spilled functions, and these split (`webs`).

@@ -1,39 +1,41 @@
-//! The tables, line by line.
+//! The tables, row by row.
+use crate::code::Code;
 use crate::laid_rows::LaidRows;
 use crate::large;
 use crate::mach_rows::MachRows;
-use crate::subject::Subject;
 use crate::texts::Texts;
-use anyhow::{Result, bail, ensure};
+use anyhow::{Result, ensure};
 use mach_ir::page::Page;
 use std::alloc::Global;
 use std::io::Write;
 use std::thread::Threads;
 
-/// The table that is read, and what its rows have left open so far.
+/// What the rows of a table have left open so far.
 #[derive(Drop)]
-pub(crate) struct Tables {
+pub struct Tables {
     alloc: Global,
-    subject: Option<Subject>,
     texts: Texts,
     laid: LaidRows,
     mach: MachRows,
 }
 
 impl Tables {
-    /// No line has been read.
-    pub(crate) fn new(alloc: Global) -> Tables {
+    /// No row has been read.
+    pub fn new(alloc: Global) -> Tables {
         Tables {
             alloc,
-            subject: None,
             texts: Texts::new(alloc),
             laid: LaidRows::new(alloc),
             mach: MachRows::new(alloc),
         }
     }
 
-    /// Ends the table that is read. The error is a function that has no end.
-    pub(crate) fn end<W: Write>(&mut self, out: &mut W) -> Result<()> {
+    /// Ends the table that is read. What its last rows leave to be shown is put.
+    ///
+    /// # Errors
+    ///
+    /// A function that has no end, or want of memory.
+    pub fn end<W: Write>(&mut self, out: &mut W) -> Result<()> {
         self.texts.end(out)?;
         ensure!(self.laid.is_done(), "the last function has no end");
         ensure!(self.mach.is_done(), "the last function has no end");
@@ -41,37 +43,27 @@ impl Tables {
     }
 
     /// Reads a row. What is shown of it is put.
-    fn add<R: Threads + Sync, W: Write>(&mut self, rt: &R, out: &mut W, row: &str) -> Result<()> {
-        let Some(subject) = self.subject else {
-            bail!("a row before the first table");
-        };
-        match subject {
-            Subject::Selection => self.texts.take(out, row),
-            Subject::Large => large::put(rt, self.alloc, out, row),
-            Subject::Laid(laid) => self.laid.take(out, laid, row),
-            Subject::Passes(passes) => {
+    ///
+    /// # Errors
+    ///
+    /// A row that is none of its table, or want of memory.
+    pub fn add<R: Threads + Sync, W: Write>(
+        &mut self,
+        rt: &R,
+        out: &mut W,
+        code: Code,
+        row: &str,
+    ) -> Result<()> {
+        match code {
+            Code::Selection => self.texts.take(out, row),
+            Code::Large => large::put(rt, self.alloc, out, row),
+            Code::Laid(laid) => self.laid.take(out, laid, row),
+            Code::Passes(passes) => {
                 let mut page = Page::new(self.alloc);
                 self.mach.take(&mut page, passes, row)?;
                 out.write_all(page.bytes.as_slice())?;
                 Ok(())
             }
-        }
-    }
-
-    /// Reads a line: a row, or the beginning of a table. What is shown of it is put.
-    pub(crate) fn take<R: Threads + Sync, W: Write>(
-        &mut self,
-        rt: &R,
-        out: &mut W,
-        line: &str,
-    ) -> Result<()> {
-        match line.strip_prefix("= ") {
-            Some(name) => {
-                self.end(out)?;
-                self.subject = Some(Subject::of(name)?);
-                Ok(())
-            }
-            None => self.add(rt, out, line),
         }
     }
 }

@@ -3,15 +3,35 @@ use crate::evaluated;
 use anyhow::Result;
 use rows_answers::{devices, faults, limits, listings};
 use rows_base::Layer;
+use rows_code::Code;
 use rows_compiled::{compiled, generated, jobs, plans};
 use rows_lines::{Table, Top};
 use std::thread::Threads;
 
-/// What a table is about, which says how its rows are read and what is shown of the answers. Where no module of
+/// What a table is about.
+#[derive(Clone, Copy)]
+pub(crate) enum Subject {
+    /// What selection, passes and the layout make of rows (`rows_code`).
+    Code(Code),
+    /// What is said to rows.
+    Said(Said),
+}
+
+impl Subject {
+    /// The subject with this name.
+    pub(crate) fn of(name: &str) -> Result<Subject> {
+        match Code::of(name) {
+            Some(code) => Ok(Subject::Code(code)),
+            None => Ok(Subject::Said(Said::of(name)?)),
+        }
+    }
+}
+
+/// What a table of answers is about, which says how its rows are read and what is shown of the answers. Where no module of
 /// `rows_answers` or `rows_compiled`, and none of this program's, is named, a row has the form of `rows_lines`, and all that `cmmc`
 /// says to it is shown.
 #[derive(Clone, Copy)]
-pub(crate) enum Subject {
+pub(crate) enum Said {
     /// What a layer below the compiler says (`rows_base`).
     Base(Layer),
     /// How operations and structures of Mach and Linear print (`rows_stages`).
@@ -56,26 +76,26 @@ pub(crate) enum Subject {
     Evaluated,
 }
 
-impl Subject {
+impl Said {
     /// The subject with this name.
-    pub(crate) fn of(name: &str) -> Result<Subject> {
+    pub(crate) fn of(name: &str) -> Result<Said> {
         match name {
-            "stages" => Ok(Subject::Stages),
-            "commands" => Ok(Subject::Commands),
-            "checks" => Ok(Subject::Checks),
-            "faults" => Ok(Subject::Faults),
-            "devices" => Ok(Subject::Devices),
-            "limits" => Ok(Subject::Limits),
-            "listings" => Ok(Subject::Listings),
-            "plans" => Ok(Subject::Plans),
-            "compiled" => Ok(Subject::Compiled),
-            "operators" => Ok(Subject::Operators),
-            "images" => Ok(Subject::Images),
-            "generated" => Ok(Subject::Generated),
-            "held" => Ok(Subject::Held),
-            "shared" => Ok(Subject::Shared),
-            "evaluated" => Ok(Subject::Evaluated),
-            _ => Ok(Subject::Base(Layer::of(name)?)),
+            "stages" => Ok(Said::Stages),
+            "commands" => Ok(Said::Commands),
+            "checks" => Ok(Said::Checks),
+            "faults" => Ok(Said::Faults),
+            "devices" => Ok(Said::Devices),
+            "limits" => Ok(Said::Limits),
+            "listings" => Ok(Said::Listings),
+            "plans" => Ok(Said::Plans),
+            "compiled" => Ok(Said::Compiled),
+            "operators" => Ok(Said::Operators),
+            "images" => Ok(Said::Images),
+            "generated" => Ok(Said::Generated),
+            "held" => Ok(Said::Held),
+            "shared" => Ok(Said::Shared),
+            "evaluated" => Ok(Said::Evaluated),
+            _ => Ok(Said::Base(Layer::of(name)?)),
         }
     }
 
@@ -87,21 +107,21 @@ impl Subject {
         row: &str,
     ) -> Result<Vec<u8>> {
         match self {
-            Subject::Base(layer) => layer.said_to(table.alloc(), image, row),
-            Subject::Stages => rows_stages::said_to(table.alloc(), row),
-            Subject::Commands | Subject::Checks | Subject::Operators | Subject::Images => {
+            Said::Base(layer) => layer.said_to(table.alloc(), image, row),
+            Said::Stages => rows_stages::said_to(table.alloc(), row),
+            Said::Commands | Said::Checks | Said::Operators | Said::Images => {
                 Ok(table.said_to(row)?)
             }
-            Subject::Faults => Ok(faults::said_to(table, row)?),
-            Subject::Devices => Ok(devices::said_to(table, row)?),
-            Subject::Limits => limits::said_to(table, row),
-            Subject::Listings => listings::said_to(table, row),
-            Subject::Plans => plans::said_to(table, row),
-            Subject::Compiled => compiled::said_to(table, row),
-            Subject::Generated => Ok(generated::said_to(table, row)?),
-            Subject::Held => Ok(jobs::held(table, row)?),
-            Subject::Shared => Ok(jobs::shared(table, row)?),
-            Subject::Evaluated => evaluated::said_to(table.alloc(), row),
+            Said::Faults => Ok(faults::said_to(table, row)?),
+            Said::Devices => Ok(devices::said_to(table, row)?),
+            Said::Limits => limits::said_to(table, row),
+            Said::Listings => listings::said_to(table, row),
+            Said::Plans => plans::said_to(table, row),
+            Said::Compiled => compiled::said_to(table, row),
+            Said::Generated => Ok(generated::said_to(table, row)?),
+            Said::Held => Ok(jobs::held(table, row)?),
+            Said::Shared => Ok(jobs::shared(table, row)?),
+            Said::Evaluated => evaluated::said_to(table.alloc(), row),
         }
     }
 }
