@@ -62,7 +62,7 @@ pub(crate) enum Said {
     /// services where blocks move, where a service refuses what it finds, and where the run ends. Each is there in both
     /// versions of images. The outcomes are those of a second machine, written from the rules of the machine alone.
     ///
-    /// After them come 71 images of one function each, whose words are those that `rows_code` wants of the last 71 Linear
+    /// After them come 71 images of one function each, whose words are those that the table `functions` wants of the last 71 Linear
     /// functions there: each operation, test and chunk of Linear. What they return, raise, call or ask was counted by
     /// hand.
     Images,
