@@ -1,37 +1,17 @@
 //! What the tables are about.
-use crate::evaluated;
 use anyhow::Result;
 use rows_answers::{devices, faults, limits, listings};
 use rows_base::Layer;
-use rows_code::Code;
 use rows_compiled::{compiled, generated, jobs, plans};
 use rows_lines::{Table, Top};
+use rows_top::evaluated;
 use std::thread::Threads;
 
-/// What a table is about.
-#[derive(Clone, Copy)]
-pub(crate) enum Subject {
-    /// What selection, passes and the layout make of rows (`rows_code`).
-    Code(Code),
-    /// What is said to rows.
-    Said(Said),
-}
-
-impl Subject {
-    /// The subject with this name.
-    pub(crate) fn of(name: &str) -> Result<Subject> {
-        match Code::of(name) {
-            Some(code) => Ok(Subject::Code(code)),
-            None => Ok(Subject::Said(Said::of(name)?)),
-        }
-    }
-}
-
-/// What a table of answers is about, which says how its rows are read and what is shown of the answers. Where no module of
-/// `rows_answers` or `rows_compiled`, and none of this program's, is named, a row has the form of `rows_lines`, and all that `cmmc`
+/// What a table is about, which says how its rows are read and what is shown of the answers. Where no module of
+/// `rows_answers`, `rows_compiled` or `rows_top` is named, a row has the form of `rows_lines`, and all that `cmmc`
 /// says to it is shown.
 #[derive(Clone, Copy)]
-pub(crate) enum Said {
+pub(crate) enum Subject {
     /// What a layer below the compiler says (`rows_base`).
     Base(Layer),
     /// How operations and structures of Mach and Linear print (`rows_stages`).
@@ -62,7 +42,7 @@ pub(crate) enum Said {
     /// services where blocks move, where a service refuses what it finds, and where the run ends. Each is there in both
     /// versions of images. The outcomes are those of a second machine, written from the rules of the machine alone.
     ///
-    /// After them come 71 images of one function each, whose words are those that the table `functions` wants of the last 71 Linear
+    /// After them come 71 images of one function each, whose words are those that `rows_passes` wants of the last 71 Linear
     /// functions there: each operation, test and chunk of Linear. What they return, raise, call or ask was counted by
     /// hand.
     Images,
@@ -76,26 +56,26 @@ pub(crate) enum Said {
     Evaluated,
 }
 
-impl Said {
+impl Subject {
     /// The subject with this name.
-    pub(crate) fn of(name: &str) -> Result<Said> {
+    pub(crate) fn of(name: &str) -> Result<Subject> {
         match name {
-            "stages" => Ok(Said::Stages),
-            "commands" => Ok(Said::Commands),
-            "checks" => Ok(Said::Checks),
-            "faults" => Ok(Said::Faults),
-            "devices" => Ok(Said::Devices),
-            "limits" => Ok(Said::Limits),
-            "listings" => Ok(Said::Listings),
-            "plans" => Ok(Said::Plans),
-            "compiled" => Ok(Said::Compiled),
-            "operators" => Ok(Said::Operators),
-            "images" => Ok(Said::Images),
-            "generated" => Ok(Said::Generated),
-            "held" => Ok(Said::Held),
-            "shared" => Ok(Said::Shared),
-            "evaluated" => Ok(Said::Evaluated),
-            _ => Ok(Said::Base(Layer::of(name)?)),
+            "stages" => Ok(Subject::Stages),
+            "commands" => Ok(Subject::Commands),
+            "checks" => Ok(Subject::Checks),
+            "faults" => Ok(Subject::Faults),
+            "devices" => Ok(Subject::Devices),
+            "limits" => Ok(Subject::Limits),
+            "listings" => Ok(Subject::Listings),
+            "plans" => Ok(Subject::Plans),
+            "compiled" => Ok(Subject::Compiled),
+            "operators" => Ok(Subject::Operators),
+            "images" => Ok(Subject::Images),
+            "generated" => Ok(Subject::Generated),
+            "held" => Ok(Subject::Held),
+            "shared" => Ok(Subject::Shared),
+            "evaluated" => Ok(Subject::Evaluated),
+            _ => Ok(Subject::Base(Layer::of(name)?)),
         }
     }
 
@@ -107,21 +87,21 @@ impl Said {
         row: &str,
     ) -> Result<Vec<u8>> {
         match self {
-            Said::Base(layer) => layer.said_to(table.alloc(), image, row),
-            Said::Stages => rows_stages::said_to(table.alloc(), row),
-            Said::Commands | Said::Checks | Said::Operators | Said::Images => {
+            Subject::Base(layer) => layer.said_to(table.alloc(), image, row),
+            Subject::Stages => rows_stages::said_to(table.alloc(), row),
+            Subject::Commands | Subject::Checks | Subject::Operators | Subject::Images => {
                 Ok(table.said_to(row)?)
             }
-            Said::Faults => Ok(faults::said_to(table, row)?),
-            Said::Devices => Ok(devices::said_to(table, row)?),
-            Said::Limits => limits::said_to(table, row),
-            Said::Listings => listings::said_to(table, row),
-            Said::Plans => plans::said_to(table, row),
-            Said::Compiled => compiled::said_to(table, row),
-            Said::Generated => Ok(generated::said_to(table, row)?),
-            Said::Held => Ok(jobs::held(table, row)?),
-            Said::Shared => Ok(jobs::shared(table, row)?),
-            Said::Evaluated => evaluated::said_to(table.alloc(), row),
+            Subject::Faults => Ok(faults::said_to(table, row)?),
+            Subject::Devices => Ok(devices::said_to(table, row)?),
+            Subject::Limits => limits::said_to(table, row),
+            Subject::Listings => listings::said_to(table, row),
+            Subject::Plans => plans::said_to(table, row),
+            Subject::Compiled => compiled::said_to(table, row),
+            Subject::Generated => Ok(generated::said_to(table, row)?),
+            Subject::Held => Ok(jobs::held(table, row)?),
+            Subject::Shared => Ok(jobs::shared(table, row)?),
+            Subject::Evaluated => evaluated::said_to(table.alloc(), row),
         }
     }
 }

@@ -7,9 +7,8 @@ use std::thread::Threads;
 
 /// The top call.
 #[derive(Clone, Copy)]
-pub(crate) struct Called {
-    /// Where memory comes from.
-    pub(crate) alloc: Global,
+pub struct Called {
+    pub alloc: Global,
 }
 
 impl Top for Called {

@@ -1,5 +1,5 @@
 use Rattle.cmmc_core.proofs.Known.{few_functions}
-use Rattle.rows_commands.proofs.evaluated.told.Goals as goal
+use Rattle.rows_top.proofs.evaluated.told.Goals as goal
 
 pub call_of-requires-clause-few : goal.call_of-requires-clause-few
 call_of-requires-clause-few c = rw (c.file-file.ensures.same, c.typed.ensures) (few_functions _ _ c.in-Ok.ensures.file)

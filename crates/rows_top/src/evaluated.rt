@@ -49,7 +49,7 @@ fn check_of(alloc: Global, words: &str) -> Result<CheckWords> {
 /// # Errors
 ///
 /// A row without a bar, words that are no check, a text with a fault, or want of memory.
-pub(crate) fn said_to(alloc: Global, row: &str) -> Result<Vec<u8>> {
+pub fn said_to(alloc: Global, row: &str) -> Result<Vec<u8>> {
     let layout = layout(alloc)?;
     told(alloc, &layout, row)
 }
