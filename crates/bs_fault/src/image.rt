@@ -26,6 +26,7 @@ pub enum ImageFault {
 /// The first fault of an image, in the order of its bytes.
 #[derive(Clone, Copy, Debug)]
 pub struct ImageRefusal {
+    /// What is wrong.
     pub fault: ImageFault,
     /// The number of bytes before the place of the fault.
     pub at: u64,

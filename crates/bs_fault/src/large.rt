@@ -32,6 +32,7 @@ pub enum Section {
 /// B1: a section whose body passes its limit.
 #[derive(Clone, Copy, Debug)]
 pub struct Large {
+    /// The section that passes its limit.
     pub section: Section,
     /// The bytes that the body would have.
     pub bytes: u64,

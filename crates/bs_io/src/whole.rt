@@ -20,6 +20,7 @@ pub enum InFault {
     /// More bytes came than the limit allows. It carries the bytes that were taken, one more than the limit.
     #[error("the input is longer than the limit")]
     Long(List<u8>),
+    /// Memory ran out.
     #[error("out of memory")]
     OutOfMemory,
 }

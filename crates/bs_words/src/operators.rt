@@ -4,11 +4,17 @@
 /// holds it.
 #[derive(Clone, Copy)]
 pub enum CmpOp {
+    /// Equal.
     Eq,
+    /// Not equal.
     Ne,
+    /// The left one is less.
     Lt,
+    /// The left one is less or equal.
     Le,
+    /// The left one is greater.
     Gt,
+    /// The left one is greater or equal.
     Ge,
 }
 
@@ -16,8 +22,11 @@ pub enum CmpOp {
 /// bit by bit, and the right operand of a shift is the number of bits.
 #[derive(Clone, Copy)]
 pub enum IntOp {
+    /// The sum.
     Add,
+    /// The left operand less the right one.
     Sub,
+    /// The low half of the product.
     Mul,
     /// The high half of the signed product.
     Mulh,
@@ -25,8 +34,11 @@ pub enum IntOp {
     Div,
     /// The signed remainder, with the sign of the dividend.
     Mod,
+    /// The bits that both have.
     And,
+    /// The bits that at least one has.
     Or,
+    /// The bits that exactly one has.
     Xor,
     /// The shift to the left, which brings in zeros.
     Shl,

@@ -59,11 +59,17 @@ pub enum Ret {
 /// load extends them to a word, `U` by zeros and `I` by the sign, and a store takes the lowest bits of a word.
 #[derive(Clone, Copy)]
 pub enum Chunk {
+    /// 1 byte; a load brings in zeros.
     U8,
+    /// 1 byte; a load brings in the sign.
     I8,
+    /// 2 bytes; a load brings in zeros.
     U16,
+    /// 2 bytes; a load brings in the sign.
     I16,
+    /// 4 bytes; a load brings in zeros.
     U32,
+    /// 4 bytes; a load brings in the sign.
     I32,
     /// A word of 64 bits.
     Int,

@@ -25,7 +25,9 @@ pub enum Obs {
 /// An external call as an observer sees it.
 #[derive(Clone, Drop)]
 pub struct Call {
+    /// The symbol that is called.
     pub name: Name,
+    /// What is seen of the arguments, the first one first.
     pub args: List<Obs>,
 }
 

@@ -4,6 +4,7 @@ use bs_words::{List, Name, Value};
 /// A symbol of static data.
 #[derive(Drop)]
 pub struct DataSymbol {
+    /// The symbol itself.
     pub name: Name,
     /// The address that it stands for.
     pub address: u32,
@@ -13,8 +14,11 @@ pub struct DataSymbol {
 /// Zeros fill up the last cell where the bytes are no multiple of 8.
 #[derive(Drop)]
 pub struct DataCells {
+    /// The address of its first byte.
     pub start: u32,
+    /// The number of its bytes.
     pub size: u32,
+    /// The values of its cells, the lowest address first.
     pub cells: List<Value>,
 }
 

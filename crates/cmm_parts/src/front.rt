@@ -18,18 +18,26 @@ use cmm_lex::{Keyword, Sign, Token, TokenKind, integer_word, string_of, text_of}
 use cmm_tree::Declared;
 use std::alloc::Global;
 
-/// What a token is asked for. A test without a sentence is for a token of the kind, or the keyword or sign, of its
-/// name.
+/// What a token is asked for.
 #[derive(Clone, Copy)]
 pub enum Test {
+    /// The keyword `alloc`.
     Alloc,
+    /// The sign `)`.
     Close,
+    /// The sign `:`.
     Colon,
+    /// A name.
     Name,
+    /// An integer.
     Integer,
+    /// A float.
     Float,
+    /// A string.
     String,
+    /// The keyword `with`.
     With,
+    /// The keyword `case`.
     Case,
     /// Any token but `case`.
     NoCase,

@@ -231,7 +231,9 @@ pub fn parameters<'t>(
 pub struct LabelHead {
     /// The place of the label in bytes.
     pub at: u32,
+    /// The label itself.
     pub name: Name,
+    /// The parameters of its handler.
     pub params: Vec<Param>,
 }
 

@@ -4,14 +4,14 @@ use bs_words::{Chunk, IntOp, Name, Ret, Ty};
 use std::alloc::{AllocError, Global};
 
 /// An expression.
-///
-/// `at` is the place of its first byte, in bytes from the start of the text. `ty` is its type once types
-/// are checked, and says nothing before.
 #[derive(Drop)]
 #[cycle(expr)]
 pub struct Expr {
+    /// The place of its first byte, in bytes from the start of the text.
     pub at: u32,
+    /// Its type once types are checked; before, this says nothing.
     pub ty: Ty,
+    /// What it is.
     pub form: Form,
 }
 
@@ -110,9 +110,11 @@ pub enum Form {
 pub struct Binding {
     /// The place of its name.
     pub at: u32,
+    /// The name that is bound.
     pub name: Name,
     /// What `letmut` declares. A binding of `let` is not mutable, and declares nothing.
     pub declared: Option<Declared>,
+    /// The expression whose value it gets.
     pub value: Expr,
 }
 
@@ -121,6 +123,7 @@ pub struct Binding {
 pub struct Declared {
     /// The place of its word.
     pub at: u32,
+    /// The component itself.
     pub comp: bs_words::Comp,
 }
 
@@ -128,7 +131,9 @@ pub struct Declared {
 #[derive(Drop)]
 #[cycle(expr)]
 pub struct Case {
+    /// The numbers that choose it.
     pub indexes: Vec<CaseIndex>,
+    /// What is evaluated where the case is chosen.
     pub body: Expr,
 }
 
@@ -147,8 +152,11 @@ pub struct CaseIndex {
 pub struct Handler {
     /// The place of its label; of a handler without one, that of its body.
     pub at: u32,
+    /// The label that an exit to it has.
     pub label: Label,
+    /// The names that the arguments of an exit are bound to.
     pub params: Vec<Param>,
+    /// What is evaluated after an exit to it.
     pub body: Expr,
 }
 

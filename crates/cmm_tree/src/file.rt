@@ -5,6 +5,7 @@ use bs_words::{Comp, List, Name};
 /// What a text holds.
 #[derive(Drop)]
 pub struct File {
+    /// The functions and lists of static data, in the order of the text.
     pub items: List<Item>,
 }
 
@@ -24,8 +25,11 @@ pub struct Function {
     pub at: u32,
     /// The place of its symbol.
     pub name_at: u32,
+    /// Its symbol.
     pub name: Name,
+    /// Its parameters.
     pub params: List<Param>,
+    /// Its body.
     pub body: Expr,
     /// The number of its tokens, its parentheses counted.
     pub tokens: u32,
@@ -36,7 +40,9 @@ pub struct Function {
 pub struct Param {
     /// The place of its name, in bytes from the start of the text.
     pub at: u32,
+    /// The name that is bound.
     pub name: Name,
+    /// The component that it is declared with.
     pub comp: Comp,
     /// The place of its component.
     pub comp_at: u32,
@@ -47,6 +53,7 @@ pub struct Param {
 pub struct DataList {
     /// The place of its `(`, in bytes from the start of the text.
     pub at: u32,
+    /// Its items, in the order of the text.
     pub items: List<DataItem>,
 }
 
@@ -55,6 +62,7 @@ pub struct DataList {
 pub struct DataItem {
     /// The place of its first token, in bytes from the start of the text.
     pub at: u32,
+    /// What it is.
     pub datum: Datum,
 }
 

@@ -24,8 +24,11 @@ use std::alloc::{AllocError, Global};
 /// The names and labels that are visible where a node is, and the fault that is reported so far.
 #[derive(Drop)]
 pub struct Checker {
+    /// The names that are visible.
     pub names: Names,
+    /// The labels that are visible.
     pub labels: Labels,
+    /// The fault that is reported so far, if there is one.
     pub found: Option<Fault>,
 }
 

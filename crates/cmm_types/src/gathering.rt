@@ -16,7 +16,9 @@ use std::alloc::{AllocError, Global};
 /// The symbols that are defined so far, and the fault that is reported of them.
 #[derive(Drop)]
 pub struct Gathering {
+    /// The symbols that are defined so far.
     pub symbols: Symbols,
+    /// The fault that is reported so far, if there is one.
     pub found: Option<Fault>,
 }
 

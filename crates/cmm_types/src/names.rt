@@ -12,7 +12,9 @@ use std::marker::Model;
 /// What a name in scope stands for: a value of this type, which an assignment may change or not.
 #[derive(Clone, Copy)]
 pub struct Meaning {
+    /// The type of its value.
     pub ty: Ty,
+    /// Whether an assignment may change it.
     pub mutable: bool,
 }
 

@@ -14,7 +14,9 @@ use cmm_tree::{Declared, Param};
 /// What is found out of a node: its type if no float was in it, and whether a float form is in it.
 #[derive(Clone, Copy)]
 pub struct Seen {
+    /// Its type if no float was in it.
     pub plain: Ty,
+    /// Whether a float form is in it.
     pub float: bool,
 }
 

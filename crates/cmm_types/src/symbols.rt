@@ -14,7 +14,9 @@ use std::marker::Model;
 /// function the number of its parameters.
 #[derive(Clone, Copy)]
 pub struct Definition {
+    /// The place of its string.
     pub at: u32,
+    /// The number of parameters of a function; static data has none.
     pub parameters: Option<usize>,
 }
 

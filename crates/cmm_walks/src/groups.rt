@@ -10,6 +10,7 @@ use walk_tables::{Node, Step};
 /// Numbers of nodes.
 #[derive(Drop)]
 pub struct Group {
+    /// The numbers themselves.
     pub members: Vec<usize>,
 }
 

@@ -15,6 +15,7 @@ const UNLABELLED: u64 = 0x1_0000_0000;
 /// A label that a node begins with.
 #[derive(Clone, Copy)]
 pub struct Seed {
+    /// The label itself.
     pub label: u32,
     /// The number of the node.
     pub place: usize,
@@ -24,8 +25,11 @@ pub struct Seed {
 /// their labels on.
 #[derive(Drop)]
 pub struct Labels {
+    /// The label of each node by its number, or 2^32 where it has none.
     pub of: Vec<u64>,
+    /// The numbers of the nodes that were labelled, in the order in which they were.
     pub queue: Vec<usize>,
+    /// How many of the queue have passed their labels on.
     pub done: usize,
 }
 

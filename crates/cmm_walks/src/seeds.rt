@@ -11,7 +11,9 @@ use walk_tables::{Node, Step};
 /// What is searched for: the least of one part, with all parts within limits.
 #[derive(Clone, Copy)]
 pub struct Goal {
+    /// The greatest place of each part.
     pub limits: Limits,
+    /// The part whose least place is searched for.
     pub part: Part,
 }
 

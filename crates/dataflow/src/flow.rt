@@ -44,6 +44,7 @@ pub fn bare_place(alloc: Global) -> Place
 /// A graph of places, which are numbered from 0 by their order.
 #[derive(Drop)]
 pub struct Flow {
+    /// The places, in the order of their numbers.
     pub places: List<Place>,
 
     /// The number below which all numbers are that places read and write.

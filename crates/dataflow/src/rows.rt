@@ -8,6 +8,7 @@ use bs_bits::Bits;
 /// A set of numbers for each place of a graph.
 #[derive(Drop)]
 pub struct Rows {
+    /// The set of each place, in the order of the places.
     pub rows: Vec<Bits>,
 }
 

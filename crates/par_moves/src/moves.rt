@@ -8,8 +8,11 @@ use rv_isa::Register;
 /// A move of one value of the component `comp`. `Loc::Unset` is a location like any other here.
 #[derive(Clone, Copy)]
 pub struct Move {
+    /// Where the value is.
     pub from: Loc,
+    /// Where the value goes.
     pub to: Loc,
+    /// The component of the value.
     pub comp: Comp,
 }
 

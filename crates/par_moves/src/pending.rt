@@ -12,6 +12,7 @@ use std::collections::BTreeMap;
 /// Pending moves: under the key of each location those that read it, the next one last.
 #[derive(Drop)]
 pub struct Pending {
+    /// The moves by the key of the location that they read.
     pub readers: BTreeMap<u64, Vec<Move>>,
 }
 

@@ -5,7 +5,9 @@
 /// chapter on the M extension).
 #[derive(Copy, Clone, Debug)]
 pub enum AluOp {
+    /// The sum.
     Add,
+    /// `rs1` less `rs2`.
     Sub,
     /// The shift to the left, by the low 6 bits of `rs2`.
     Sll,
@@ -13,13 +15,17 @@ pub enum AluOp {
     Slt,
     /// 1 where `rs1` is less than `rs2` as an unsigned number, else 0.
     Sltu,
+    /// The bits that exactly one has.
     Xor,
     /// The shift to the right that brings in zeros, by the low 6 bits of `rs2`.
     Srl,
     /// The shift to the right that brings in the sign, by the low 6 bits of `rs2`.
     Sra,
+    /// The bits that at least one has.
     Or,
+    /// The bits that both have.
     And,
+    /// The low half of the product.
     Mul,
     /// The high half of the product of signed numbers.
     Mulh,
@@ -41,15 +47,25 @@ pub enum AluOp {
 /// sign. A shift is by the low 5 bits of `rs2`, and a quotient by 0 is 2^64 - 1 here too.
 #[derive(Copy, Clone, Debug)]
 pub enum AluWordOp {
+    /// The sum.
     Addw,
+    /// `rs1` less `rs2`.
     Subw,
+    /// The shift to the left.
     Sllw,
+    /// The shift to the right that brings in zeros.
     Srlw,
+    /// The shift to the right that brings in the sign.
     Sraw,
+    /// The product.
     Mulw,
+    /// The signed quotient, toward zero.
     Divw,
+    /// The unsigned quotient.
     Divuw,
+    /// The signed remainder, with the sign of `rs1`.
     Remw,
+    /// The unsigned remainder.
     Remuw,
 }
 
@@ -57,19 +73,28 @@ pub enum AluWordOp {
 /// immediate, extended by its sign (in `Sltiu` too).
 #[derive(Copy, Clone, Debug)]
 pub enum AluImmOp {
+    /// The sum.
     Addi,
+    /// 1 where `rs1` is less than the immediate as a signed number, else 0.
     Slti,
+    /// 1 where `rs1` is less than the immediate as an unsigned number, else 0.
     Sltiu,
+    /// The bits that exactly one has.
     Xori,
+    /// The bits that at least one has.
     Ori,
+    /// The bits that both have.
     Andi,
 }
 
 /// The rows of OP-IMM that shift by a 6-bit amount: to the left, to the right with zeros, to the right with the sign.
 #[derive(Copy, Clone, Debug)]
 pub enum ShiftOp {
+    /// The shift to the left.
     Slli,
+    /// The shift to the right that brings in zeros.
     Srli,
+    /// The shift to the right that brings in the sign.
     Srai,
 }
 
@@ -77,8 +102,11 @@ pub enum ShiftOp {
 /// extended by its sign.
 #[derive(Copy, Clone, Debug)]
 pub enum ShiftWordOp {
+    /// The shift to the left.
     Slliw,
+    /// The shift to the right that brings in zeros.
     Srliw,
+    /// The shift to the right that brings in the sign.
     Sraiw,
 }
 
@@ -86,32 +114,49 @@ pub enum ShiftWordOp {
 /// sign, or with `u` by zeros.
 #[derive(Copy, Clone, Debug)]
 pub enum LoadWidth {
+    /// 1 byte, extended by its sign.
     Lb,
+    /// 2 bytes, extended by their sign.
     Lh,
+    /// 4 bytes, extended by their sign.
     Lw,
+    /// 8 bytes.
     Ld,
+    /// 1 byte, extended by zeros.
     Lbu,
+    /// 2 bytes, extended by zeros.
     Lhu,
+    /// 4 bytes, extended by zeros.
     Lwu,
 }
 
 /// The rows of STORE: the low 1, 2, 4 or 8 bytes (`b`, `h`, `w`, `d`), the lowest first.
 #[derive(Copy, Clone, Debug)]
 pub enum StoreWidth {
+    /// 1 byte.
     Sb,
+    /// 2 bytes.
     Sh,
+    /// 4 bytes.
     Sw,
+    /// 8 bytes.
     Sd,
 }
 
 /// The rows of BRANCH: equal, not equal, less, not less, and the last two on unsigned numbers (`u`).
 #[derive(Copy, Clone, Debug)]
 pub enum Condition {
+    /// `rs1` is equal to `rs2`.
     Beq,
+    /// `rs1` is not equal to `rs2`.
     Bne,
+    /// `rs1` is less than `rs2`, as signed numbers.
     Blt,
+    /// `rs1` is not less than `rs2`, as signed numbers.
     Bge,
+    /// `rs1` is less than `rs2`, as unsigned numbers.
     Bltu,
+    /// `rs1` is not less than `rs2`, as unsigned numbers.
     Bgeu,
 }
 

@@ -5,8 +5,8 @@
 
 ghost use Rattle.std.specs.Prelude.{◌≡◌, option_copied, slice_get};
 
-/// An integer register, x0 to x31, in the order of their numbers. Those that have no sentence hold values of a
-/// function (`COLOURS`), and some of them arguments of a call (`ARGUMENT_REGISTERS`).
+/// An integer register, x0 to x31, in the order of their numbers. Those that pass arguments of a
+/// call (`ARGUMENT_REGISTERS`) hold values of a function too (`COLOURS`).
 #[derive(Copy, Clone)]
 pub enum Register {
     /// Reads 0, and takes nothing.
@@ -25,33 +25,53 @@ pub enum Register {
     T1,
     /// Scratch; the number of a service.
     T2,
+    /// Holds values of a function.
     S0,
     /// The trap pointer: the address of the innermost trap frame.
     S1,
     /// The first argument, the result, and the value that is raised.
     A0,
+    /// The second argument.
     A1,
+    /// The third argument.
     A2,
+    /// The fourth argument.
     A3,
+    /// The fifth argument.
     A4,
+    /// The sixth argument.
     A5,
+    /// The seventh argument.
     A6,
+    /// The eighth argument.
     A7,
+    /// The ninth argument.
     S2,
+    /// The tenth argument.
     S3,
+    /// The eleventh argument.
     S4,
+    /// The twelfth argument.
     S5,
+    /// The thirteenth argument.
     S6,
+    /// The fourteenth argument.
     S7,
+    /// The fifteenth argument.
     S8,
+    /// The sixteenth argument.
     S9,
     /// The allocation pointer.
     S10,
     /// The address of the domain page.
     S11,
+    /// Holds values of a function.
     T3,
+    /// Holds values of a function.
     T4,
+    /// Holds values of a function.
     T5,
+    /// Holds values of a function.
     T6,
 }
 

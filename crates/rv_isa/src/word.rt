@@ -6,11 +6,20 @@ ghost use Rattle.std.specs.Prelude.{◌≡◌, ◌+◌, ◌*◌, ◌/◌, ◌%�
 /// The fields of a word, from its lowest bit: 7, 5, 3, 5, 5 and 7 bits.
 #[derive(Copy, Clone)]
 pub struct Fields {
+    /// The lowest 7 bits: which group of rows the instruction is of.
     pub opcode: u8,
+    /// The number of the register that is written; in a store or a branch, bits of the immediate.
     pub rd: u8,
+    /// The row of its group, or a part of what says it; in `Lui`, `Auipc` and `Jal`, bits of the
+    /// immediate.
     pub funct3: u8,
+    /// The number of the first register that is read; in `Lui`, `Auipc` and `Jal`, bits of the
+    /// immediate.
     pub rs1: u8,
+    /// The number of the second register that is read; without one, bits of the immediate, or of
+    /// the amount.
     pub rs2: u8,
+    /// A part of what says the row, or bits of the immediate.
     pub funct7: u8,
 }
 

@@ -49,7 +49,9 @@ impl Next {
 /// One node: what a walk does there, and the numbers of the nodes that may come next.
 #[derive(Drop)]
 pub struct Node {
+    /// What a walk does there.
     pub step: Step,
+    /// The nodes that may come next.
     pub next: Next,
 }
 

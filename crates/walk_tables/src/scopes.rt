@@ -16,7 +16,9 @@ use std::alloc::AllocError;
 /// What a name in scope stands for.
 #[derive(Clone, Copy)]
 pub struct Found {
+    /// The type of its value.
     pub ty: Ty,
+    /// Whether an assignment may change it.
     pub mutable: bool,
     /// The number of the slot that walks bind it to, from 0 on.
     pub slot: usize,

@@ -19,6 +19,7 @@ use std::alloc::{AllocError, Global};
 /// The table of a function: its nodes, and the one at which a walk begins.
 #[derive(Drop)]
 pub struct Table {
+    /// The nodes, in the order of their numbers.
     pub nodes: Vec<Node>,
     /// The number of that node.
     pub entry: usize,
