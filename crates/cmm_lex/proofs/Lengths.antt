@@ -1,10 +1,17 @@
--- Words of a table that have the length of a text.
-use Rattle.std.proofs.Common.{◌≡◌, ℕ, ◌==◌, Bool, true, false, cond, List, [], ◌∷◌, Some, bytes_eq, length, ◌≤◌, ◌||◌, ◌&&◌, inl, inr, nat_le, None, refl, sym, ap, ◌∙◌}
+-- Looking words up in a table, and those that have the length of a text.
+use Rattle.std.proofs.Common.{◌≡◌, ℕ, ◌==◌, Bool, true, false, cond, List, [], ◌∷◌, Some, bytes_eq, find, option_map, length, ◌≤◌, ◌||◌, ◌&&◌, inl, inr, nat_le, None, refl, sym, ap, ◌∙◌}
 use Rattle.std.specs.List.{list_all}
 use Rattle.std.proofs.lemmas.Bool.{false_from_ne_true, eqb-false, eqb-true, leb-true, and_parts, or_cases}
 use Rattle.std.proofs.lemmas.Slice.Eq.{bytes_eq-Decides}
 use Rattle.cmm_lex.specs.declared.token.TokenKind.{TokenKind}
 use Rattle.cmm_lex.specs.Scanning.{find_spelled, keyword_table}
+
+-- what is found: the first entry's kind, or what the others give
+pub found-cond : (t : Bool) (entry : List ℕ × TokenKind) (entries : List (List ℕ × TokenKind)) (text : List ℕ)
+    → option_map (λ (e : List ℕ × TokenKind). e.1) (cond t (Some entry) (find (λ (e : List ℕ × TokenKind). bytes_eq e.0 text) entries))
+    ≡ cond t (Some entry.1) (find_spelled entries text)
+found-cond true entry entries text = refl
+found-cond false entry entries text = refl
 
 -- the entries whose words have this length
 abbrev pub of_length : ℕ → List (List ℕ × TokenKind) → List (List ℕ × TokenKind)
@@ -23,7 +30,10 @@ find-of-length n (entry ∷ entries) text long = at_length (length entry.0 == n)
         → find_spelled entries text ≡ find_spelled (of_length n entries) text
         → find_spelled (entry ∷ entries) text
         ≡ find_spelled (cond t (entry ∷ of_length n entries) (of_length n entries)) text
-    at_length true e later = ap (cond (bytes_eq entry.0 text) (Some entry.1)) later
+    at_length true e later =
+        found-cond (bytes_eq entry.0 text) entry entries text
+        ∙ ap (cond (bytes_eq entry.0 text) (Some entry.1)) later
+        ∙ sym (found-cond (bytes_eq entry.0 text) entry (of_length n entries) text)
     at_length false e later =
         let other : bytes_eq entry.0 text ≡ false =
         false_from_ne_true (bytes_eq entry.0 text)

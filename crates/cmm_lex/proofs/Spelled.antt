@@ -18,6 +18,7 @@ use Rattle.cmm_lex.specs.Form.{Matches, spelled, one_of}
 use Rattle.cmm_lex.specs.Scanning.{find_spelled, keyword_table, sign_table, kind_of}
 use Rattle.cmm_lex.specs.Strings.{IsString}
 use Rattle.cmm_lex.specs.Tokens.{keyword_text, sign_text, operators, float_operators, IsToken, is_name, is_keyword, is_integer, is_pointer, is_float, is_string, is_operator, is_float_operator, is_sign}
+use Rattle.cmm_lex.proofs.Lengths.{found-cond}
 use Rattle.cmm_lex.proofs.Languages.{AreBytes, spellings, accepts-shape, shape-accepts}
 
 -- ---- tables
@@ -38,7 +39,9 @@ find-from : (P : TokenKind → List ℕ → Type 0) (table : List (List ℕ × T
     → find_spelled table text ≡ Some k
     → P k text
 find-from P [] text k all e = cc
-find-from P (entry ∷ entries) text k all e = at_test (λ found. find-from P entries text k all.1 found) (bytes_eq entry.0 text) refl e
+find-from P (entry ∷ entries) text k all e =
+    at_test (λ found. find-from P entries text k all.1 found) (bytes_eq entry.0 text) refl
+    (sym (found-cond (bytes_eq entry.0 text) entry entries text) ∙ e)
   where
     at_test : (find_spelled entries text ≡ Some k → P k text)
         → (t : Bool)
@@ -476,7 +479,9 @@ one_of-found [] text m = absurd m
 one_of-found (entry ∷ entries) text (inl m) =
     let same = (bytes_eq-Decides entry.0 text).1 (spelled-is entry.0 text m) in
     (entry.1, rw same refl)
-one_of-found (entry ∷ entries) text (inr m) = at_test (one_of-found entries text m) (bytes_eq entry.0 text)
+one_of-found (entry ∷ entries) text (inr m) =
+    subst (λ (o : Option TokenKind). (k : TokenKind) × (o ≡ Some k)) (sym (found-cond (bytes_eq entry.0 text) entry entries text))
+    (at_test (one_of-found entries text m) (bytes_eq entry.0 text))
   where
     at_test : ((k : TokenKind) × (find_spelled entries text ≡ Some k))
         → (t : Bool)

@@ -1,5 +1,5 @@
 -- What the lexer's own functions give. The definitions of a text's tokens do not rest on this.
-use Rattle.std.specs.Prelude.{◌≡◌, ℕ, ◌+◌, ◌-◌, ◌*◌, ◌^◌, Bool, false, cond, not, ◌&&◌, ◌||◌, ◌==◌, nat_le, List, [], ◌∷◌, ◌++◌, length, Option, Some, None, is_some, unwrap_or, codes, bytes_eq, suc, zero}
+use Rattle.std.specs.Prelude.{◌≡◌, ℕ, ◌+◌, ◌-◌, ◌*◌, ◌^◌, Bool, false, cond, not, ◌&&◌, ◌||◌, ◌==◌, nat_le, List, [], ◌∷◌, ◌++◌, length, Option, Some, None, is_some, option_map, unwrap_or, map, find, codes, bytes_eq, suc, zero}
 use Rattle.bs_fault.specs.declared.fault.Fault.{Fault}
 use Rattle.bs_fault.specs.declared.fault.Fault.TheVariants.{BadToken, Unclosed, IntRange}
 use denote.Ref.{Bor}
@@ -98,14 +98,13 @@ abbrev pub IsFine : List ℕ → Type 0
 IsFine bytes = (tail : List ℕ) → behind_string bytes ≡ Some tail → Fine bytes tail
 
 -- the kind of the first entry that is spelled so
-abbrev pub find_kind : List (Bor (List ℕ) × TokenKind) → List ℕ → Option TokenKind
-find_kind [] text = None
-find_kind (entry ∷ entries) text = cond (bytes_eq entry.0.now text) (Some entry.1) (find_kind entries text)
-
--- the same in a table without pointers
 abbrev pub find_spelled : List (List ℕ × TokenKind) → List ℕ → Option TokenKind
-find_spelled [] text = None
-find_spelled (entry ∷ entries) text = cond (bytes_eq entry.0 text) (Some entry.1) (find_spelled entries text)
+find_spelled table text =
+    option_map (λ (e : List ℕ × TokenKind). e.1) (find (λ (e : List ℕ × TokenKind). bytes_eq e.0 text) table)
+
+-- the entries of a table that is lent
+abbrev pub entries_of : List (Bor (List ℕ) × TokenKind) → List (List ℕ × TokenKind)
+entries_of table = map (λ (e : Bor (List ℕ) × TokenKind). (e.0.now, e.1)) table
 
 abbrev pub keyword_table : List (List ℕ × TokenKind)
 keyword_table =

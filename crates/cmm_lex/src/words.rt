@@ -1,6 +1,6 @@
 //! Words and signs by their spelling.
 ghost use Rattle.std.specs.Prelude.{◌≡◌};
-ghost use Rattle.cmm_lex.specs.Scanning.{find_kind, find_spelled, keyword_table, sign_table, kind_of};
+ghost use Rattle.cmm_lex.specs.Scanning.{entries_of, find_spelled, keyword_table, sign_table, kind_of};
 
 use crate::state::Shape;
 use crate::token::{Keyword, Sign, TokenKind};
@@ -133,7 +133,7 @@ const SIGNS: [(&[u8], TokenKind); 36] = [
 
 /// The kind of the first entry that is spelled so.
 fn find_kind(entries: &[(&[u8], TokenKind)], text: &[u8]) -> Option<TokenKind>
-    ensures { result ≡ find_kind entries.now text.now }
+    ensures { result ≡ find_spelled (entries_of entries.now) text.now }
 {
     for (spelling, kind) in entries {
         if *spelling == text {
