@@ -25,7 +25,9 @@ use std::thread::Threads;
 /// The words and the descriptors of one function, or of all.
 #[derive(Drop)]
 pub struct Code {
+    /// The words, in order: those of all begin with the stub.
     pub words: Vec<u32>,
+    /// The frame descriptors, in the order of the code.
     pub descs: Vec<DescRow>,
 }
 

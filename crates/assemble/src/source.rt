@@ -14,6 +14,7 @@ use rv_pieces::Pieces;
 /// A file, and all that is known of it before its image is made.
 #[derive(Clone, Copy)]
 pub struct Source<'a, 'b> {
+    /// The file itself.
     pub file: &'b File,
     /// Its static data.
     pub data: &'b DataMap,
@@ -23,6 +24,7 @@ pub struct Source<'a, 'b> {
     pub calls: &'a ExternalRows,
     /// The pieces of its functions, in order.
     pub pieces: &'b [Pieces],
+    /// Where its functions begin, and the forms of their pieces.
     pub places: &'a Places,
 }
 

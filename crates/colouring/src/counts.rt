@@ -8,6 +8,7 @@ use bs_words::Loc;
 /// A count for each of the thirty-two machine registers, by number.
 #[derive(Clone, Copy)]
 pub struct Counts {
+    /// How many registers are in the machine register of each number.
     pub items: [u128; 32],
 }
 

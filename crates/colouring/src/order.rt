@@ -16,6 +16,7 @@ use std::cmp::Reverse;
 pub struct Ranked<'a> {
     /// As `urgency` has it: 0 where it is not urgent.
     pub urgency: u64,
+    /// The node.
     pub node: &'a Node,
 }
 

@@ -36,6 +36,7 @@ pub enum Command {
 pub struct RunWords {
     /// The name of the function that is called.
     pub entry: Name,
+    /// The arguments of the function, in order.
     pub args: List<Arg>,
     /// What the external calls that are asked for give, in order.
     pub answers: List<Arg>,
@@ -54,6 +55,7 @@ pub struct RunWords {
 pub struct CheckWords {
     /// The name of the function that is called.
     pub entry: Name,
+    /// The arguments of the function, in order.
     pub args: List<Arg>,
     /// What the external calls that are asked for give, in order.
     pub answers: List<Arg>,

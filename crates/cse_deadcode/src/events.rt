@@ -15,6 +15,7 @@ use std::cmp::Ordering;
 /// An integer operator, ordered by its place among all.
 #[derive(Clone, Copy)]
 pub struct Operator {
+    /// The operator.
     pub operator: IntOp,
 }
 
@@ -101,9 +102,13 @@ impl Ord for Operator {
 /// What an operator computes: its constant, if it has one, and the numbers of its registers.
 #[derive(Clone, Copy, PartialEq, Eq, PartialOrd, Ord)]
 pub struct Computed {
+    /// The operator.
     pub operator: Operator,
+    /// The constant that is its right operand, if it has one.
     pub constant: Option<u64>,
+    /// The number of its first register, if it has one.
     pub left: Option<u32>,
+    /// The number of its second register, if it has one.
     pub right: Option<u32>,
 }
 

@@ -15,6 +15,7 @@ pub struct Frame<'a> {
     pub form: &'a Form,
     /// Whether it is in tail position.
     pub tail: bool,
+    /// Which of its parts is being evaluated.
     pub step: Step<'a>,
 }
 

@@ -13,9 +13,13 @@ use std::alloc::{AllocError, Global};
 /// A name in scope and its value.
 #[derive(Drop)]
 pub struct Bound<'a> {
+    /// The name.
     pub name: &'a Name,
+    /// Its type.
     pub ty: Ty,
+    /// Whether it may be assigned.
     pub mutable: bool,
+    /// The value that it has now.
     pub value: Value,
 }
 

@@ -24,6 +24,7 @@ pub struct World<'a> {
     pub left: u64,
     /// The most bytes of frames and tries that were active at once, so far.
     pub stack_need: u64,
+    /// The blocks and the static data.
     pub memory: Memory,
     /// The external calls so far, first to last.
     pub made: Vec<Call>,

@@ -8,7 +8,9 @@ use mach_ir::{CopyKind, Instr, MachOp, Op, Pure, Reg};
 /// A move: the numbers of the register that it reads and of the one that it writes.
 #[derive(Clone, Copy)]
 pub struct Move {
+    /// The number of the register that is read.
     pub from: u32,
+    /// The number of the register that is written.
     pub to: u32,
 }
 

@@ -13,6 +13,7 @@ use std::alloc::{AllocError, Global};
 /// The other registers of a register's moves, by number: one for each move.
 #[derive(Drop)]
 pub struct Partners {
+    /// Their numbers, in the order of the text.
     pub numbers: Vec<u32>,
 }
 

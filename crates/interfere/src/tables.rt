@@ -18,9 +18,13 @@ use std::alloc::{AllocError, Global};
 /// and its uses.
 #[derive(Drop)]
 pub struct Tables {
+    /// The register of each number, if it is one's.
     pub registers: Vec<Option<Reg>>,
+    /// Which numbers are joined.
     pub joined: Matrix,
+    /// For each number the other registers of its moves.
     pub partners: Vec<Partners>,
+    /// For each number how often the code reads or writes it.
     pub uses: Vec<u32>,
 }
 

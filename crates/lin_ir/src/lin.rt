@@ -6,7 +6,9 @@ use mach_ir::{Label, Op, Seq, Test};
 /// A location, with the component as which it is read or written.
 #[derive(Clone, Copy)]
 pub struct Spot {
+    /// The location.
     pub loc: Loc,
+    /// The component.
     pub comp: Comp,
 }
 
@@ -43,8 +45,11 @@ pub enum LinOp {
 /// An instruction: its operands and results are locations.
 #[derive(Clone, Drop)]
 pub struct Line {
+    /// What it does.
     pub op: LinOp,
+    /// The operands, in order.
     pub args: Seq<Spot>,
+    /// The results, in order.
     pub results: Seq<Spot>,
 }
 

@@ -8,7 +8,9 @@ use std::marker::Model;
 /// A block that is allocated: the header word that it is to have, and the number of its cells.
 #[derive(Clone, Copy)]
 pub struct NewBlock {
+    /// The header word.
     pub header: u64,
+    /// How many cells it has, of 8 bytes each, the header not among them.
     pub cells: u32,
 }
 

@@ -15,6 +15,7 @@ pub struct LiveMap {
 /// A register, and what colouring asks of it.
 #[derive(Clone, Drop)]
 pub struct Node {
+    /// The register.
     pub reg: Reg,
     /// The numbers of the registers that the graph joins it with, rising.
     pub neighbours: Seq<u32>,

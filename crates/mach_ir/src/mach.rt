@@ -180,8 +180,11 @@ impl MachOp {
 /// An instruction: its operands and results are registers.
 #[derive(Clone, Drop)]
 pub struct Instr {
+    /// What it does.
     pub op: MachOp,
+    /// The operands, in order.
     pub args: Seq<Reg>,
+    /// The results, in order.
     pub results: Seq<Reg>,
 }
 

@@ -66,8 +66,11 @@ pub enum Callee {
 /// answers.
 #[derive(Clone, Drop)]
 pub struct External {
+    /// Its name.
     pub name: Name,
+    /// The component of each argument, in order.
     pub params: Seq<Comp>,
+    /// What it answers.
     pub result: Ret,
 }
 

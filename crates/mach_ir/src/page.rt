@@ -18,6 +18,7 @@ use std::alloc::{AllocError, Global};
 /// Text that grows at its end.
 #[derive(Drop)]
 pub struct Page {
+    /// The bytes of the text.
     pub bytes: Vec<u8>,
 }
 

@@ -12,9 +12,13 @@ use bs_words::{Comp, Loc};
 /// other one is its own number.
 #[derive(Clone, Copy)]
 pub struct Reg {
+    /// That of no other register of the function.
     pub number: u32,
+    /// The component of what it holds.
     pub comp: Comp,
+    /// Its place, `Unset` while that is open.
     pub loc: Loc,
+    /// The number of the register from which it was made, or its own.
     pub origin: u32,
 }
 

@@ -23,6 +23,7 @@ const MOST_ROUNDS: u32 = 50;
 /// A Mach function all of whose registers have places.
 #[derive(Clone, Drop)]
 pub struct Allocated {
+    /// The function.
     pub mach: Mach,
     /// How many rounds of colouring there were.
     pub rounds: u32,

@@ -46,8 +46,11 @@ pub trait Top {
 /// What a command answers: its status, and what went to out and to err.
 #[derive(Drop)]
 pub struct Answer {
+    /// The status with which the program ends.
     pub status: u8,
+    /// The bytes that went to out.
     pub out: Vec<u8>,
+    /// The bytes that went to err.
     pub err: Vec<u8>,
 }
 

@@ -8,6 +8,7 @@ use std::thread::Threads;
 /// The top call.
 #[derive(Clone, Copy)]
 pub struct Called {
+    /// Where memory comes from.
     pub alloc: Global,
 }
 

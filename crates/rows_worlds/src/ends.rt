@@ -79,6 +79,8 @@ pub enum Asked {
 /// A call that came back: whom it called, and on what.
 #[derive(Drop)]
 pub struct Call {
+    /// Whom it called.
     pub callee: Asked,
+    /// The values of its arguments, in order.
     pub args: Vec<Value>,
 }

@@ -9,7 +9,9 @@ use std::alloc::{AllocError, Global};
 /// The pieces so far. Each method puts some after them.
 #[derive(Drop)]
 pub struct Output {
+    /// The pieces, first to last.
     pub pieces: Vec<Piece>,
+    /// Where memory comes from.
     pub alloc: Global,
 }
 

@@ -16,8 +16,11 @@ use std::alloc::AllocError;
 /// external call.
 #[derive(Clone, Copy)]
 pub struct Placed<'a> {
+    /// The pieces, in order.
     pub code: &'a [Piece],
+    /// The form of each piece.
     pub forms: &'a [Form],
+    /// For each piece what its name stands for.
     pub targets: &'a [u32],
 }
 

@@ -41,11 +41,13 @@ pub(crate) struct Room {
 /// The machine. Contracts see the state of its hart.
 #[derive(Drop)]
 pub struct Machine<'a> {
+    /// The image that it runs.
     pub image: &'a Image,
     /// x0 to x31.
     pub registers: [u64; 32],
     /// The address of the next instruction.
     pub pc: u64,
+    /// The regions that may be written.
     pub memory: Memory,
     /// The lowest address that the stack pointer may have.
     pub stack_base: u64,
@@ -57,6 +59,7 @@ pub struct Machine<'a> {
     pub retired: u64,
     /// How many allocation services and frame calls have moved blocks.
     pub services: u64,
+    /// What moving blocks needs.
     pub space: Space,
 }
 

@@ -11,6 +11,7 @@ use thiserror::Error;
 pub struct Setup {
     /// The function that is called.
     pub entry: Name,
+    /// The arguments of the function, in order.
     pub args: List<Arg>,
     /// The bytes of the stack.
     pub stack: u32,

@@ -10,6 +10,7 @@ use std::alloc::{AllocError, Global};
 /// What moving blocks needs, so that no service takes memory.
 #[derive(Drop)]
 pub struct Space {
+    /// A mark for each word where a block may start.
     pub table: Table,
     /// Room for the blocks of the young area.
     pub young: Vec<BlockPlace>,

@@ -54,5 +54,6 @@ pub enum Piece {
 pub struct Pieces {
     /// A multiple of 16.
     pub frame: u32,
+    /// The pieces, from the entry on.
     pub code: Seq<Piece>,
 }

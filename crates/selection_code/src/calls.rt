@@ -66,7 +66,9 @@ fn tail_result(valued: bool, written: Ret) -> Ret
 /// A call: what it calls, what it is written to give, and whether it takes the place of its function.
 #[derive(Clone, Copy)]
 pub struct Call {
+    /// What it is written to give.
     pub written: Ret,
+    /// Whether it takes the place of its function.
     pub tail: bool,
     /// Whether the value of the function is wanted, where the call takes its place.
     pub valued: bool,

@@ -15,7 +15,9 @@ use selection_scope::outline::{Outline, outline_of};
 /// An operator with a constant as its right operand.
 #[derive(Clone, Copy)]
 pub struct Immediate {
+    /// The operator.
     pub op: IntOp,
+    /// The constant.
     pub word: u64,
 }
 

@@ -94,9 +94,13 @@ pub fn operator<F: Fn(&mut Scope, &mut Backwards, Place, &Expr) -> Result<(), Al
 /// `base`.
 #[derive(Clone, Copy)]
 pub struct Branch {
+    /// Where its operands are.
     pub shape: Shape,
+    /// The test of them.
     pub test: Test,
+    /// Where the code goes on if it fails.
     pub otherwise: Label,
+    /// The first of its numbers.
     pub base: u32,
 }
 

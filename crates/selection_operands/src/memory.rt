@@ -31,6 +31,7 @@ const HEADER_OFFSET: u64 = 0xFFFF_FFFF_FFFF_FFF8;
 /// The address of an access: an expression, and bytes after it.
 #[derive(Clone, Copy)]
 pub struct Address<'e> {
+    /// The expression.
     pub base: &'e Expr,
     /// In bytes, a word that wraps.
     pub offset: u64,

@@ -22,7 +22,9 @@ use std::alloc::AllocError;
 /// What selects the expressions below a node, whose numbers begin with this one or a later one.
 #[derive(Drop)]
 pub struct Below<'f, F> {
+    /// The least number with which those of such an expression begin.
     pub first: u32,
+    /// Selects one such expression.
     pub select: &'f F,
 }
 
@@ -30,9 +32,13 @@ pub struct Below<'f, F> {
 /// place it needs no code.
 #[derive(Clone, Copy)]
 pub struct Operand<'e> {
+    /// The expression.
     pub expr: &'e Expr,
+    /// The register for its value.
     pub reg: Reg,
+    /// The first of its own numbers.
     pub base: u32,
+    /// Whether it needs code: the instruction has no constant in its place.
     pub needed: bool,
 }
 

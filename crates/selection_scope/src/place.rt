@@ -22,7 +22,9 @@ pub struct Place {
 /// A node: its type, and where its value goes.
 #[derive(Clone, Copy)]
 pub struct Node {
+    /// The type of the node.
     pub ty: Ty,
+    /// Where its value goes.
     pub place: Place,
 }
 

@@ -14,6 +14,7 @@ const MOST: usize = 17;
 /// A register in a row. A place of the row that holds none yet has a blank one.
 #[derive(Clone, Copy)]
 pub struct InRow {
+    /// The register.
     pub reg: Reg,
 }
 

@@ -20,9 +20,13 @@ use std::marker::Model;
 /// A name in scope, and its register.
 #[derive(Drop)]
 pub struct Bound {
+    /// The name.
     pub name: Name,
+    /// Its type.
     pub ty: Ty,
+    /// Whether it may be assigned.
     pub mutable: bool,
+    /// The register that holds its value.
     pub reg: Reg,
 }
 
@@ -30,9 +34,13 @@ pub struct Bound {
 /// what is selected.
 #[derive(Drop)]
 pub struct Target {
+    /// Its label in the text.
     pub label: Label,
+    /// The registers of its parameters, in order.
     pub params: Regs,
+    /// Its label in the code.
     pub number: mach_ir::Label,
+    /// How many tries are between it and what is selected.
     pub tries: u32,
 }
 

@@ -14,6 +14,7 @@ use std::alloc::{AllocError, Global};
 /// A register is moved to itself before the instruction at a place.
 #[derive(Clone, Copy)]
 pub struct Move {
+    /// The register.
     pub reg: Reg,
     /// The number of instructions before that one.
     pub place: usize,

@@ -13,8 +13,11 @@ use std::alloc::{AllocError, Global};
 /// What is fresh and what is stale before each place, and the graph of what is fresh.
 #[derive(Drop)]
 pub struct Solved {
+    /// The graph of what is fresh.
     pub graph: Flow,
+    /// The numbers that are fresh before each place.
     pub fresh: Rows,
+    /// The numbers that are stale before each place.
     pub stale: Rows,
 }
 

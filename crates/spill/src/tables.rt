@@ -6,7 +6,10 @@ use dataflow::Rows;
 /// which on those of slots are.
 #[derive(Drop)]
 pub struct Tables {
+    /// The first number of slots: above those of all registers.
     pub free: u32,
+    /// The numbers of the registers that are lost before each place.
     pub lost: Rows,
+    /// The numbers of the registers that are wanted before each place.
     pub wanted: Rows,
 }

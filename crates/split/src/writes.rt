@@ -13,13 +13,16 @@ use std::alloc::{AllocError, Global};
 /// Indexes of writes, in their order.
 #[derive(Drop)]
 pub struct Group {
+    /// The indexes, rising.
     pub members: Vec<u32>,
 }
 
 /// All writes of open registers, and for each number the indexes of its writes.
 #[derive(Drop)]
 pub struct Writes {
+    /// The writes: those of the parameters, then those of the code in the order of the text.
     pub all: Vec<Write>,
+    /// For each number the indexes of its writes.
     pub groups: Vec<Group>,
 }
 

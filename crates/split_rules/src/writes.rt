@@ -4,6 +4,8 @@
 /// writes the parameters, before all instructions.
 #[derive(Clone, Copy)]
 pub struct Write {
+    /// How many instructions come after it.
     pub left: u32,
+    /// The number of the register.
     pub number: u32,
 }

@@ -24,8 +24,11 @@ use std::thread::Threads;
 /// The file of a text, the call that words ask for, and what is taken from the text's image for its run.
 #[derive(Drop)]
 pub struct Ready {
+    /// The file of the text, which has no fault.
     pub checked: Checked,
+    /// The call that the words ask for.
     pub call: FileCall,
+    /// The image of the text.
     pub image: Image,
     /// The frames and addresses of the functions in the image.
     pub layout: Layout,

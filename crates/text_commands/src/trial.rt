@@ -20,7 +20,9 @@ use std::thread::Threads;
 /// The image of a text, and the outcome of a run of one of its functions by its meaning.
 #[derive(Drop)]
 pub struct Trial {
+    /// The image of the text.
     pub image: Image,
+    /// The bytes that tell the outcome of the run.
     pub outcome: List<u8>,
 }
 
