@@ -4,7 +4,7 @@ ghost use Rattle.std.specs.Io.KnownBytes.{Appends, Keeps};
 ghost use Rattle.bs_io.specs.Faults.{Risen};
 
 use bs_io::{Failed, Sink};
-use std::alloc::Global;
+use std::alloc::{AllocError, Global};
 
 /// A sink that keeps what is written to it. A write fails only for want of memory.
 #[derive(Drop)]
@@ -52,7 +52,7 @@ impl Sink for Kept {
     {
         match self.bytes.extend_from_slice(piece) {
             Ok(()) => Ok(piece.len()),
-            Err(_) => {
+            Err(AllocError) => {
                 self.faults = self.faults.saturating_add(1);
                 Err(Failed)
             }

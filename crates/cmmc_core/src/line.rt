@@ -7,7 +7,7 @@ ghost use Rattle.cmmc_core.specs.Refusal.{ReportsOr, ReportsRefusal, ReportsChec
 use crate::soak::SoakRefusal;
 use bs_fault::{Fault, ImageRefusal, Large, fault_text, image_text, large_text};
 use bs_io::{Sink, write_all};
-use std::alloc::Global;
+use std::alloc::{AllocError, Global};
 use text_commands::{CheckRefusal, Refusal};
 
 /// The output was written whole.
@@ -50,7 +50,7 @@ fn tell_large<E: Sink>(alloc: Global, err: &mut E, large: &Large) -> u8
 {
     match large_text(alloc, large) {
         Ok(line) => tell(err, line.as_slice(), TOO_LARGE),
-        Err(_) => tell(err, b"cmmc: no memory\n", NO_MEMORY),
+        Err(AllocError) => tell(err, b"cmmc: no memory\n", NO_MEMORY),
     }
 }
 
@@ -60,7 +60,7 @@ fn tell_fault<E: Sink>(alloc: Global, err: &mut E, fault: &Fault) -> u8
 {
     match fault_text(alloc, fault) {
         Ok(line) => tell(err, line.as_slice(), TEXT),
-        Err(_) => tell(err, b"cmmc: no memory\n", NO_MEMORY),
+        Err(AllocError) => tell(err, b"cmmc: no memory\n", NO_MEMORY),
     }
 }
 
@@ -104,6 +104,6 @@ pub fn tell_image<E: Sink>(alloc: Global, err: &mut E, refusal: &ImageRefusal) -
 {
     match image_text(alloc, refusal) {
         Ok(line) => tell(err, line.as_slice(), NO_IMAGE),
-        Err(_) => tell(err, b"cmmc: no memory\n", NO_MEMORY),
+        Err(AllocError) => tell(err, b"cmmc: no memory\n", NO_MEMORY),
     }
 }
