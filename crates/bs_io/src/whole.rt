@@ -3,6 +3,7 @@ ghost use Rattle.std.specs.Prelude.{◌≡◌, ◌+◌, ◌-◌, ◌^◌, ◌≤
 ghost use Rattle.std.specs.Io.KnownBytes.{Consumes, Keeps, Appends, IsAtEnd};
 ghost use Rattle.bs_words.specs.Contents.{contents};
 ghost use Rattle.bs_io.specs.Faults.{Risen};
+ghost use Rattle.bs_io.specs.declared.whole.InFault.TheVariants.{Read, OutOfMemory};
 ghost use Rattle.bs_io.specs.Whole.{AppendsPart, StopsShort};
 
 use crate::sink::Sink;
@@ -23,6 +24,22 @@ pub enum InFault {
     /// Memory ran out.
     #[error("out of memory")]
     OutOfMemory,
+}
+
+impl From<AllocError> for InFault {
+    ghost from_gives = { λ _ e. e ≡ OutOfMemory };
+
+    fn from(_e: AllocError) -> InFault {
+        InFault::OutOfMemory
+    }
+}
+
+impl From<Failed> for InFault {
+    ghost from_gives = { λ _ e. e ≡ Read };
+
+    fn from(_e: Failed) -> InFault {
+        InFault::Read
+    }
 }
 
 /// Why a whole write was cut off.
@@ -58,17 +75,13 @@ pub fn read_all<S: Source>(alloc: Global, source: &mut S, limit: u64) -> Result<
     let mut buffer = Vec::new(alloc);
     let mut filled = 0;
     while filled < most {
-        if make_room(&mut buffer, filled, most).is_err() {
-            return Err(InFault::OutOfMemory);
+        make_room(&mut buffer, filled, most)?;
+        let count = read_at(source, buffer.as_mut_slice(), filled)?;
+        if count == 0 {
+            buffer.truncate(filled);
+            return Ok(List::from_vec(buffer));
         }
-        match read_at(source, buffer.as_mut_slice(), filled) {
-            Ok(0) => {
-                buffer.truncate(filled);
-                return Ok(List::from_vec(buffer));
-            }
-            Ok(count) => filled += count,
-            Err(Failed) => return Err(InFault::Read),
-        }
+        filled += count;
     }
     buffer.truncate(filled);
     Err(InFault::Long(List::from_vec(buffer)))

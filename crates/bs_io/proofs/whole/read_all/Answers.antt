@@ -8,9 +8,9 @@ loop-filled-preserved g c =
     let was : length c.make_room.new.buffer.items ≡ c.make_room.new.buffer.len = search rules in
     let kept : take c.loop-filled.filled c.make_room.new.buffer.items ≡ take c.loop-filled.filled c.loop-filled.buffer.items = search rules in
     record {
-      filled_within = omega (arith, c.in-Ok.ensures.fits, long);
+      filled_within = omega (arith, c.in_ok-count.ensures.fits, long);
       buffer_within = c.make_room.ensures.length;
       taken = Consumes-over _ _ _ c.loop-filled.buffer.items _ c.as_mut_slice.result.now _ _ c.loop-filled.filled _ long was
-          c.in-Ok.ensures.front c.as_mut_slice.ensures.value kept c.loop-filled.invariant.taken c.in-Ok.ensures.taken;
-      never_falls = omega (arith, c.loop-filled.invariant.never_falls, c.in-Ok.ensures.never_falls);
+          c.in_ok-count.ensures.front c.as_mut_slice.ensures.value kept c.loop-filled.invariant.taken c.in_ok-count.ensures.taken;
+      never_falls = omega (arith, c.loop-filled.invariant.never_falls, c.in_ok-count.ensures.never_falls);
     }
