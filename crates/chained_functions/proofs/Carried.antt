@@ -18,7 +18,7 @@ use Rattle.mach_ir.specs.declared.mach.MachOp.TheVariants as mach
 use Rattle.mach_ir.specs.declared.mach.Instr.{Instr}
 use Rattle.mach_ir.specs.declared.mach.Mach.{Mach}
 use Rattle.lin_ir.specs.Formed as formed_lin
-use Rattle.lin_ir.specs.Formed.{labels_in, label_of, goes_to}
+use Rattle.lin_ir.specs.Formed.{labels_in, label_of, goes_to, bare}
 use Rattle.lin_ir.specs.Keeps.{IsNamedIn}
 use Rattle.lin_ir.specs.Meaning.{has_label, after_label}
 use Rattle.lin_ir.specs.Walks.{Reached, at_entry, by_step, by_raise, targets}
@@ -39,7 +39,6 @@ use Rattle.linear_rules.proofs.Places.{place_tries}
 use Rattle.linear_rules.proofs.Standing.{is_at}
 use Rattle.linear_rules.proofs.Walked.{Tail, tail_all, tail_next, tail_in, tail_stands, reached_tail}
 use Rattle.tidy_rules.specs.Leaving.{LabelsBetween, none_between, label_between, IsUseless, unreached, unread, skipped, without, with_code, is_landing}
-use Rattle.tidy_rules.specs.Leaving as leaving_out
 use Rattle.tidy_rules.specs.Redirecting.{redirect, Tidies, as_it_is, then_leaves, then_redirects, then_turns}
 use Rattle.tidy_rules.specs.Regular.{IsRegular}
 use Rattle.tidy_rules.proofs.Leaving.{Comes, there, before, comes_tail, comes_line, self_goes, useless_landing, in_code}
@@ -236,8 +235,8 @@ module _ (m : Lin) (goes : ℕ → Bool) (each : (i : Line) (next : List Line) �
   no_labels none_between w e = refl
   no_labels (label_between {l = l} {next = next} p) w e = by (goes (length next)) refl e
     where
-      by : {A : Type 0} (b : Bool) → goes (length next) ≡ b → cond b (K next) (leaving_out.bare (flow.Label l) ∷ K next) ≡ [] → A
-      by true s e = absurd (true≢false (useless_landing (each (leaving_out.bare (flow.Label l)) next (tail_stands w) s)))
+      by : {A : Type 0} (b : Bool) → goes (length next) ≡ b → cond b (K next) (bare (flow.Label l) ∷ K next) ≡ [] → A
+      by true s e = absurd (true≢false (useless_landing (each (bare (flow.Label l)) next (tail_stands w) s)))
       by false s e = absurd (none_left _ (K next) e)
 
   ended : (is : List Line) (tries : List ℕ) → Comes m is tries → K is ≡ [] → ⊥
@@ -251,7 +250,7 @@ module _ (m : Lin) (goes : ℕ → Bool) (each : (i : Line) (next : List Line) �
           let r : Reached m (i ∷ next) tries = comes_line c (useless_landing {m = m} {next = next} (unread z dead)) in
           ih (there (subst (Reached m next) (g.tries tries) (by_step r (walks.goes On g.on)))) e
       gone (skipped {l = k} same between) e ih =
-          let r : Reached m (leaving_out.bare (flow.Jump k) ∷ next) tries = subst (λ x. Reached m (x ∷ next) tries) same (comes_line c (ap (λ (i : Line). is_landing i.op) same)) in
+          let r : Reached m (bare (flow.Jump k) ∷ next) tries = subst (λ x. Reached m (x ∷ next) tries) same (comes_line c (ap (λ (i : Line). is_landing i.op) same)) in
           ih (there (subst (λ code. Reached m code tries) (sym (no_labels between (tail_next (comes_tail c)) e)) (by_step r (walks.goes (At k) this)))) e
 
       by : (b : Bool) → goes (length next) ≡ b → cond b (K next) (i ∷ K next) ≡ [] → (Comes m next tries → K next ≡ [] → ⊥) → ⊥

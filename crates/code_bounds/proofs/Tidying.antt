@@ -13,6 +13,7 @@ use Rattle.mach_ir.specs.declared.op.Op.TheVariants as op
 use Rattle.mach_ir.specs.declared.op.Pure.TheVariants as pure
 use Rattle.pass_rules.specs.Measures.{copy_words, mark_words, words_with, instr_words, code_words, one_if, code_points, exits}
 use Rattle.lin_ir.specs.Descriptors.{frame_points}
+use Rattle.lin_ir.specs.Formed.{bare}
 use Rattle.lin_ir.specs.Meaning.{passes_frame}
 use Rattle.lin_ir.specs.declared.lin.Flow.TheVariants as flow
 use Rattle.lin_ir.specs.declared.lin.LinOp.{LinOp}
@@ -22,7 +23,7 @@ use Rattle.lin_ir.specs.declared.lin.Lin.{Lin}
 use Rattle.linear_rules.specs.Lowered as lower
 use Rattle.linear_rules.specs.Lowered.{is_idle, pops, line_of, spot, lines_of_mark, lines_of, lowered_one, lowered_code, slot_number, lowered}
 use Rattle.linear_rules.proofs.Walked.{Tail, tail_all, tail_next, tail_stands}
-use Rattle.tidy_rules.specs.Leaving.{bare, without, LeavesOften, not_once, once_more}
+use Rattle.tidy_rules.specs.Leaving.{without, LeavesOften, not_once, once_more}
 use Rattle.tidy_rules.specs.Redirecting.{redirected, redirect, last_label, last_exit, redirected_all}
 use Rattle.tidy_rules.specs.Regular.{IsRegular}
 use Rattle.tidy_rules.specs.Tidied.{IsTidied}
@@ -61,7 +62,7 @@ module _ (number : ℕ → ℕ) where
 
   mark_words_lower : (f : Mark) (i : Instr) (next : List Line) →
       turned_words (lines_of_mark number f i next) ≤ mark_words f + 16 * length i.results + 17 * one_if (is_exit (mach.Mark f)) + turned_words next
-  mark_words_lower (mark.Exit l n) i next = let all = pop_words n (lower.bare number (flow.Exit l) ∷ next) in omega (arith, all)
+  mark_words_lower (mark.Exit l n) i next = let all = pop_words n (bare (flow.Exit l) ∷ next) in omega (arith, all)
   mark_words_lower (mark.If t l) i next = let same = length-map i.results (spot number) in omega (arith, same)
   mark_words_lower (mark.Else l end) i next = omega arith
   mark_words_lower (mark.Switch labels) i next = let same = length-map i.results (spot number) in omega (arith, same)
@@ -74,7 +75,7 @@ module _ (number : ℕ → ℕ) where
   mark_words_lower (mark.End l) i next = omega arith
 
   mark_points_lower : (f : Mark) (i : Instr) (next : List Line) → frame_points (lines_of_mark number f i next) ≡ frame_points next
-  mark_points_lower (mark.Exit l n) i next = pop_points n (lower.bare number (flow.Exit l) ∷ next)
+  mark_points_lower (mark.Exit l n) i next = pop_points n (bare (flow.Exit l) ∷ next)
   mark_points_lower (mark.If t l) i next = refl
   mark_points_lower (mark.Else l end) i next = refl
   mark_points_lower (mark.Switch labels) i next = refl

@@ -31,6 +31,10 @@ use Rattle.lin_ir.specs.declared.lin.Lin.{Lin}
 abbrev pub comps : List Spot → List Comp
 comps spots = map (λ (s : Spot). s.comp) spots
 
+-- a line of control with no operands
+abbrev pub bare : Flow → Line
+bare f = record { op = lin.Flow f; args = []; results = [] }
+
 -- the components of the operands and of the results that go with a line that is Linear's own
 pub data FlowHasForm : Flow → List Comp → List Comp → Type 0 where
   label_form : {l : ℕ} → FlowHasForm (flow.Label l) [] []

@@ -36,6 +36,7 @@ use Rattle.mach_laws.proofs.Walking.{ending_at}
 use Rattle.mach_laws.proofs.Among.{left_among, right_among, split_among}
 use Rattle.mach_laws.proofs.Instructions.{instr}
 use Rattle.mach_laws.proofs.Files.{put_of, PutAll, nil, cons}
+use Rattle.lin_ir.specs.Formed.{bare}
 use Rattle.lin_ir.specs.Meaning as lines
 use Rattle.lin_ir.specs.Meaning.{Locations, is_val}
 use Rattle.lin_ir.specs.Walks as walks
@@ -48,7 +49,7 @@ use Rattle.lin_ir.specs.declared.lin.Spot.{Spot}
 use Rattle.lin_laws.proofs.Forms.{not_slot}
 use Rattle.linear_rules.specs.Kept as kept
 use Rattle.linear_rules.specs.Kept.{ValsHeld, Begins}
-use Rattle.linear_rules.specs.Lowered.{home, spots, is_idle, line_of, bare, pops, lines_of, lowered_code}
+use Rattle.linear_rules.specs.Lowered.{home, spots, is_idle, line_of, pops, lines_of, lowered_code}
 use Rattle.linear_rules.proofs.Homes.{IsIn, is_first, is_later, in_of, contains_of, in_among, number_in, Pair, pair_in, Once, once_none, once_more, values_none, pair_held, single, clear_keeps, past_some, machine_of, one_at, killed_has, in_spots, spot_of, Typed, puts_at, typed_put, reads_all, in_map}
 use Rattle.linear_rules.proofs.Marks.{all_in, in_ending, args_in_code, results_in_code, AsLine, op_line, if_line, switch_line, try_line, handler_line, is_bare, IsIdle, idles, idle_of, bare_empty, EntryOf, entry_of}
 use Rattle.linear_rules.proofs.Places.{drop_more}
@@ -552,7 +553,7 @@ module _ (c : Place) (number : ℕ → ℕ) (slots : ℕ) (p : Mach) (well : Wel
         Arrive ws x (Continues (at_lines xs b (record around { tries = drop_tries n around.tries }))) → Arrive ws x (Continues (at_lines (pops number n xs) b around))
     pops_run zero xs b around r = r
     pops_run {ws} {x} (suc n) xs b around r =
-        goes_alone (calm_at c Q (bare number flow.PopTrap) (pops number n xs) b around refl)
+        goes_alone (calm_at c Q (bare flow.PopTrap) (pops number n xs) b around refl)
         (pops_run n xs b (record around { tries = drop_tries 1 around.tries })
         (subst (λ ts. Arrive ws x (Continues (at_lines xs b (record around { tries = ts })))) (drop_more n around.tries) r))
 
@@ -595,27 +596,27 @@ module _ (c : Place) (number : ℕ → ℕ) (slots : ℕ) (p : Mach) (well : Wel
       found l o = label_q number slots p well l (label_of number slots p well ending l o)
 
       -- a jump to a label, and what is live there
-      jump_live : (m : ℕ) → OneOf (At m) (targets g) → (zs : List Line) (ts : List ℕ) (l : Loc) (t : Comp) → walks.Live Q l t (L (after_label m p.code)) ts → walks.Live Q l t (bare number (flow.Jump m) ∷ zs) ts
+      jump_live : (m : ℕ) → OneOf (At m) (targets g) → (zs : List Line) (ts : List ℕ) (l : Loc) (t : Comp) → walks.Live Q l t (L (after_label m p.code)) ts → walks.Live Q l t (bare (flow.Jump m) ∷ zs) ts
       jump_live m o zs ts l t v = walks.on (none_written l) (walks.goes (At m) this) (subst (λ ys. walks.Live Q l t ys ts) (sym (found m o)) v)
 
-      exit_live : (m : ℕ) → OneOf (At m) (targets g) → (zs : List Line) (ts : List ℕ) (l : Loc) (t : Comp) → walks.Live Q l t (L (after_label m p.code)) ts → walks.Live Q l t (bare number (flow.Exit m) ∷ zs) ts
+      exit_live : (m : ℕ) → OneOf (At m) (targets g) → (zs : List Line) (ts : List ℕ) (l : Loc) (t : Comp) → walks.Live Q l t (L (after_label m p.code)) ts → walks.Live Q l t (bare (flow.Exit m) ∷ zs) ts
       exit_live m o zs ts l t v = walks.on (none_written l) (walks.goes (At m) this) (subst (λ ys. walks.Live Q l t ys ts) (sym (found m o)) v)
 
-      jump_reached : (m : ℕ) → OneOf (At m) (targets g) → (zs : List Line) (ts : List ℕ) → walks.Reached Q (bare number (flow.Jump m) ∷ zs) ts → walks.Reached Q (L (after_label m p.code)) ts
+      jump_reached : (m : ℕ) → OneOf (At m) (targets g) → (zs : List Line) (ts : List ℕ) → walks.Reached Q (bare (flow.Jump m) ∷ zs) ts → walks.Reached Q (L (after_label m p.code)) ts
       jump_reached m o zs ts r = subst (λ ys. walks.Reached Q ys ts) (found m o) (walks.by_step r (walks.goes (At m) this))
 
-      exit_reached : (m : ℕ) → OneOf (At m) (targets g) → (zs : List Line) (ts : List ℕ) → walks.Reached Q (bare number (flow.Exit m) ∷ zs) ts → walks.Reached Q (L (after_label m p.code)) ts
+      exit_reached : (m : ℕ) → OneOf (At m) (targets g) → (zs : List Line) (ts : List ℕ) → walks.Reached Q (bare (flow.Exit m) ∷ zs) ts → walks.Reached Q (L (after_label m p.code)) ts
       exit_reached m o zs ts r = subst (λ ys. walks.Reached Q ys ts) (found m o) (walks.by_step r (walks.goes (At m) this))
 
       -- a structure of which the lines are a jump and a label
-      jumps : (m k : ℕ) → OneOf (At m) (targets g) → tries_left g around.tries ≡ around.tries → L (bare_instr g ∷ next) ≡ bare number (flow.Jump m) ∷ bare number (flow.Label k) ∷ L next →
-          Arrive (written p (bare_instr g)) (Continues (at_file (after_label m p.code) a around)) (Continues (at_lines (bare number (flow.Jump m) ∷ bare number (flow.Label k) ∷ L next) b around))
+      jumps : (m k : ℕ) → OneOf (At m) (targets g) → tries_left g around.tries ≡ around.tries → L (bare_instr g ∷ next) ≡ bare (flow.Jump m) ∷ bare (flow.Label k) ∷ L next →
+          Arrive (written p (bare_instr g)) (Continues (at_file (after_label m p.code) a around)) (Continues (at_lines (bare (flow.Jump m) ∷ bare (flow.Label k) ∷ L next) b around))
       jumps m k o same shape =
-          goes_alone (calm_at c Q (bare number (flow.Jump m)) (bare number (flow.Label k) ∷ L next) b around refl)
+          goes_alone (calm_at c Q (bare (flow.Jump m)) (bare (flow.Label k) ∷ L next) b around refl)
           (subst (λ ys. Arrive (written p (bare_instr g)) (Continues (at_file (after_label m p.code) a around)) (Continues (at_lines ys b around))) (sym (found m o))
           (both_continue (λ agree. bare_goes (At m) around.tries o (sym (label_tries m o ∙ same))
-          (jump_reached m o (bare number (flow.Label k) ∷ L next) around.tries (subst (λ ys. walks.Reached Q ys around.tries) shape reached))
-          (λ l t v. subst (λ ys. walks.Live Q l t ys around.tries) (sym shape) (jump_live m o (bare number (flow.Label k) ∷ L next) around.tries l t v)))))
+          (jump_reached m o (bare (flow.Label k) ∷ L next) around.tries (subst (λ ys. walks.Reached Q ys around.tries) shape reached))
+          (λ l t v. subst (λ ys. walks.Live Q l t ys around.tries) (sym shape) (jump_live m o (bare (flow.Label k) ∷ L next) around.tries l t v)))))
 
     else_step : (k m : ℕ) → Owes (bare_instr (mach.Mark (mark.Else k m)))
     else_step k m next a b around ending tries reached typed rel calm vals =
@@ -635,14 +636,14 @@ module _ (c : Place) (number : ℕ → ℕ) (slots : ℕ) (p : Mach) (well : Wel
 
     end_step : (k : ℕ) → Owes (bare_instr (mach.Mark (mark.End k)))
     end_step k next a b around ending tries reached typed rel calm vals =
-        goes_alone (calm_at c Q (bare number (flow.Label k)) (L next) b around refl)
+        goes_alone (calm_at c Q (bare (flow.Label k)) (L next) b around refl)
         (both_continue (λ agree. bare_goes (mach.Mark (mark.End k)) refl next a b around ending tries reached typed rel calm On around.tries this tries (walks.by_step reached (walks.goes On this))
         (λ l t v. walks.on (none_written l) (walks.goes On this) v)))
 
     leave_step : (k m : ℕ) → Owes (bare_instr (mach.Mark (mark.Leave k m)))
     leave_step k m next a b around ending tries reached typed rel calm vals =
-        goes_alone (calm_at c Q (bare number flow.PopTrap) (bare number (flow.Jump m) ∷ L next) b around refl)
-        (goes_alone (calm_at c Q (bare number (flow.Jump m)) (L next) b (record around { tries = drop_tries 1 around.tries }) refl)
+        goes_alone (calm_at c Q (bare flow.PopTrap) (bare (flow.Jump m) ∷ L next) b around refl)
+        (goes_alone (calm_at c Q (bare (flow.Jump m)) (L next) b (record around { tries = drop_tries 1 around.tries }) refl)
         (subst (λ ys. Arrive (written p (bare_instr (mach.Mark (mark.Leave k m)))) (Continues (at_file (after_label m p.code) a (record around { tries = drop_tries 1 around.tries })))
         (Continues (at_lines ys b (record around { tries = drop_tries 1 around.tries })))) (sym (found (mach.Mark (mark.Leave k m)) refl next a b around ending tries reached typed rel calm m this))
         (both_continue (λ agree. bare_goes (mach.Mark (mark.Leave k m)) refl next a b around ending tries reached typed rel calm (At m) (drop_tries 1 around.tries) this
@@ -653,15 +654,15 @@ module _ (c : Place) (number : ℕ → ℕ) (slots : ℕ) (p : Mach) (well : Wel
 
     exit_step : (k n : ℕ) → Owes (bare_instr (mach.Mark (mark.Exit k n)))
     exit_step k n next a b around ending tries reached typed rel calm vals =
-        pops_run n (bare number (flow.Exit k) ∷ L next) b around
-        (goes_alone (calm_at c Q (bare number (flow.Exit k)) (L next) b (record around { tries = drop_tries n around.tries }) refl)
+        pops_run n (bare (flow.Exit k) ∷ L next) b around
+        (goes_alone (calm_at c Q (bare (flow.Exit k)) (L next) b (record around { tries = drop_tries n around.tries }) refl)
         (subst (λ ys. Arrive (written p (bare_instr (mach.Mark (mark.Exit k n)))) (Pays (at_file (after_label k p.code) a (record around { tries = drop_tries n around.tries })))
         (Pays (at_lines ys b (record around { tries = drop_tries n around.tries })))) (sym (found (mach.Mark (mark.Exit k n)) refl next a b around ending tries reached typed rel calm k this))
         (both_pay (λ agree. bare_goes (mach.Mark (mark.Exit k n)) refl next a b around ending tries reached typed rel calm (At k) (drop_tries n around.tries) this
         (sym (label_tries (mach.Mark (mark.Exit k n)) refl next a b around ending tries reached typed rel calm k this))
         (exit_reached (mach.Mark (mark.Exit k n)) refl next a b around ending tries reached typed rel calm k this (L next) (drop_tries n around.tries)
-        (pops_reached n (bare number (flow.Exit k) ∷ L next) around.tries reached))
-        (λ l t v. pops_live n (bare number (flow.Exit k) ∷ L next) around.tries
+        (pops_reached n (bare (flow.Exit k) ∷ L next) around.tries reached))
+        (λ l t v. pops_live n (bare (flow.Exit k) ∷ L next) around.tries
         (exit_live (mach.Mark (mark.Exit k n)) refl next a b around ending tries reached typed rel calm k this (L next) (drop_tries n around.tries) l t v))))))
 
     -- where nothing is read and nothing written, the instruction is this one
@@ -689,7 +690,7 @@ module _ (c : Place) (number : ℕ → ℕ) (slots : ℕ) (p : Mach) (well : Wel
     handler_step : (l : ℕ) (args results : List Reg) → Owes (instr (mach.Mark (mark.Handler l)) args results)
     handler_step l args results next a b around ending tries reached typed rel calm vals =
         let i : Instr = instr (mach.Mark (mark.Handler l)) args results in
-        goes_alone (calm_at c Q (bare number (flow.Label l)) (line_of number (lin.Flow flow.EnterTrap) i ∷ L next) b around refl)
+        goes_alone (calm_at c Q (bare (flow.Label l)) (line_of number (lin.Flow flow.EnterTrap) i ∷ L next) b around refl)
         (goes_alone (calm_at c Q (line_of number (lin.Flow flow.EnterTrap) i) (L next) b around refl)
         (one_step i next a b around (lin.Flow flow.EnterTrap) ending handler_line tries (walks.by_step reached (walks.goes On this)) typed
         (λ r ri x v u e. rel r ri x v (walks.on (none_written (home number r.loc)) (walks.goes On this) u) e) calm))

@@ -23,7 +23,7 @@ use Rattle.mach_ir.specs.declared.mach.MachOp.TheVariants as mach
 use Rattle.mach_ir.specs.declared.mach.Instr.{Instr}
 use Rattle.mach_ir.specs.declared.mach.Mach.{Mach}
 use Rattle.lin_ir.specs.Formed as formed
-use Rattle.lin_ir.specs.Formed.{FlowHasForm, labels_in, lin_operand_seats, lin_result_seats}
+use Rattle.lin_ir.specs.Formed.{FlowHasForm, labels_in, lin_operand_seats, lin_result_seats, bare}
 use Rattle.lin_ir.specs.Keeps.{IsNamedIn}
 use Rattle.lin_ir.specs.declared.lin.Flow.{Flow}
 use Rattle.lin_ir.specs.declared.lin.Flow.TheVariants as flow
@@ -33,7 +33,7 @@ use Rattle.lin_ir.specs.declared.lin.Line.{Line}
 use Rattle.lin_ir.specs.declared.lin.Lin.{Lin}
 use Rattle.lin_ir.specs.declared.lin.Spot.{Spot}
 use Rattle.mach_laws.proofs.Instructions.{instr}
-use Rattle.linear_rules.specs.Lowered.{home, spots, is_idle, line_of, bare, pops, lines_of, lowered_code}
+use Rattle.linear_rules.specs.Lowered.{home, spots, is_idle, line_of, pops, lines_of, lowered_code}
 use Rattle.linear_rules.specs.Sizes.{tries_ended_by, tries_ended}
 use Rattle.linear_rules.proofs.Homes.{IsIn, is_first, is_later, in_of, contains_of}
 use Rattle.linear_rules.proofs.Marks.{all_in, AsLine, op_line, if_line, switch_line, try_line, handler_line, idle_of, idle_labels}
@@ -65,7 +65,7 @@ module _ (number : ℕ → ℕ) where
 
   pub data Source (code : List Instr) : Line → Type 0 where
     own_line : {i : Instr} (f : LinOp) → IsIn i code → AsLine i.op f → Source code (line_of number f i)
-    bare_line : {f : Flow} → IsBare f → Source code (bare number f)
+    bare_line : {f : Flow} → IsBare f → Source code (bare f)
 
   source_later : {i : Instr} {code : List Instr} {j : Line} → Source code j → Source (i ∷ code) j
   source_later (own_line f z a) = own_line f (is_later z) a
@@ -76,7 +76,7 @@ module _ (number : ℕ → ℕ) where
   pops_source (suc n) xs is_first go = bare_line a_pop
   pops_source (suc n) xs (is_later z) go = pops_source n xs z go
 
-  bare_one : {code : List Instr} {j : Line} {f : Flow} {xs : List Line} → IsBare f → IsIn j (bare number f ∷ xs) → (IsIn j xs → Source code j) → Source code j
+  bare_one : {code : List Instr} {j : Line} {f : Flow} {xs : List Line} → IsBare f → IsIn j (bare f ∷ xs) → (IsIn j xs → Source code j) → Source code j
   bare_one b is_first go = bare_line b
   bare_one b (is_later z) go = go z
 
@@ -90,7 +90,7 @@ module _ (number : ℕ → ℕ) where
     where
       by : (g : MachOp) (args results : List Reg) → IsIn j (lines_of number g (instr g args results) (L is)) → (IsIn j (L is) → Source (instr g args results ∷ is) j) → Source (instr g args results ∷ is) j
       by (mach.Op f) args results z go = own_one (lin.Op f) is_first op_line z go
-      by (mach.Mark (mark.Exit l k)) args results z go = pops_source k (bare number (flow.Exit l) ∷ L is) z (λ z. bare_one an_exit z go)
+      by (mach.Mark (mark.Exit l k)) args results z go = pops_source k (bare (flow.Exit l) ∷ L is) z (λ z. bare_one an_exit z go)
       by (mach.Mark (mark.If t l)) args results z go = own_one _ is_first if_line z go
       by (mach.Mark (mark.Else l m)) args results z go = bare_one a_jump z (λ z. bare_one a_label z go)
       by (mach.Mark (mark.Switch ls)) args results z go = own_one _ is_first switch_line z go
@@ -137,7 +137,7 @@ module _ (number : ℕ → ℕ) where
   line_formed xs rs (forms_op {f = f} h) e u = formed.formed_op (subst (λ ts. HasForm f ts (formed.comps rs)) (sym e) (subst (HasForm f _) (sym u) h))
   line_formed xs rs (forms_flow {f = f} h) e u = formed.formed_flow (subst (λ ts. FlowHasForm f ts (formed.comps rs)) (sym e) (subst (FlowHasForm f _) (sym u) h))
 
-  bare_formed : {f : Flow} → IsBare f → formed.IsFormed (bare number f)
+  bare_formed : {f : Flow} → IsBare f → formed.IsFormed (bare f)
   bare_formed a_label = formed.formed_flow formed.label_form
   bare_formed a_jump = formed.formed_flow formed.jump_form
   bare_formed an_exit = formed.formed_flow formed.exit_form
@@ -285,7 +285,7 @@ module _ (number : ℕ → ℕ) where
     where
       by : (g : MachOp) (args results : List Reg) → labels_in (L is) ≡ mach_formed.labels_in is → labels_in (lines_of number g (instr g args results) (L is)) ≡ mach_formed.labels_in (instr g args results ∷ is)
       by (mach.Op f) args results h = h
-      by (mach.Mark (mark.Exit l k)) args results h = pops_labels k (bare number (flow.Exit l) ∷ L is) ∙ h
+      by (mach.Mark (mark.Exit l k)) args results h = pops_labels k (bare (flow.Exit l) ∷ L is) ∙ h
       by (mach.Mark (mark.If t l)) args results h = h
       by (mach.Mark (mark.Else l m)) args results h = ap (λ ls. l ∷ ls) h
       by (mach.Mark (mark.Switch ls)) args results h = h
@@ -319,7 +319,7 @@ module _ (number : ℕ → ℕ) where
       by : (g : MachOp) (args results : List Reg) → length (lines_of number g (instr g args results) (L is)) ≤ 2 + tries_ended_by g + length (L is)
       by (mach.Op f) args results = omega arith
       by (mach.Mark (mark.Exit l k)) args results =
-          pops_few k (length (L is)) (length (pops number k (bare number (flow.Exit l) ∷ L is))) (pops_length number k (bare number (flow.Exit l) ∷ L is))
+          pops_few k (length (L is)) (length (pops number k (bare (flow.Exit l) ∷ L is))) (pops_length number k (bare (flow.Exit l) ∷ L is))
       by (mach.Mark (mark.If t l)) args results = omega arith
       by (mach.Mark (mark.Else l m)) args results = omega arith
       by (mach.Mark (mark.Switch ls)) args results = omega arith

@@ -19,13 +19,14 @@ use Rattle.mach_ir.specs.declared.mach.Instr.{Instr}
 use Rattle.mach_laws.specs.Expand.{Ending, all, more}
 use Rattle.mach_laws.proofs.Instructions.{instr, no_comps}
 use Rattle.mach_laws.proofs.Places.{comp_is}
+use Rattle.lin_ir.specs.Formed.{bare}
 use Rattle.lin_ir.specs.Meaning as lines
 use Rattle.lin_ir.specs.declared.lin.Flow.TheVariants as flow
 use Rattle.lin_ir.specs.declared.lin.LinOp.{LinOp}
 use Rattle.lin_ir.specs.declared.lin.LinOp.TheVariants as lin
 use Rattle.lin_ir.specs.declared.lin.Line.{Line}
 use Rattle.lin_laws.proofs.Forms.{same_loc_is}
-use Rattle.linear_rules.specs.Lowered.{opposite_test, is_idle, line_of, bare, pops, lines_of, lowered_code}
+use Rattle.linear_rules.specs.Lowered.{opposite_test, is_idle, line_of, pops, lines_of, lowered_code}
 use Rattle.linear_rules.proofs.Homes.{IsIn, is_first, is_later, contains_of}
 
 -- ---- lists
@@ -256,7 +257,7 @@ module _ (number : ℕ → ℕ) where
           (HasPlace l is → lines.after_label l (L is) ≡ L (after_label l is)) →
           lines.after_label l (lines_of number f (instr f args results) (L is)) ≡ L (cond (has_label l f) is (after_label l is))
       by (mach.Op f) args results once h go = skips (HasPlace l is) h go
-      by (mach.Mark (mark.Exit k n)) args results once h go = pops_label l n (bare number (flow.Exit k) ∷ L is) ∙ skips (HasPlace l is) h go
+      by (mach.Mark (mark.Exit k n)) args results once h go = pops_label l n (bare (flow.Exit k) ∷ L is) ∙ skips (HasPlace l is) h go
       by (mach.Mark (mark.If t k)) args results once h go = skips (HasPlace l is) h go
       by (mach.Mark (mark.Else k end)) args results once h go = label_at (nat_eq k l) (HasPlace l is) is (after_label l is) (lines.after_label l (L is)) h go
       by (mach.Mark (mark.Switch ks)) args results once h go = skips (HasPlace l is) h go
@@ -308,7 +309,7 @@ module _ (number : ℕ → ℕ) where
           (HasHandler h is → EntryOf h is) → EntryOf h (instr f args results ∷ is)
       by (mach.Op f) args results e once z go =
           skips (HasHandler h is) z (λ z. further_entry refl (ap (λ t. lines.after_label h (cond t (L is) (line_of number (lin.Op f) (instr (mach.Op f) args results) ∷ L is))) e) (go z))
-      by (mach.Mark (mark.Exit k n)) args results e once z go = skips (HasHandler h is) z (λ z. further_entry refl (pops_label h n (bare number (flow.Exit k) ∷ L is)) (go z))
+      by (mach.Mark (mark.Exit k n)) args results e once z go = skips (HasHandler h is) z (λ z. further_entry refl (pops_label h n (bare (flow.Exit k) ∷ L is)) (go z))
       by (mach.Mark (mark.If t k)) args results e once z go = skips (HasHandler h is) z (λ z. further_entry refl refl (go z))
       by (mach.Mark (mark.Else k end)) args results e once z go =
           skips (HasHandler h is) z (λ z. further_entry refl (past_label k h is (differ_test k h (labels_in is) once (handler_label is z))) (go z))

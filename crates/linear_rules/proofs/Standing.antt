@@ -13,6 +13,7 @@ use Rattle.mach_ir.specs.declared.mach.Mach.{Mach}
 use Rattle.mach_laws.specs.Expand.{Ending, all, more}
 use Rattle.mach_laws.proofs.Places.{ending_next, ending_from_handler, stands_of}
 use Rattle.mach_laws.proofs.Instructions.{instr}
+use Rattle.lin_ir.specs.Formed.{bare}
 use Rattle.lin_ir.specs.Meaning as lines
 use Rattle.lin_ir.specs.Walks as walks
 use Rattle.lin_ir.specs.declared.lin.Flow.TheVariants as flow
@@ -20,7 +21,7 @@ use Rattle.lin_ir.specs.declared.lin.LinOp.{LinOp}
 use Rattle.lin_ir.specs.declared.lin.LinOp.TheVariants as lin
 use Rattle.lin_ir.specs.declared.lin.Line.{Line}
 use Rattle.lin_ir.specs.declared.lin.Lin.{Lin}
-use Rattle.linear_rules.specs.Lowered.{is_idle, line_of, bare, pops, lines_of, lowered_code, numbered}
+use Rattle.linear_rules.specs.Lowered.{is_idle, line_of, pops, lines_of, lowered_code, numbered}
 use Rattle.linear_rules.proofs.Homes.{IsIn, is_first, is_later}
 use Rattle.linear_rules.proofs.Marks.{all_in, in_ending, AsLine, op_line, if_line, switch_line, try_line, handler_line, is_bare, IsIdle, idle_of, idle_tries, label_lowered, EntryOf, entry_of}
 use Rattle.linear_rules.proofs.Places.{drop_more, place_tries, before_place, at_left, pops_length}
@@ -117,14 +118,14 @@ module _ (number : ℕ → ℕ) (slots : ℕ) (p : Mach) (well : WellFormed p) w
         StandsFor next ys tries → StandsFor (i ∷ next) ys tries
     idle_before : {i : Instr} {next : List Instr} {ys : List Line} {tries : List ℕ} → Ending (i ∷ next) p.code → IsIdle i.op i.args i.results →
         StandsFor next ys tries → StandsFor (i ∷ next) ys tries
-    label_before : {l : ℕ} {rest : List Instr} {ys : List Line} {tries : List ℕ} → IsAt (bare number (flow.Label l) ∷ ys) tries → StandsFor rest ys tries →
-        StandsFor rest (bare number (flow.Label l) ∷ ys) tries
-    pop_before : {rest : List Instr} {ys : List Line} {tries : List ℕ} → IsAt (bare number flow.PopTrap ∷ ys) tries → 0 < length tries → StandsFor rest ys (drop_tries 1 tries) →
-        StandsFor rest (bare number flow.PopTrap ∷ ys) tries
-    exit_to : {l : ℕ} {ys : List Line} {tries : List ℕ} → HasPlace l p.code → tries ≡ tries_at (after_label l p.code) → IsAt (bare number (flow.Exit l) ∷ ys) tries →
-        StandsFor (after_label l p.code) (bare number (flow.Exit l) ∷ ys) tries
-    jump_to : {l : ℕ} {ys : List Line} {tries : List ℕ} → HasPlace l p.code → tries ≡ tries_at (after_label l p.code) → IsAt (bare number (flow.Jump l) ∷ ys) tries →
-        StandsFor (after_label l p.code) (bare number (flow.Jump l) ∷ ys) tries
+    label_before : {l : ℕ} {rest : List Instr} {ys : List Line} {tries : List ℕ} → IsAt (bare (flow.Label l) ∷ ys) tries → StandsFor rest ys tries →
+        StandsFor rest (bare (flow.Label l) ∷ ys) tries
+    pop_before : {rest : List Instr} {ys : List Line} {tries : List ℕ} → IsAt (bare flow.PopTrap ∷ ys) tries → 0 < length tries → StandsFor rest ys (drop_tries 1 tries) →
+        StandsFor rest (bare flow.PopTrap ∷ ys) tries
+    exit_to : {l : ℕ} {ys : List Line} {tries : List ℕ} → HasPlace l p.code → tries ≡ tries_at (after_label l p.code) → IsAt (bare (flow.Exit l) ∷ ys) tries →
+        StandsFor (after_label l p.code) (bare (flow.Exit l) ∷ ys) tries
+    jump_to : {l : ℕ} {ys : List Line} {tries : List ℕ} → HasPlace l p.code → tries ≡ tries_at (after_label l p.code) → IsAt (bare (flow.Jump l) ∷ ys) tries →
+        StandsFor (after_label l p.code) (bare (flow.Jump l) ∷ ys) tries
 
   pub is_at : {rest : List Instr} {ys : List Line} {tries : List ℕ} → StandsFor rest ys tries → IsAt ys tries
   is_at (at_end e) = e
@@ -193,15 +194,15 @@ module _ (number : ℕ → ℕ) (slots : ℕ) (p : Mach) (well : WellFormed p) w
           shorter m k a b c le x y = omega (arith, le, x, y)
 
           xs : List Line
-          xs = bare number (flow.Exit l) ∷ L next
+          xs = bare (flow.Exit l) ∷ L next
 
-          left : (m : ℕ) → m ≤ k → IsAt (pops number m (bare number (flow.Exit l) ∷ L next)) (drop_tries (k - m) (tries_at next))
+          left : (m : ℕ) → m ≤ k → IsAt (pops number m (bare (flow.Exit l) ∷ L next)) (drop_tries (k - m) (tries_at next))
           left m le =
               ap (λ n. drop_tries n (tries_at next)) (sym (minus_both k m))
-              ∙ sym (at_left number e (suc m) (length (pops number m (bare number (flow.Exit l) ∷ L next)))
-              (pops_length number m (bare number (flow.Exit l) ∷ L next) ∙ shifted m (length (L next))) (omega arith)
-              (shorter m k (length (pops number m (bare number (flow.Exit l) ∷ L next))) (length (pops number k (bare number (flow.Exit l) ∷ L next))) (length (L next)) le
-              (pops_length number m (bare number (flow.Exit l) ∷ L next)) (pops_length number k (bare number (flow.Exit l) ∷ L next))))
+              ∙ sym (at_left number e (suc m) (length (pops number m (bare (flow.Exit l) ∷ L next)))
+              (pops_length number m (bare (flow.Exit l) ∷ L next) ∙ shifted m (length (L next))) (omega arith)
+              (shorter m k (length (pops number m (bare (flow.Exit l) ∷ L next))) (length (pops number k (bare (flow.Exit l) ∷ L next))) (length (L next)) le
+              (pops_length number m (bare (flow.Exit l) ∷ L next)) (pops_length number k (bare (flow.Exit l) ∷ L next))))
       by (mach.Mark (mark.If t l)) args results e w at s = one_line _ e if_line refl at
       by (mach.Mark (mark.Else l end)) args results e w at s = via end e refl this (jump_to (label_of e end this) (sym (marked e end this)) at)
       by (mach.Mark (mark.Switch ls)) args results e w at s = one_line _ e switch_line refl at
@@ -213,7 +214,7 @@ module _ (number : ℕ → ℕ) (slots : ℕ) (p : Mach) (well : WellFormed p) w
           via end e refl this
           (pop_before at (some_one (length (tries_at next)))
           (jump_to (label_of e end this) (sym (marked e end this))
-          (sym (at_left number e 1 (length (bare number (flow.Jump end) ∷ L next)) (one (length (L next))) (omega arith) (less (length (L next)))))))
+          (sym (at_left number e 1 (length (bare (flow.Jump end) ∷ L next)) (one (length (L next))) (omega arith) (less (length (L next)))))))
         where
           some_one : (k : ℕ) → 0 < suc k
           some_one k = omega arith

@@ -27,7 +27,7 @@ use Rattle.mach_laws.specs.Expand.{Ending, all, more}
 use Rattle.mach_laws.proofs.Places.{ending_next, stands_of}
 use Rattle.mach_laws.proofs.Instructions.{instr}
 use Rattle.lin_ir.specs.Formed as formed
-use Rattle.lin_ir.specs.Formed.{IsHome, IsLocation, is_home, Locates, SpareIsPassing, NamesLabel, goes_to, pushes, EntersAt, enters_here, enters_below, labels_in, is_exit}
+use Rattle.lin_ir.specs.Formed.{IsHome, IsLocation, is_home, Locates, SpareIsPassing, NamesLabel, goes_to, pushes, EntersAt, enters_here, enters_below, labels_in, is_exit, bare}
 use Rattle.lin_ir.specs.Meaning as lines
 use Rattle.lin_ir.specs.Walks as walks
 use Rattle.lin_ir.specs.Walks.{Stands, here, below, Traps, by_walk, unreached, TrapsBalance}
@@ -41,7 +41,7 @@ use Rattle.lin_ir.specs.declared.lin.Spot.{Spot}
 use Rattle.lin_laws.proofs.Forms.{same_machine}
 use Rattle.linear_rules.specs.Forward.{GoesForward}
 use Rattle.linear_rules.specs.Keeps.{NoAddrReached, OneTraps}
-use Rattle.linear_rules.specs.Lowered.{is_among, home, spots, is_idle, line_of, bare, pops, lines_of, lowered_code}
+use Rattle.linear_rules.specs.Lowered.{is_among, home, spots, is_idle, line_of, pops, lines_of, lowered_code}
 use Rattle.linear_rules.proofs.Homes.{IsIn, is_first, is_later, in_of, contains_of, spot_of, split_in, in_right}
 use Rattle.linear_rules.proofs.Marks.{Differ, AsLine, op_line, if_line, switch_line, try_line, handler_line, idle_of, idle_handler, place_label, handler_label, handler_split}
 use Rattle.linear_rules.proofs.Standing.{q, handler_round, handler_ending, StandsFor, one_line, via, onto, idle_before, label_before, pop_before, exit_to, jump_to}
@@ -221,11 +221,11 @@ module _ (number : ℕ → ℕ) (slots : ℕ) (p : Mach) (well : WellFormed p) (
   own_stands f e z here n go = comes_later (own_leads f e z (line_not_exit z) n)
   own_stands f e z (below s) n go = go s n
 
-  label_stands : {k l : ℕ} {j : Line} {ys xs : List Line} → Stands j ys (bare number (flow.Label k) ∷ xs) → NamesLabel l j.op → (Stands j ys xs → NamesLabel l j.op → Leading l j ys) → Leading l j ys
+  label_stands : {k l : ℕ} {j : Line} {ys xs : List Line} → Stands j ys (bare (flow.Label k) ∷ xs) → NamesLabel l j.op → (Stands j ys xs → NamesLabel l j.op → Leading l j ys) → Leading l j ys
   label_stands here n go = label_names n
   label_stands (below s) n go = go s n
 
-  pop_stands : {l : ℕ} {j : Line} {ys xs : List Line} → Stands j ys (bare number flow.PopTrap ∷ xs) → NamesLabel l j.op → (Stands j ys xs → NamesLabel l j.op → Leading l j ys) → Leading l j ys
+  pop_stands : {l : ℕ} {j : Line} {ys xs : List Line} → Stands j ys (bare flow.PopTrap ∷ xs) → NamesLabel l j.op → (Stands j ys xs → NamesLabel l j.op → Leading l j ys) → Leading l j ys
   pop_stands here n go = pop_names n
   pop_stands (below s) n go = go s n
 
@@ -234,12 +234,12 @@ module _ (number : ℕ → ℕ) (slots : ℕ) (p : Mach) (well : WellFormed p) (
   pops_stands (suc k) xs s n go = pop_stands s n (λ s n. pops_stands k xs s n go)
 
   -- a jump whose label comes later
-  jump_stands : {k l : ℕ} {j : Line} {ys xs : List Line} → ((l : ℕ) → OneOf (At l) (At k ∷ []) → IsIn l (labels_in xs)) → Stands j ys (bare number (flow.Jump k) ∷ xs) → NamesLabel l j.op →
+  jump_stands : {k l : ℕ} {j : Line} {ys xs : List Line} → ((l : ℕ) → OneOf (At l) (At k ∷ []) → IsIn l (labels_in xs)) → Stands j ys (bare (flow.Jump k) ∷ xs) → NamesLabel l j.op →
       (Stands j ys xs → NamesLabel l j.op → Leading l j ys) → Leading l j ys
   jump_stands {k} {l} forward here n go = comes_later (forward l (jump_to_label k l n))
   jump_stands forward (below s) n go = go s n
 
-  exit_stands : {k l : ℕ} {j : Line} {ys xs : List Line} → ((l : ℕ) → OneOf (At l) (At k ∷ []) → HasPlace l p.code) → Stands j ys (bare number (flow.Exit k) ∷ xs) → NamesLabel l j.op →
+  exit_stands : {k l : ℕ} {j : Line} {ys xs : List Line} → ((l : ℕ) → OneOf (At l) (At k ∷ []) → HasPlace l p.code) → Stands j ys (bare (flow.Exit k) ∷ xs) → NamesLabel l j.op →
       (Stands j ys xs → NamesLabel l j.op → Leading l j ys) → Leading l j ys
   exit_stands {k} {l} place here n go = by_exit refl (place l (exit_to_label k l n))
   exit_stands place (below s) n go = go s n
@@ -255,7 +255,7 @@ module _ (number : ℕ → ℕ) (slots : ℕ) (p : Mach) (well : WellFormed p) (
           (Stands j ys (L next) → NamesLabel l j.op → Leading l j ys) → Leading l j ys
       by (mach.Op f) args results e s n go = own_stands (lin.Op f) e op_line s n go
       by (mach.Mark (mark.Exit m k)) args results e s n go =
-          pops_stands k (bare number (flow.Exit m) ∷ L next) s n
+          pops_stands k (bare (flow.Exit m) ∷ L next) s n
           (λ s n. exit_stands (λ l o. well.labels.named (instr (mach.Mark (mark.Exit m k)) args results) next (stands_of e) l o) s n go)
       by (mach.Mark (mark.If t m)) args results e s n go = own_stands _ e if_line s n go
       by (mach.Mark (mark.Else k m)) args results e s n go = jump_stands (λ l o. is_later (ahead e refl l o)) s n (λ s n. label_stands s n go)
@@ -287,7 +287,7 @@ module _ (number : ℕ → ℕ) (slots : ℕ) (p : Mach) (well : WellFormed p) (
 
       by : (g : MachOp) (args results : List Reg) → (is_handler_of h g ≡ true) ⊎ HasHandler h is → (HasHandler h is → EntersAt h (L is)) → EntersAt h (lines_of number g (instr g args results) (L is))
       by (mach.Op f) args results z go = skips (HasHandler h is) z (λ z. enters_below (go z))
-      by (mach.Mark (mark.Exit l k)) args results z go = skips (HasHandler h is) z (λ z. pops_enter k (bare number (flow.Exit l) ∷ L is) (enters_below (go z)))
+      by (mach.Mark (mark.Exit l k)) args results z go = skips (HasHandler h is) z (λ z. pops_enter k (bare (flow.Exit l) ∷ L is) (enters_below (go z)))
       by (mach.Mark (mark.If t l)) args results z go = skips (HasHandler h is) z (λ z. enters_below (go z))
       by (mach.Mark (mark.Else l m)) args results z go = skips (HasHandler h is) z (λ z. enters_below (enters_below (go z)))
       by (mach.Mark (mark.Switch ls)) args results z go = skips (HasHandler h is) z (λ z. enters_below (go z))

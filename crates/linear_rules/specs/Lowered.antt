@@ -18,9 +18,9 @@ use Rattle.mach_ir.specs.declared.mach.MachOp.{MachOp}
 use Rattle.mach_ir.specs.declared.mach.MachOp.TheVariants as mach
 use Rattle.mach_ir.specs.declared.mach.Instr.{Instr}
 use Rattle.mach_ir.specs.declared.mach.Mach.{Mach}
+use Rattle.lin_ir.specs.Formed.{bare}
 use Rattle.lin_ir.specs.Meaning.{same_loc}
 use Rattle.lin_ir.specs.declared.lin.Spot.{Spot}
-use Rattle.lin_ir.specs.declared.lin.Flow.{Flow}
 use Rattle.lin_ir.specs.declared.lin.Flow.TheVariants as flow
 use Rattle.lin_ir.specs.declared.lin.LinOp.{LinOp}
 use Rattle.lin_ir.specs.declared.lin.LinOp.TheVariants as lin
@@ -114,10 +114,6 @@ module _ (number : ℕ → ℕ) where
   -- a line with the operands and results of an instruction
   abbrev pub line_of : LinOp → Instr → Line
   line_of f i = record { op = f; args = spots i.args; results = spots i.results }
-
-  -- one with none
-  abbrev pub bare : Flow → Line
-  bare f = record { op = lin.Flow f; args = []; results = [] }
 
   abbrev pub pops : ℕ → List Line → List Line
   pops zero next = next

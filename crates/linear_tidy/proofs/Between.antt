@@ -1,9 +1,10 @@
 -- Labels that are between two places.
 use Rattle.std.proofs.Common.{◌≡◌, ℕ, ◌+◌, ◌<◌, ◌≤◌, List, ◌∷◌, length, drop, get_or, refl, sym, ap, ◌∙◌, subst, arith}
 use Rattle.std.proofs.lemmas.List.{drop_more, length-drop}
+use Rattle.lin_ir.specs.Formed.{bare}
 use Rattle.lin_ir.specs.declared.lin.Flow.TheVariants as flow
 use Rattle.lin_ir.specs.declared.lin.Line.{Line}
-use Rattle.tidy_rules.specs.Leaving.{bare, LabelsBetween, none_between, label_between}
+use Rattle.tidy_rules.specs.Leaving.{LabelsBetween, none_between, label_between}
 
 pub drop_line : (code : List Line) (k : ℕ) (i : Line) → k < length code → i ≡ get_or code k i → drop k code ≡ i ∷ drop (k + 1) code
 drop_line code k i lt e = drop_more code k i lt ∙ ap (λ j. j ∷ drop (k + 1) code) (sym e)

@@ -4,6 +4,7 @@ use Rattle.std.proofs.lemmas.Bool.{cases_lt}
 use Rattle.std.proofs.lemmas.List.{get_or_default, length-drop}
 use Rattle.std.specs.Option.{unwrap_or, option_map}
 use Rattle.std.specs.Prelude.{slice_index_or}
+use Rattle.lin_ir.specs.Formed.{bare}
 use Rattle.lin_ir.specs.Meaning.{has_label, after_label}
 use Rattle.lin_ir.specs.declared.lin.Flow.{Flow}
 use Rattle.lin_ir.specs.declared.lin.Flow.TheVariants as flow
@@ -14,7 +15,6 @@ use Rattle.lin_ir.specs.declared.lin.Spot.{Spot}
 use Rattle.lin_laws.proofs.Places.{ends_label, place_is}
 use Rattle.lin_flow.specs.Labels.{place_in, AreLabelsOf}
 use Rattle.lin_flow.specs.declared.labels.Labels.{Labels}
-use Rattle.tidy_rules.specs.Leaving.{bare}
 use Rattle.tidy_rules.specs.Redirecting.{is_label, first_goes, leads_to, leaves_to, next_label, followed, last_label, last_exit}
 use Rattle.tidy_rules.proofs.Following.{line, label_is}
 use Rattle.linear_tidy.proofs.Between.{drop_line}

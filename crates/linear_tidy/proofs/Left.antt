@@ -7,7 +7,7 @@ use Rattle.bs_words.specs.declared.types.Loc.{Loc}
 use Rattle.bs_words.proofs.Lists.{none_in}
 use Rattle.mach_ir.specs.Acts.{Target, On, At}
 use Rattle.mach_ir.specs.Walks.{OneOf, this, other}
-use Rattle.lin_ir.specs.Formed.{IsSelfMove, is_self_move}
+use Rattle.lin_ir.specs.Formed.{IsSelfMove, is_self_move, bare}
 use Rattle.lin_ir.specs.Meaning.{after_label, code_at}
 use Rattle.lin_ir.specs.Walks as walks
 use Rattle.lin_ir.specs.Walks.{targets, may_raise, tries_after, Stands, here, below, Writes, ReadsAs, Reached, at_entry, by_step, by_raise, Live, read, on, aside}
@@ -16,7 +16,7 @@ use Rattle.lin_ir.specs.declared.lin.Line.{Line}
 use Rattle.lin_ir.specs.declared.lin.Lin.{Lin}
 use Rattle.lin_ir.specs.declared.lin.Spot.{Spot}
 use Rattle.linear_rules.proofs.Walked.{Tail, tail_next, tail_stands, reached_tail}
-use Rattle.tidy_rules.specs.Leaving.{bare, LabelsBetween, none_between, label_between, IsUseless, unreached, unread, skipped, without}
+use Rattle.tidy_rules.specs.Leaving.{LabelsBetween, none_between, label_between, IsUseless, unreached, unread, skipped, without}
 use Rattle.tidy_rules.proofs.Leaving.{rest, self_goes, target_rest, handler_rest}
 use Rattle.tidy_rules.proofs.Shape.{landing_stays}
 use Rattle.tidy_rules.specs.Regular.{IsReadBehind}

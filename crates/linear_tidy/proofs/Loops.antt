@@ -5,7 +5,7 @@ use Rattle.std.proofs.lemmas.List.{append-nil, length-drop, length-map, length-r
 use Rattle.std.proofs.lemmas.List.Elements.{All-nil, All-cons, All-head, All-tail, All-append}
 use Rattle.std.specs.List.{All}
 use Rattle.std.specs.Option.{option_map}
-use Rattle.lin_ir.specs.Formed.{label_of, labels_in}
+use Rattle.lin_ir.specs.Formed.{label_of, labels_in, bare}
 use Rattle.lin_ir.specs.Meaning.{has_label, after_label}
 use Rattle.lin_ir.specs.declared.lin.Flow.TheVariants as flow
 use Rattle.lin_ir.specs.declared.lin.LinOp.{LinOp}
@@ -17,7 +17,7 @@ use Rattle.lin_laws.specs.Graph.{HaveNumbers, AreNumbered}
 use Rattle.lin_laws.proofs.Places.{ends_label, place_is, after_within}
 use Rattle.lin_flow.specs.Labels.{place_in, AreLabelsOf}
 use Rattle.lin_flow.specs.declared.labels.Labels.{Labels}
-use Rattle.tidy_rules.specs.Leaving.{bare, with_code}
+use Rattle.tidy_rules.specs.Leaving.{with_code}
 use Rattle.linear_rules.specs.Lowered.{opposite_test, limit_of}
 use Rattle.tidy_rules.specs.Turning.{Head, Turn, branch_line, turned_line, turned_lines, tested_again, label_put, label_here, label_on, head_by, head_at, stands_first, exit_head, turn_for, line_turn, turn_at, is_on, is_led_to, opened_at, turned_all}
 use Rattle.tidy_rules.specs.Redirecting.{exits_to}

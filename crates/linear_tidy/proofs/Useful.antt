@@ -10,7 +10,7 @@ use Rattle.bs_words.specs.declared.types.Loc.{Loc}
 use Rattle.bs_words.proofs.Lists.{drop_none, head_same, tail_same}
 use Rattle.mach_ir.specs.Acts.{Target, On}
 use Rattle.mach_ir.specs.Walks.{OneOf, this, other}
-use Rattle.lin_ir.specs.Formed.{IsSelfMove, is_self_move}
+use Rattle.lin_ir.specs.Formed.{IsSelfMove, is_self_move, bare}
 use Rattle.lin_ir.specs.Meaning.{after_label, code_at}
 use Rattle.lin_ir.specs.Walks.{targets, tries_after, Reached, Live, LiveAfter, after_step, goes}
 use Rattle.lin_ir.specs.declared.lin.Flow.TheVariants as flow
@@ -35,7 +35,7 @@ use Rattle.linear_rules.proofs.Homes.{IsIn, is_first, is_later}
 use Rattle.linear_rules.proofs.Lines.{all_of}
 use Rattle.linear_rules.proofs.Marks.{all_in}
 use Rattle.linear_rules.proofs.Walked.{Tail, tail_all, tail_more, tail_in, tail_stands}
-use Rattle.tidy_rules.specs.Leaving.{is_landing, bare, IsUseless, unreached, unread, skipped, LabelsBetween}
+use Rattle.tidy_rules.specs.Leaving.{is_landing, IsUseless, unreached, unread, skipped, LabelsBetween}
 use Rattle.tidy_rules.specs.Regular.{IsReadBehind}
 use Rattle.tidy_rules.specs.Vals.{as_val, line_as_vals, as_vals}
 use Rattle.tidy_rules.proofs.Leaving.{GoesOn, self_goes}

@@ -1,6 +1,6 @@
 -- Which lines have no use, known by tests.
 use Rattle.std.specs.Prelude.{◌≡◌, ℕ, suc, ◌-◌, ◌<◌, Bool, true, false, cond, List, [], ◌∷◌, drop, length, slice_index_or, IsTrue, IsFalse}
-use Rattle.lin_ir.specs.Formed.{IsSelfMove}
+use Rattle.lin_ir.specs.Formed.{IsSelfMove, bare}
 use Rattle.lin_ir.specs.Meaning.{after_label}
 use Rattle.lin_ir.specs.Walks.{Stands, Reached}
 use Rattle.lin_ir.specs.declared.lin.Flow.TheVariants as flow
@@ -12,7 +12,7 @@ use Rattle.lin_laws.specs.Numbers.{number_in}
 use Rattle.lin_flow.specs.Walked.{AreLive, IsReadAfter, IsWalked}
 use Rattle.lin_flow.specs.declared.walks.Walks.{Walks}
 use Rattle.lin_flow.specs.declared.live.LiveWalks.{LiveWalks}
-use Rattle.tidy_rules.specs.Leaving.{is_landing, bare, IsUseless, LabelsBetween}
+use Rattle.tidy_rules.specs.Leaving.{is_landing, IsUseless, LabelsBetween}
 use Rattle.tidy_rules.specs.Regular.{IsReadBehind}
 use Rattle.tidy_rules.specs.Tidied.{IsUseful}
 use Rattle.linear_tidy.specs.Forms.{IsNoSelfMove}

@@ -3,10 +3,10 @@ ghost use Rattle.std.specs.Prelude.{◌≡◌, ◌↔◌, ℕ, All, Some, IfSome
 ghost use Rattle.bs_words.specs.declared.types.Loc.{Loc};
 ghost use Rattle.std.specs.Option.{option_to_list};
 ghost use Rattle.mach_ir.specs.Labels.{is_that_label};
-ghost use Rattle.lin_ir.specs.Formed.{IsSelfMove, label_of};
+ghost use Rattle.lin_ir.specs.Formed.{IsSelfMove, label_of, bare};
 ghost use Rattle.lin_ir.specs.Meaning.{has_label};
 ghost use Rattle.lin_ir.specs.declared.lin.Spot.{Spot};
-ghost use Rattle.tidy_rules.specs.Leaving.{bare, is_landing};
+ghost use Rattle.tidy_rules.specs.Leaving.{is_landing};
 ghost use Rattle.tidy_rules.specs.Turning.{goes_away};
 ghost use Rattle.linear_tidy.specs.Forms.{copies, IsOnePlace, MovesItself, IsNoSelfMove};
 

@@ -9,11 +9,12 @@ use Rattle.mach_ir.specs.declared.mach.MachOp.{MachOp}
 use Rattle.mach_ir.specs.declared.mach.MachOp.TheVariants as mach
 use Rattle.mach_ir.specs.declared.mach.Instr.{Instr}
 use Rattle.mach_ir.specs.declared.mach.Mach.{Mach}
+use Rattle.lin_ir.specs.Formed.{bare}
 use Rattle.lin_ir.specs.declared.lin.Flow.TheVariants as flow
 use Rattle.lin_ir.specs.declared.lin.LinOp.{LinOp}
 use Rattle.lin_ir.specs.declared.lin.Line.{Line}
 use Rattle.lin_ir.specs.declared.lin.Spot.{Spot}
-use Rattle.linear_rules.specs.Lowered.{slot_of, slots_of_regs, slots_of_code, slots_of, is_among, count_below, limit_of, slot_number, slot_count, home, spot, spots, is_idle, line_of, bare, pops, lines_of, lowered_code, lowered}
+use Rattle.linear_rules.specs.Lowered.{slot_of, slots_of_regs, slots_of_code, slots_of, is_among, count_below, limit_of, slot_number, slot_count, home, spot, spots, is_idle, line_of, pops, lines_of, lowered_code, lowered}
 use Rattle.linear_rules.proofs.Slots.{among_below}
 use Rattle.linearise.specs.Numbers.{number_in, AreFlags, IsTable, running}
 
@@ -86,14 +87,14 @@ module _ (number other : ℕ → ℕ) where
 
   pops_agree : (n : ℕ) (xs : List Line) → pops number n xs ≡ pops other n xs
   pops_agree zero xs = refl
-  pops_agree (suc n) xs = ap (λ ys. bare other flow.PopTrap ∷ ys) (pops_agree n xs)
+  pops_agree (suc n) xs = ap (λ ys. bare flow.PopTrap ∷ ys) (pops_agree n xs)
 
   line_agrees : (f : LinOp) (i : Instr) → spots number i.args ≡ spots other i.args → spots number i.results ≡ spots other i.results → line_of number f i ≡ line_of other f i
   line_agrees f i a r = ap (λ ss. record { op = f; args = ss; results = spots number i.results }) a ∙ ap (λ ss. record { op = f; args = spots other i.args; results = ss }) r
 
   lines_agree : (f : MachOp) (i : Instr) (xs : List Line) → spots number i.args ≡ spots other i.args → spots number i.results ≡ spots other i.results → lines_of number f i xs ≡ lines_of other f i xs
   lines_agree (mach.Op f) i xs a r = ap (λ j. j ∷ xs) (line_agrees _ i a r)
-  lines_agree (mach.Mark (mark.Exit l n)) i xs a r = pops_agree n (bare number (flow.Exit l) ∷ xs)
+  lines_agree (mach.Mark (mark.Exit l n)) i xs a r = pops_agree n (bare (flow.Exit l) ∷ xs)
   lines_agree (mach.Mark (mark.If t l)) i xs a r = ap (λ j. j ∷ xs) (line_agrees _ i a r)
   lines_agree (mach.Mark (mark.Else l m)) i xs a r = refl
   lines_agree (mach.Mark (mark.Switch ls)) i xs a r = ap (λ j. j ∷ xs) (line_agrees _ i a r)
@@ -102,7 +103,7 @@ module _ (number other : ℕ → ℕ) where
   lines_agree (mach.Mark (mark.With l m)) i xs a r = refl
   lines_agree (mach.Mark (mark.Try l)) i xs a r = ap (λ j. j ∷ xs) (line_agrees _ i a r)
   lines_agree (mach.Mark (mark.Leave l m)) i xs a r = refl
-  lines_agree (mach.Mark (mark.Handler l)) i xs a r = ap (λ j. bare other (flow.Label l) ∷ j ∷ xs) (line_agrees _ i a r)
+  lines_agree (mach.Mark (mark.Handler l)) i xs a r = ap (λ j. bare (flow.Label l) ∷ j ∷ xs) (line_agrees _ i a r)
   lines_agree (mach.Mark (mark.End l)) i xs a r = refl
 
   code_agrees : (code : List Instr) → Agree (slots_of_code code) → lowered_code number code ≡ lowered_code other code

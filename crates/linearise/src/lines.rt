@@ -1,8 +1,9 @@
 //! The lines of one instruction.
 ghost use Rattle.std.specs.Prelude.{◌≡◌, ◌∷◌, IfOk};
+ghost use Rattle.lin_ir.specs.Formed.{bare};
 ghost use Rattle.lin_ir.specs.declared.lin.Flow.TheVariants as flow;
 ghost use Rattle.lin_ir.specs.declared.lin.LinOp.TheVariants as lin;
-ghost use Rattle.linear_rules.specs.Lowered.{same_spot, is_idle, line_of, bare, pops, lines_of_mark, lowered_one};
+ghost use Rattle.linear_rules.specs.Lowered.{same_spot, is_idle, line_of, pops, lines_of_mark, lowered_one};
 ghost use Rattle.linearise.specs.Numbers.{number_in};
 
 use crate::backward::Backward;
@@ -66,7 +67,7 @@ fn push_jump(
     lines: &mut Backward,
 ) -> Result<(), AllocError>
     ensures { IfOk result (λ _. lines.new ≡
-        bare (λ k. k) (flow.Jump end) ∷ bare (λ k. k) (flow.Label label) ∷ lines.old) }
+        bare (flow.Jump end) ∷ bare (flow.Label label) ∷ lines.old) }
 {
     lines.push(bare(alloc, Flow::Label(label)))?;
     lines.push(bare(alloc, Flow::Jump(end)))

@@ -1,6 +1,7 @@
 //! Registers as spots.
 ghost use Rattle.std.specs.Prelude.{◌≡◌, IfOk};
-ghost use Rattle.linear_rules.specs.Lowered.{home, spot, spots, line_of, bare};
+ghost use Rattle.lin_ir.specs.Formed.{bare};
+ghost use Rattle.linear_rules.specs.Lowered.{home, spot, spots, line_of};
 ghost use Rattle.linearise.specs.Numbers.{number_in};
 
 use bs_words::Loc;
@@ -54,7 +55,7 @@ pub fn line_of(alloc: Global, numbers: &[u32], op: LinOp, instr: &Instr) -> Resu
 
 /// A line that neither reads nor writes. It takes no memory.
 pub fn bare(alloc: Global, flow: Flow) -> Line
-    ensures { result ≡ bare (λ k. k) flow }
+    ensures { result ≡ bare flow }
 {
     Line {
         op: LinOp::Flow(flow),

@@ -2,7 +2,7 @@
 use Rattle.std.proofs.Common.{◌≡◌, ◌≢◌, ℕ, ◌≤◌, Bool, true, false, cond, nat_eq, ◌⊎◌, ⊎_elim, List, [], ◌∷◌, ◌++◌, length, refl, sym, ap, ◌∙◌, subst, arith}
 use Rattle.std.proofs.lemmas.Bool.{true≢false, eq-eqb, eqb-true}
 use Rattle.std.specs.List.{AllPairs}
-use Rattle.lin_ir.specs.Formed.{label_of, labels_in}
+use Rattle.lin_ir.specs.Formed.{label_of, labels_in, bare}
 use Rattle.lin_ir.specs.Meaning.{has_label, after_label}
 use Rattle.lin_ir.specs.declared.lin.Flow.TheVariants as flow
 use Rattle.lin_ir.specs.declared.lin.LinOp.{LinOp}
@@ -12,7 +12,6 @@ use Rattle.linear_rules.proofs.Homes.{IsIn, is_first, is_later}
 use Rattle.linear_rules.proofs.Marks.{all_in, Differ}
 use Rattle.linear_rules.proofs.Walked.{Tail, tail_all, tail_more, later_label}
 use Rattle.bs_words.proofs.Lists.{pairs_here, pairs_later}
-use Rattle.tidy_rules.specs.Leaving.{bare}
 use Rattle.tidy_rules.proofs.Shape.{compare}
 
 -- ---- ends of a list

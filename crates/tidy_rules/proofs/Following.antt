@@ -3,6 +3,7 @@ use Rattle.std.proofs.Common.{◌≡◌, ℕ, zero, suc, Bool, true, false, cond
 use Rattle.std.proofs.lemmas.Bool.{true≢false}
 use Rattle.std.specs.Option.{unwrap_or, option_map}
 use Rattle.std.proofs.lemmas.Option.{none-some, same_Some}
+use Rattle.lin_ir.specs.Formed.{bare}
 use Rattle.lin_ir.specs.Meaning.{after_label}
 use Rattle.lin_ir.specs.declared.lin.Flow.{Flow}
 use Rattle.lin_ir.specs.declared.lin.Flow.TheVariants as flow
@@ -11,7 +12,7 @@ use Rattle.lin_ir.specs.declared.lin.LinOp.TheVariants as lin
 use Rattle.lin_ir.specs.declared.lin.Line.{Line}
 use Rattle.lin_ir.specs.declared.lin.Lin.{Lin}
 use Rattle.lin_ir.specs.declared.lin.Spot.{Spot}
-use Rattle.tidy_rules.specs.Leaving.{bare, LabelsBetween, none_between, label_between, LeavesOften, not_once, once_more}
+use Rattle.tidy_rules.specs.Leaving.{LabelsBetween, none_between, label_between, LeavesOften, not_once, once_more}
 use Rattle.tidy_rules.specs.Redirecting.{is_label, jumps_to, exits_to, first_goes, leads_to, leaves_to, next_label, followed, last_label, last_exit, redirected_all, GoesOnTo, itself, and_on, ExitsTo, by_exit, Redirects, Tidies, as_it_is, then_leaves, then_redirects, then_turns}
 use Rattle.tidy_rules.specs.Regular.{IsRegular}
 use Rattle.tidy_rules.specs.Tidied.{IsTidied}

@@ -7,7 +7,7 @@ use Rattle.bs_words.specs.declared.types.Loc.{Loc}
 use Rattle.bs_words.proofs.Lists.{none_in, in_cons, head_same, tail_same, none_there}
 use Rattle.mach_ir.specs.Acts.{Target, On, At}
 use Rattle.mach_ir.specs.Walks.{OneOf, this, other}
-use Rattle.lin_ir.specs.Formed.{IsSelfMove, is_self_move}
+use Rattle.lin_ir.specs.Formed.{IsSelfMove, is_self_move, bare}
 use Rattle.lin_ir.specs.Meaning.{has_label, after_label, code_at, passes_frame}
 use Rattle.lin_ir.specs.Walks as walks
 use Rattle.lin_ir.specs.Walks.{targets, may_raise, tries_after, Writes, Stands, Reached, at_entry, by_step, by_raise, Live, read, on, aside, LiveAcross, across_step, across_raise}
@@ -21,7 +21,7 @@ use Rattle.lin_ir.specs.declared.lin.Spot.{Spot}
 use Rattle.linear_rules.proofs.Homes.{IsIn, is_first, is_later}
 use Rattle.linear_rules.proofs.Walked.{Tail, tail_all, tail_next, tail_stands, reached_tail}
 use Rattle.linear_rules.specs.Keeps.{NoAddrReached, OneTraps}
-use Rattle.tidy_rules.specs.Leaving.{is_landing, bare, LabelsBetween, none_between, label_between, IsUseless, unreached, unread, skipped, without, with_code}
+use Rattle.tidy_rules.specs.Leaving.{is_landing, LabelsBetween, none_between, label_between, IsUseless, unreached, unread, skipped, without, with_code}
 
 -- ---- moves of a location to itself
 

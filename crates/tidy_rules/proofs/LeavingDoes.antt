@@ -11,7 +11,7 @@ use Rattle.cmm_meaning.specs.State.{Doing}
 use Rattle.mach_ir.specs.Acts.{Around, On, At}
 use Rattle.mach_ir.specs.Runs.{Place, Step, Continues}
 use Rattle.mach_ir.specs.Walks.{this}
-use Rattle.lin_ir.specs.Formed.{IsSelfMove, is_self_move}
+use Rattle.lin_ir.specs.Formed.{IsSelfMove, is_self_move, bare}
 use Rattle.lin_ir.specs.Keeps.{IsNamedIn}
 use Rattle.lin_ir.specs.Meaning.{State, Locations, same_loc, put_if, as_type, with_held, values, wrote, lin_act, passes_frame, after_label, start}
 use Rattle.lin_ir.specs.Walks as walks
@@ -30,7 +30,7 @@ use Rattle.mach_ir.specs.declared.op.Op.TheVariants as op
 use Rattle.mach_ir.specs.declared.op.Pure.TheVariants as pure
 use Rattle.linear_rules.proofs.Known.{same_loc_is}
 use Rattle.tidy_rules.specs.Keeps.{Begins, KeepsLin}
-use Rattle.tidy_rules.specs.Leaving.{bare, LabelsBetween, none_between, label_between, IsUseless, unreached, unread, skipped, LeavesOut}
+use Rattle.tidy_rules.specs.Leaving.{LabelsBetween, none_between, label_between, IsUseless, unreached, unread, skipped, LeavesOut}
 use Rattle.tidy_rules.proofs.Turns.{turns}
 use Rattle.tidy_rules.proofs.Simulate.{Arrives, both_continue, first_stuck, goes_alone, Answers, stays, stuck, steps, Closed, Leads, acts, begins_alike}
 use Rattle.tidy_rules.proofs.Leaving.{K, rest, useless_landing, there, target_rest, handler_rest, live_across, no_addr_rest, in_code}

@@ -3,7 +3,7 @@ use Rattle.std.proofs.Common.{◌≡◌, ℕ, suc, ◌<◌, ◌≤◌, Bool, tru
 use Rattle.std.proofs.lemmas.Bool.{true≢false, leb-true, le-leb}
 use Rattle.mach_ir.specs.Acts.{On, At}
 use Rattle.mach_ir.specs.Walks.{OneOf, this}
-use Rattle.lin_ir.specs.Formed.{IsSelfMove, is_self_move, is_exit, is_label, GoesDown}
+use Rattle.lin_ir.specs.Formed.{IsSelfMove, is_self_move, is_exit, is_label, GoesDown, bare}
 use Rattle.lin_ir.specs.Meaning.{after_label, code_at}
 use Rattle.lin_ir.specs.Walks as walks
 use Rattle.lin_ir.specs.Walks.{targets, Stands, Reached, by_step, by_raise, Leads, Raises}
@@ -13,7 +13,7 @@ use Rattle.lin_ir.specs.declared.lin.LinOp.TheVariants as lin
 use Rattle.lin_ir.specs.declared.lin.Line.{Line}
 use Rattle.lin_ir.specs.declared.lin.Lin.{Lin}
 use Rattle.linear_rules.proofs.Walked.{Tail, tail_all, tail_more, tail_next, tail_stands, tail_label, tail_target, reached_tail}
-use Rattle.tidy_rules.specs.Leaving.{is_landing, bare, LabelsBetween, none_between, label_between, IsUseless, unreached, unread, skipped}
+use Rattle.tidy_rules.specs.Leaving.{is_landing, LabelsBetween, none_between, label_between, IsUseless, unreached, unread, skipped}
 use Rattle.tidy_rules.proofs.Leaving.{self_goes, raise_landing, Comes, there, before, comes_tail, K, rest, target_rest, handler_rest, source_line}
 
 -- a move is neither an exit nor a label

@@ -1,13 +1,14 @@
 -- Whichever lines without use go first, what is left is one function.
 use Rattle.std.proofs.Common.{◌≡◌, ℕ, ◌<◌, Bool, true, false, cond, nat_eq, List, [], ◌∷◌, length, refl, sym, ap, ◌∙◌, subst, arith}
 use Rattle.std.proofs.lemmas.Bool.{eq-eqb, eqb-true}
+use Rattle.lin_ir.specs.Formed.{bare}
 use Rattle.lin_ir.specs.Walks as walks
 use Rattle.lin_ir.specs.Walks.{Stands, here, below, Reached, by_step}
 use Rattle.lin_ir.specs.declared.lin.Flow.TheVariants as flow
 use Rattle.lin_ir.specs.declared.lin.Line.{Line}
 use Rattle.lin_ir.specs.declared.lin.Lin.{Lin}
 use Rattle.linear_rules.proofs.Walked.{Tail, tail_all, tail_next, tail_stands, stands_tail}
-use Rattle.tidy_rules.specs.Leaving.{is_landing, bare, LabelsBetween, none_between, label_between, IsUseless, unreached, unread, skipped, without, with_code, LeavesOut, LeavesOften, not_once, once_more}
+use Rattle.tidy_rules.specs.Leaving.{is_landing, LabelsBetween, none_between, label_between, IsUseless, unreached, unread, skipped, without, with_code, LeavesOut, LeavesOften, not_once, once_more}
 use Rattle.tidy_rules.specs.Regular.{IsTidy}
 use Rattle.tidy_rules.specs.Tidied.{IsTidied}
 use Rattle.tidy_rules.proofs.Leaving.{rest, self_goes, useless_landing, Comes, there, comes_tail, comes_line, label_without, live_before, source_line}

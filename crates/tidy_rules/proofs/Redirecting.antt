@@ -16,7 +16,7 @@ use Rattle.mach_ir.specs.Walks.{OneOf, this, other}
 use Rattle.mach_ir.specs.declared.mach.MachOp.{MachOp}
 use Rattle.mach_ir.specs.declared.op.Op.{Op}
 use Rattle.mach_ir.specs.declared.mach.Test.{Test}
-use Rattle.lin_ir.specs.Formed.{is_exit, label_of, lin_operand_seats, lin_result_seats}
+use Rattle.lin_ir.specs.Formed.{is_exit, label_of, lin_operand_seats, lin_result_seats, bare}
 use Rattle.lin_ir.specs.Keeps.{IsNamedIn}
 use Rattle.lin_ir.specs.Meaning.{State, Locations, put_all, clear, values, destroyed_by, lin_act, on_act, wrote, has_label, after_label, code_at, passes_frame, start}
 use Rattle.lin_ir.specs.Walks as walks
@@ -33,7 +33,7 @@ use Rattle.linear_rules.specs.Kept as kept
 use Rattle.linear_rules.specs.Kept.{step, ValsHeld}
 use Rattle.linear_rules.proofs.Homes.{IsIn, is_first, is_later, in_of, contains_of}
 use Rattle.tidy_rules.specs.Keeps.{Begins, KeepsLin}
-use Rattle.tidy_rules.specs.Leaving.{bare, LabelsBetween, none_between, label_between, with_code}
+use Rattle.tidy_rules.specs.Leaving.{LabelsBetween, none_between, label_between, with_code}
 use Rattle.tidy_rules.specs.Redirecting.{goes_by, redirected, redirect, GoesOnTo, itself, and_on, ExitsTo, by_exit, Redirects}
 use Rattle.tidy_rules.proofs.Turns.{turns}
 use Rattle.tidy_rules.proofs.Simulate.{Arrives, both_continue, both_pay, first_stuck, Answers, stays, stuck, steps, Closed, Leads, acts, begins_alike}

@@ -3,7 +3,7 @@ use Rattle.std.proofs.Common.{◌≡◌, ℕ, suc, ◌<◌, ◌≤◌, true, fal
 use Rattle.std.proofs.lemmas.Bool.{true≢false}
 use Rattle.mach_ir.specs.Acts.{Target, On, At}
 use Rattle.mach_ir.specs.Walks.{OneOf, this, other}
-use Rattle.lin_ir.specs.Formed.{is_exit, is_label, GoesDown}
+use Rattle.lin_ir.specs.Formed.{is_exit, is_label, GoesDown, bare}
 use Rattle.lin_ir.specs.Meaning.{after_label, code_at}
 use Rattle.lin_ir.specs.Walks as walks
 use Rattle.lin_ir.specs.Walks.{targets, may_raise, Reached, Leads, Raises, by_step}
@@ -12,7 +12,6 @@ use Rattle.lin_ir.specs.declared.lin.LinOp.{LinOp}
 use Rattle.lin_ir.specs.declared.lin.LinOp.TheVariants as lin
 use Rattle.lin_ir.specs.declared.lin.Line.{Line}
 use Rattle.lin_ir.specs.declared.lin.Lin.{Lin}
-use Rattle.tidy_rules.specs.Leaving.{bare}
 use Rattle.tidy_rules.specs.Redirecting.{goes_by, redirected, GoesOnTo, ExitsTo}
 use Rattle.tidy_rules.proofs.Redirecting.{Quiet, is_there, by_label, by_jump, quiet_to, T, turned, target_turned, source_line, exit_was, same_raise, same_said}
 

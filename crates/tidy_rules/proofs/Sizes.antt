@@ -7,7 +7,7 @@ use Rattle.mach_ir.specs.declared.mach.Mark.TheVariants as mark
 use Rattle.mach_ir.specs.declared.mach.MachOp.{MachOp}
 use Rattle.mach_ir.specs.declared.mach.MachOp.TheVariants as mach
 use Rattle.mach_ir.specs.declared.mach.Instr.{Instr}
-use Rattle.lin_ir.specs.Formed.{label_of, labels_in}
+use Rattle.lin_ir.specs.Formed.{label_of, labels_in, bare}
 use Rattle.lin_ir.specs.declared.lin.Flow.TheVariants as flow
 use Rattle.lin_ir.specs.declared.lin.LinOp.{LinOp}
 use Rattle.lin_ir.specs.declared.lin.LinOp.TheVariants as lin
@@ -197,7 +197,7 @@ module _ (number : ℕ → ℕ) where
       by : (g : MachOp) (args results : List Reg) → ways_in rest ≤ length is → ways_in (lines_of number g (instr g args results) rest) ≤ suc (length is)
       by (mach.Op f) args results le = omega (arith, le)
       by (mach.Mark (mark.Exit l k)) args results le =
-          let e = pops_ways k (lowered.bare number (flow.Exit l) ∷ rest) in omega (arith, le, e)
+          let e = pops_ways k (bare (flow.Exit l) ∷ rest) in omega (arith, le, e)
       by (mach.Mark (mark.If t l)) args results le = omega (arith, le)
       by (mach.Mark (mark.Else l m)) args results le = omega (arith, le)
       by (mach.Mark (mark.Switch ls)) args results le = omega (arith, le)

@@ -8,7 +8,7 @@ use Rattle.bs_words.specs.declared.types.Loc.{Loc}
 use Rattle.bs_words.proofs.Lists.{none_in, head_same, tail_same, none_there}
 use Rattle.mach_ir.specs.Acts.{Target, On, At}
 use Rattle.mach_ir.specs.Walks.{OneOf, this, other}
-use Rattle.lin_ir.specs.Formed.{label_of, labels_in, goes_to, is_exit, is_label, GoesDown, WellFormed}
+use Rattle.lin_ir.specs.Formed.{label_of, labels_in, goes_to, is_exit, is_label, GoesDown, WellFormed, bare}
 use Rattle.lin_ir.specs.Meaning.{has_label, after_label, code_at, passes_frame}
 use Rattle.lin_ir.specs.Walks as walks
 use Rattle.lin_ir.specs.Walks.{targets, may_raise, tries_after, Writes, Reached, at_entry, by_step, by_raise, Live, read, on, aside, LiveAcross, across_step, across_raise}
@@ -23,7 +23,7 @@ use Rattle.linear_rules.specs.Lowered.{opposite_test}
 use Rattle.linear_rules.proofs.Homes.{IsIn, in_of, contains_of, split_in, in_left, in_right}
 use Rattle.linear_rules.proofs.Walked.{Tail, tail_all, tail_more, tail_next, tail_label, tail_in, tail_stands, reached_tail}
 use Rattle.linear_rules.proofs.Marks.{Differ}
-use Rattle.tidy_rules.specs.Leaving.{bare, with_code}
+use Rattle.tidy_rules.specs.Leaving.{with_code}
 use Rattle.tidy_rules.specs.Turning.{Head, Turn, branch_line, tested_again, label_put, turned_line, turned_lines, ExitsToBranch, Turns}
 use Rattle.tidy_rules.proofs.Ends.{later_after, pairs_past, at_label, has_own_label, tail_past}
 use Rattle.tidy_rules.proofs.Handlers.{handler_stands}

@@ -5,7 +5,7 @@ use Rattle.std.proofs.lemmas.List.Kept.{AllPairs-cons}
 use Rattle.std.proofs.Math.Nat.{le-max_left, le-max_right}
 use Rattle.std.specs.List.{AllPairs}
 use Rattle.std.proofs.lemmas.Option.{same_Some}
-use Rattle.lin_ir.specs.Formed.{label_of, labels_in, WellFormed}
+use Rattle.lin_ir.specs.Formed.{label_of, labels_in, WellFormed, bare}
 use Rattle.lin_ir.specs.Meaning.{after_label}
 use Rattle.lin_ir.specs.Walks.{Stands, here, below}
 use Rattle.lin_ir.specs.declared.lin.Flow.TheVariants as flow
@@ -19,7 +19,6 @@ use Rattle.linear_rules.proofs.Lines.{all_of}
 use Rattle.linear_rules.proofs.Marks.{all_in, Differ}
 use Rattle.linear_rules.proofs.Walked.{Tail, tail_all, tail_next, tail_label, tail_stands, stands_tail, later_label}
 use Rattle.bs_words.proofs.Lists.{pairs_here, head_same}
-use Rattle.tidy_rules.specs.Leaving.{bare}
 use Rattle.tidy_rules.specs.Turning.{Head, Turn, turned_lines, ExitsToBranch, Turns, label_here, label_on, head_by, head_at, stands_first, exit_head, turn_for, line_turn, turn_at, is_on, is_led_to, opened_at, turned_all}
 use Rattle.linear_rules.specs.Lowered.{limit_of}
 use Rattle.tidy_rules.proofs.Ends.{tail_length, same_tail, pairs_past}

@@ -11,7 +11,7 @@ use Rattle.mach_ir.specs.Runs.{Place, Step, Continues}
 use Rattle.mach_ir.specs.Walks.{OneOf, this, other}
 use Rattle.mach_ir.specs.declared.mach.MachOp.{MachOp}
 use Rattle.mach_ir.specs.declared.op.Op.{Op}
-use Rattle.lin_ir.specs.Formed.{WellFormed}
+use Rattle.lin_ir.specs.Formed.{WellFormed, bare}
 use Rattle.lin_ir.specs.Keeps.{IsNamedIn}
 use Rattle.lin_ir.specs.Meaning.{State, Locations, values, lin_act, on_act, after_label, code_at, passes_frame, start}
 use Rattle.lin_ir.specs.Walks as walks
@@ -28,7 +28,6 @@ use Rattle.linear_rules.proofs.Homes.{in_of, contains_of}
 use Rattle.linear_rules.proofs.Opposite.{truth_opposite}
 use Rattle.linear_rules.proofs.Walked.{tail_all}
 use Rattle.tidy_rules.specs.Keeps.{Begins, KeepsLin}
-use Rattle.tidy_rules.specs.Leaving.{bare}
 use Rattle.tidy_rules.specs.Regular.{IsRegular}
 use Rattle.tidy_rules.specs.Turning as turning
 use Rattle.tidy_rules.specs.Turning.{branch_line}

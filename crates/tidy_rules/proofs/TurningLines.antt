@@ -1,7 +1,7 @@
 -- Loops turned round: where each line of the function comes from.
 use Rattle.std.proofs.Common.{◌≡◌, ℕ, Bool, true, false, ◌⊎◌, ⊎_elim, List, [], ◌∷◌, length, Option, Some, None, refl, subst}
 use Rattle.mach_ir.specs.Walks.{this, other}
-use Rattle.lin_ir.specs.Formed.{labels_in, WellFormed}
+use Rattle.lin_ir.specs.Formed.{labels_in, WellFormed, bare}
 use Rattle.lin_ir.specs.declared.lin.Flow.{Flow}
 use Rattle.lin_ir.specs.declared.lin.Flow.TheVariants as flow
 use Rattle.lin_ir.specs.declared.lin.LinOp.TheVariants as lin
@@ -10,7 +10,6 @@ use Rattle.lin_ir.specs.declared.lin.Lin.{Lin}
 use Rattle.linear_rules.specs.Lowered.{opposite_test}
 use Rattle.linear_rules.proofs.Homes.{IsIn, is_first, is_later, split_in}
 use Rattle.linear_rules.proofs.Walked.{Tail, tail_all, tail_next, tail_in, later_label}
-use Rattle.tidy_rules.specs.Leaving.{bare}
 use Rattle.tidy_rules.specs.Turning.{Head, Turn, branch_line, tested_again, turned_line, Turns}
 use Rattle.tidy_rules.proofs.Turning.{head_line, T, R, Copied, exit_of, head_tail, turned_code, opened_code, tail_image, label_kept, named_in}
 

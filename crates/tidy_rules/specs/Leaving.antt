@@ -1,11 +1,10 @@
 -- Lines that a Linear function does without.
 use Rattle.std.specs.Prelude.{◌≡◌, ℕ, Bool, true, false, cond, List, [], ◌∷◌, length}
 use Rattle.bs_words.specs.declared.types.Comp.{Comp}
-use Rattle.lin_ir.specs.Formed.{IsSelfMove}
+use Rattle.lin_ir.specs.Formed.{IsSelfMove, bare}
 use Rattle.lin_ir.specs.Meaning.{after_label}
 use Rattle.lin_ir.specs.Walks.{Stands, Reached, Live}
 use Rattle.lin_ir.specs.declared.lin.Spot.{Spot}
-use Rattle.lin_ir.specs.declared.lin.Flow.{Flow}
 use Rattle.lin_ir.specs.declared.lin.Flow.TheVariants as flow
 use Rattle.lin_ir.specs.declared.lin.LinOp.{LinOp}
 use Rattle.lin_ir.specs.declared.lin.LinOp.TheVariants as lin
@@ -18,10 +17,6 @@ abbrev pub is_landing : LinOp → Bool
 is_landing (lin.Flow (flow.Label l)) = true
 is_landing (lin.Flow flow.EnterTrap) = true
 is_landing _ = false
-
--- a line of control with no operands
-abbrev pub bare : Flow → Line
-bare f = record { op = lin.Flow f; args = []; results = [] }
 
 -- only labels are between the first code and the second, in which it ends
 pub data LabelsBetween : List Line → List Line → Type 0 where

@@ -1,6 +1,7 @@
 -- Jumps that go at once where the jumps lead to which they go.
 use Rattle.std.specs.Option.{unwrap_or, option_map}
 use Rattle.std.specs.Prelude.{◌≡◌, ℕ, zero, suc, Bool, true, false, cond, Option, Some, None, List, [], ◌∷◌, length, map}
+use Rattle.lin_ir.specs.Formed.{bare}
 use Rattle.lin_ir.specs.Meaning.{after_label}
 use Rattle.lin_ir.specs.declared.lin.Flow.{Flow}
 use Rattle.lin_ir.specs.declared.lin.Flow.TheVariants as flow
@@ -9,7 +10,7 @@ use Rattle.lin_ir.specs.declared.lin.LinOp.TheVariants as lin
 use Rattle.lin_ir.specs.declared.lin.Spot.{Spot}
 use Rattle.lin_ir.specs.declared.lin.Line.{Line}
 use Rattle.lin_ir.specs.declared.lin.Lin.{Lin}
-use Rattle.tidy_rules.specs.Leaving.{bare, LabelsBetween, with_code, LeavesOut}
+use Rattle.tidy_rules.specs.Leaving.{LabelsBetween, with_code, LeavesOut}
 use Rattle.tidy_rules.specs.Turning.{Turns}
 
 -- what a jump becomes: an exit to the first label, if it is one, and else a jump to the second

@@ -1,7 +1,7 @@
 -- What each change of the lines keeps, and what holds when all are done.
 use Rattle.std.specs.Prelude.{◌≡◌, ◌≢◌, ℕ, false, List, ◌∷◌, All, Contains}
 use Rattle.bs_words.specs.declared.types.Comp.{Comp}
-use Rattle.lin_ir.specs.Formed.{IsHome, IsSelfMove, Seated, GoesDown, WellFormed}
+use Rattle.lin_ir.specs.Formed.{IsHome, IsSelfMove, Seated, GoesDown, WellFormed, bare}
 use Rattle.lin_ir.specs.Meaning.{after_label}
 use Rattle.lin_ir.specs.Walks.{Stands, Reached, Live}
 use Rattle.lin_ir.specs.declared.lin.Flow.TheVariants as flow
@@ -9,7 +9,7 @@ use Rattle.lin_ir.specs.declared.lin.Spot.{Spot}
 use Rattle.lin_ir.specs.declared.lin.Line.{Line}
 use Rattle.lin_ir.specs.declared.lin.Lin.{Lin}
 use Rattle.linear_rules.specs.Keeps.{OneTraps}
-use Rattle.tidy_rules.specs.Leaving.{is_landing, bare, LabelsBetween}
+use Rattle.tidy_rules.specs.Leaving.{is_landing, LabelsBetween}
 
 abbrev pub AtHomes : Lin → List Spot → Type 0
 AtHomes m spots = All (λ (s : Spot). IsHome m s.loc) spots

@@ -1,13 +1,13 @@
 -- What a function is made into: one that is tidy.
 use Rattle.std.specs.Prelude.{◌≡◌, ℕ, false, List, ◌∷◌}
-use Rattle.lin_ir.specs.Formed.{IsSelfMove}
+use Rattle.lin_ir.specs.Formed.{IsSelfMove, bare}
 use Rattle.lin_ir.specs.Meaning.{after_label}
 use Rattle.lin_ir.specs.Walks.{Reached}
 use Rattle.lin_ir.specs.declared.lin.Flow.TheVariants as flow
 use Rattle.lin_ir.specs.declared.lin.Spot.{Spot}
 use Rattle.lin_ir.specs.declared.lin.Line.{Line}
 use Rattle.lin_ir.specs.declared.lin.Lin.{Lin}
-use Rattle.tidy_rules.specs.Leaving.{is_landing, bare, LabelsBetween, LeavesOften}
+use Rattle.tidy_rules.specs.Leaving.{is_landing, LabelsBetween, LeavesOften}
 use Rattle.tidy_rules.specs.Redirecting.{redirected_all}
 use Rattle.tidy_rules.specs.Turning.{turned_all}
 use Rattle.tidy_rules.specs.Regular.{IsReadBehind, IsTidy}

@@ -1,7 +1,7 @@
 -- Loops that are turned round. Where an exit leads to a branch, the branch is repeated right after
 -- the exit, so that a turn of a loop has no jump back to its test.
 use Rattle.std.specs.Prelude.{◌≡◌, ◌≢◌, ℕ, suc, ◌+◌, ◌*◌, Bool, true, false, cond, ◌||◌, ◌&&◌, nat_eq, nat_le, Option, Some, None, List, [], ◌∷◌, ◌++◌, length, AllPairs}
-use Rattle.lin_ir.specs.Formed.{labels_in}
+use Rattle.lin_ir.specs.Formed.{labels_in, bare}
 use Rattle.lin_ir.specs.Meaning.{after_label, has_label}
 use Rattle.lin_ir.specs.Walks.{Stands}
 use Rattle.lin_ir.specs.declared.lin.Flow.{Flow}
@@ -13,7 +13,7 @@ use Rattle.lin_ir.specs.declared.lin.Line.{Line}
 use Rattle.lin_ir.specs.declared.lin.Lin.{Lin}
 use Rattle.mach_ir.specs.declared.mach.Test.{Test}
 use Rattle.linear_rules.specs.Lowered.{opposite_test, limit_of}
-use Rattle.tidy_rules.specs.Leaving.{bare, with_code}
+use Rattle.tidy_rules.specs.Leaving.{with_code}
 
 -- A branch to a label, and a label that is put right after it.
 pub record Head : Type 0 where
