@@ -13,6 +13,7 @@ pub enum ImageError {
     /// No image has these bytes. It reports the first fault.
     #[error("the bytes are no image")]
     Refused(ImageRefusal),
+    /// Memory ran out.
     #[error("out of memory")]
     OutOfMemory,
 }

@@ -5,9 +5,8 @@ ghost use Rattle.mach_ir.specs.Labels.{is_that_label};
 ghost use Rattle.lin_flow.specs.Labels.{place_in, AreLabelsOf};
 
 use lin_ir::{Flow, Lin, LinOp};
-use mach_ir::Label;
+use mach_ir::{Label, LabelPlaces};
 use std::alloc::{AllocError, Global};
-use std::collections::BTreeMap;
 
 /// The label of a line that has one.
 fn flow_label(flow: &Flow) -> Option<Label>
@@ -34,13 +33,11 @@ fn own_label(op: &LinOp) -> Option<Label>
     }
 }
 
-/// The place after each label, of a label that occurs twice after the first.
+/// The place after each label, of a label that occurs twice after the first; of any other the place
+/// after the last line.
 #[derive(Drop)]
 pub struct Labels {
-    places: BTreeMap<u32, u32>,
-
-    /// The place of every other label, after the last line.
-    end: u32,
+    places: LabelPlaces,
 }
 
 impl Labels {
@@ -52,8 +49,7 @@ impl Labels {
         let code = lin.code.as_slice();
         let end = code.len() as u32;
         let mut labels = Labels {
-            places: BTreeMap::new(alloc),
-            end,
+            places: LabelPlaces::new(alloc, end),
         };
         let mut place = end;
         while place > 0 {
@@ -66,16 +62,12 @@ impl Labels {
 
     /// Enters the label that the line has, if it has one.
     fn put(&mut self, op: &LinOp, after: u32) -> Result<(), AllocError>
-        ensures end { IfOk result (λ _. self.new.end ≡ self.old.end) }
-        ensures each { IfOk result (λ _. (l : ℕ) → place_in self.new l ≡
+        ensures { IfOk result (λ _. (l : ℕ) → place_in self.new l ≡
             cond (has_label l op.now) after (place_in self.old l)) }
     {
         match own_label(op) {
             None => Ok(()),
-            Some(label) => {
-                self.places.insert(label.0, after)?;
-                Ok(())
-            }
+            Some(label) => self.places.put(label, after),
         }
     }
 
@@ -83,9 +75,6 @@ impl Labels {
     pub fn place_of(&self, label: Label) -> u32
         ensures { result ≡ place_in self.now label }
     {
-        match self.places.get(&label.0) {
-            None => self.end,
-            Some(place) => *place,
-        }
+        self.places.place_of(label)
     }
 }

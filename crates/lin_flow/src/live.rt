@@ -19,6 +19,7 @@ use std::alloc::{AllocError, Global};
 /// The positions of a function to which walks come, and what is live as val before each.
 #[derive(Drop)]
 pub struct LiveWalks {
+    /// The positions, by their numbers.
     pub search: Search,
 
     /// How many positions there are.
@@ -26,6 +27,8 @@ pub struct LiveWalks {
 
     /// Its places have the numbers of positions.
     pub flow: Flow,
+
+    /// For each position a row of the locations that are live as val before it, by their numbers.
     pub live: Rows,
 }
 

@@ -10,13 +10,17 @@ use std::alloc::{AllocError, Global};
 /// Numbers of positions.
 #[derive(Drop)]
 pub struct Group {
+    /// The numbers, in the order in which they came.
     pub members: Vec<u32>,
 }
 
 /// Positions by their numbers, and for each place of the text the numbers of those that are there.
 #[derive(Drop)]
 pub struct Search {
+    /// Each position at its number.
     pub positions: Vec<Position>,
+
+    /// The group of each place.
     pub groups: Vec<Group>,
 }
 

@@ -13,7 +13,10 @@ use std::alloc::{AllocError, Global};
 /// The positions of a function to which walks come, each with its place of the flow graph.
 #[derive(Drop)]
 pub struct Walks {
+    /// The positions, by their numbers.
     pub search: Search,
+
+    /// The place of the flow graph of each position, in the order of the numbers.
     pub nodes: Vec<Place>,
 }
 

@@ -1,8 +1,6 @@
 -- What the table of labels has.
 use Rattle.std.specs.Prelude.{◌≡◌, ℕ, Bool, true, false, List, [], ◌∷◌}
-use Rattle.std.specs.BTreeMap as tree
-use Rattle.std.specs.Option.{unwrap_or}
-use Rattle.std.specs.Ordering.{nat_cmp}
+use Rattle.mach_ir.specs.Labels as table
 use Rattle.mach_ir.specs.Meaning.{after_label, from_handler}
 use Rattle.mach_ir.specs.declared.mach.Mach.{Mach}
 use Rattle.mach_laws.specs.Graph.{place_of}
@@ -10,11 +8,11 @@ use Rattle.liveness.specs.declared.labels.Labels.{Labels}
 
 -- the place of a label
 abbrev pub place_in : Labels → ℕ → ℕ
-place_in labels l = unwrap_or (tree.get nat_cmp labels.places l) labels.end
+place_in labels l = table.place_in labels.places l
 
 -- the place of a handler
 abbrev pub handler_in : Labels → ℕ → ℕ
-handler_in labels l = unwrap_or (tree.get nat_cmp labels.handlers l) labels.end
+handler_in labels l = table.place_in labels.handlers l
 
 -- it has the place after each label of the function, and that of each handler
 pub record AreLabelsOf (m : Mach) (labels : Labels) : Type 0 where

@@ -4,9 +4,8 @@ ghost use Rattle.mach_ir.specs.Meaning.{has_label, is_handler_of};
 ghost use Rattle.mach_ir.specs.Labels.{is_that_label};
 ghost use Rattle.liveness.specs.Labels.{place_in, handler_in, AreLabelsOf};
 
-use mach_ir::{Label, Mach, MachOp, Mark};
+use mach_ir::{Label, LabelPlaces, Mach, MachOp, Mark};
 use std::alloc::{AllocError, Global};
-use std::collections::BTreeMap;
 
 /// The label of the handler that a mark is.
 fn mark_handler(mark: &Mark) -> Option<Label>
@@ -44,14 +43,11 @@ fn own_handler(op: &MachOp) -> Option<Label>
 }
 
 /// The place after the mark of each label, and that of the mark of each handler. Of a label that
-/// occurs twice it is the first.
+/// occurs twice it is the first; of any other that after the last instruction.
 #[derive(Drop)]
 pub struct Labels {
-    places: BTreeMap<u32, u32>,
-    handlers: BTreeMap<u32, u32>,
-
-    /// The place of every other label, after the last instruction.
-    end: u32,
+    places: LabelPlaces,
+    handlers: LabelPlaces,
 }
 
 impl Labels {
@@ -63,9 +59,8 @@ impl Labels {
         let code = mach.code.as_slice();
         let end = code.len() as u32;
         let mut labels = Labels {
-            places: BTreeMap::new(alloc),
-            handlers: BTreeMap::new(alloc),
-            end,
+            places: LabelPlaces::new(alloc, end),
+            handlers: LabelPlaces::new(alloc, end),
         };
         let mut place = end;
         while place > 0 {
@@ -78,17 +73,16 @@ impl Labels {
     /// Enters the labels of the instruction at the place, if it has one.
     fn put(&mut self, op: &MachOp, place: u32) -> Result<(), AllocError>
         requires { suc place < 2 ^ 32 }
-        ensures end { IfOk result (λ _. self.new.end ≡ self.old.end) }
         ensures places { IfOk result (λ _. (l : ℕ) → place_in self.new l ≡
             cond (has_label l op.now) (suc place) (place_in self.old l)) }
         ensures handlers { IfOk result (λ _. (l : ℕ) → handler_in self.new l ≡
             cond (is_handler_of l op.now) place (handler_in self.old l)) }
     {
         if let Some(label) = op.own_label() {
-            self.places.insert(label.0, place + 1)?;
+            self.places.put(label, place + 1)?;
         }
         if let Some(label) = own_handler(op) {
-            self.handlers.insert(label.0, place)?;
+            self.handlers.put(label, place)?;
         }
         Ok(())
     }
@@ -97,19 +91,13 @@ impl Labels {
     pub fn place_of(&self, label: Label) -> u32
         ensures { result ≡ place_in self.now label }
     {
-        match self.places.get(&label.0) {
-            None => self.end,
-            Some(place) => *place,
-        }
+        self.places.place_of(label)
     }
 
     /// The place of the handler.
     pub fn handler_of(&self, label: Label) -> u32
         ensures { result ≡ handler_in self.now label }
     {
-        match self.handlers.get(&label.0) {
-            None => self.end,
-            Some(place) => *place,
-        }
+        self.handlers.place_of(label)
     }
 }

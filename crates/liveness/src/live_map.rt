@@ -13,7 +13,10 @@ use std::alloc::{AllocError, Global};
 /// The flow graph of a function, with what is live in it.
 #[derive(Drop)]
 pub struct LiveFlow {
+    /// The flow graph.
     pub flow: Flow,
+
+    /// What is live before each instruction, and after the last.
     pub live: LiveMap,
 }
 

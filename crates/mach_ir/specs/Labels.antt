@@ -1,10 +1,14 @@
 -- The labels of marks, and where control goes on by a table of the places of labels, in Mach and in
 -- Linear.
 use Rattle.std.specs.Prelude.{ℕ, suc, Bool, true, false, nat_eq, List, [], ◌∷◌, Option, Some, None}
+use Rattle.std.specs.BTreeMap as tree
+use Rattle.std.specs.Option.{unwrap_or}
+use Rattle.std.specs.Ordering.{nat_cmp}
 use Rattle.mach_ir.specs.Acts.{Target, On, At}
 use Rattle.mach_ir.specs.declared.mach.Mark.TheVariants as mark
 use Rattle.mach_ir.specs.declared.mach.MachOp.{MachOp}
 use Rattle.mach_ir.specs.declared.mach.MachOp.TheVariants as mach
+use Rattle.mach_ir.specs.declared.places.LabelPlaces.{LabelPlaces}
 
 -- the label that is here
 abbrev pub label_of : MachOp → Option ℕ
@@ -25,6 +29,10 @@ label_of (mach.Mark (mark.End l)) = Some l
 abbrev pub is_that_label : Option ℕ → ℕ → Bool
 is_that_label None l = false
 is_that_label (Some k) l = nat_eq k l
+
+-- the place of a label that was entered; of any other the end
+abbrev pub place_in : LabelPlaces → ℕ → ℕ
+place_in labels l = unwrap_or (tree.get nat_cmp labels.places l) labels.end
 
 -- where what is at this place goes on, by the table
 abbrev pub place_to : (ℕ → ℕ) → ℕ → Target → ℕ

@@ -13,6 +13,7 @@ mod lines;
 pub mod mach;
 pub mod op;
 pub mod page;
+pub mod places;
 pub mod reg;
 pub mod seq;
 
@@ -23,5 +24,6 @@ pub use label::Label;
 pub use lines::text;
 pub use mach::{Instr, Mach, MachOp, Mark, Test};
 pub use op::{Access, Callee, Calling, CopyKind, External, Leaving, Op, Pure, Right};
+pub use places::LabelPlaces;
 pub use reg::{Reg, same_comp};
 pub use seq::Seq;

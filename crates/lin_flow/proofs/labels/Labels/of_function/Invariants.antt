@@ -6,7 +6,7 @@ use Rattle.lin_flow.proofs.labels.Labels.of_function.Given as goal
 
 abbrev pub invariant-loop-place : goal.invariant-loop-place
 invariant-loop-place l =
-    (l.place ≤ length l.lin.code) × (l.labels.end ≡ length l.lin.code)
+    (l.place ≤ length l.lin.code)
     × ((x : ℕ) → place_in l.labels x ≡ place_of l.lin (after_label x (drop l.place l.lin.code)))
 
 abbrev pub decreases-loop-place : goal.decreases-loop-place

@@ -6,7 +6,7 @@ use Rattle.liveness.proofs.labels.Labels.of_function.Given as goal
 
 abbrev pub invariant-loop-place : goal.invariant-loop-place
 invariant-loop-place l =
-    (l.place ≤ length l.mach.code) × (l.labels.end ≡ length l.mach.code)
+    (l.place ≤ length l.mach.code)
     × ((x : ℕ) → place_in l.labels x ≡ place_of l.mach (after_label x (drop l.place l.mach.code)))
     × ((x : ℕ) → handler_in l.labels x ≡ place_of l.mach (from_handler x (drop l.place l.mach.code)))
 
