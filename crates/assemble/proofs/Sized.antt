@@ -24,7 +24,7 @@ use Rattle.image_form.proofs.Lengths.{length-le32, length-words}
 use Rattle.image_rules.proofs.Externals.{each_ext}
 use Rattle.image_rules.proofs.Placed.{roots_in_data, cells_few}
 use Rattle.image_rules.proofs.Whole.{all_length, length_of_data}
-use Rattle.layout_rules.specs.Externals.{ext_of, externals}
+use Rattle.layout_rules.specs.Externals.{externals}
 use Rattle.layout_rules.specs.Laid.{code_from, rows_from, descs_from, sym_of}
 use Rattle.layout_rules.specs.TooLarge.{section_bytes_of}
 
@@ -50,7 +50,7 @@ roots_length rs = omega (arith, length-append (le32 (length rs)) (flat_map le32 
 abbrev in_data : ℕ → ℕ
 in_data address = address - data_start
 
-pub sized : (s : Source) → IsSource s → (calls : List ExtRow) → map ext calls ≡ map ext_of (externals (tree_of s)) → Sized s calls
+pub sized : (s : Source) → IsSource s → (calls : List ExtRow) → map ext calls ≡ externals (tree_of s) → Sized s calls
 sized s source calls same =
     let file = tree_of s in
     let forms = forms_in s.places.now in
@@ -64,7 +64,7 @@ sized s source calls same =
     let syms_same = ap (λ (ss : List DataSymbolTree). sum_by sym_size (map sym_of ss)) source.placed.symbols in
     let symbols_few : length symbols < 2 ^ 32 = omega (arith, length-map symbols symbol_view, ap length source.placed.symbols, source.can.of_file.few_symbols) in
     let named = subst (λ (ss : List DataSymbolTree). AllByRecursion (λ (x : DataSymbolTree). IsSymbol x.name) ss) (sym source.placed.symbols) source.can.of_file.symbols in
-    let exts = map ext_of (externals file) in
+    let exts = externals file in
     let exts_same = ap (sum_by ext_size) same in
     let few_exts = exts_most exts (each_ext (externals file) source.can.of_file.calls) in
     let descs = descs_from stub_words ps forms in
@@ -78,7 +78,7 @@ sized s source calls same =
       syms = omega (arith, symbols_are symbols, syms_same, table_length sym_bytes sym_size sym_length (map sym_of (symbols_of file)));
       roots_few = omega (arith, cells_few data_start (data_end file) (root_cells file) (roots_in_data file), root_count, source.placed.bytes);
       roots = omega (arith, roots_length (map in_data (root_cells file)), length-map (root_cells file) in_data, root_count);
-      calls_few = omega (arith, calls_are calls, exts_same, few_exts, length-map (externals file) ext_of, source.can.of_file.few_externals);
+      calls_few = omega (arith, calls_are calls, exts_same, few_exts, source.can.of_file.few_externals);
       extcs = omega (arith, calls_are calls, exts_same, table_length ext_bytes ext_size ext_length exts);
       descs_few = omega (arith, pieces_most ps, source.can.few);
       descs = omega (arith, descs_are stub_words ps forms source.places.forms, table_length (desc_bytes 2) desc_size desc_length descs);

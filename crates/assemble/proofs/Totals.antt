@@ -7,6 +7,7 @@ use Rattle.std.proofs.lemmas.List.Sums.{sum_by-cons, sum_by-append}
 use Rattle.assemble.specs.Places.{size_of}
 use Rattle.assemble.specs.Sizes.{item_size, symbol_size, call_size, piece_size, pieces_size}
 use Rattle.bs_words.specs.Contents.{contents}
+use Rattle.bs_words.specs.External.{External}
 use Rattle.bs_words.specs.Symbol.{IsSymbol}
 use Rattle.cmm_data.specs.Map.{symbol_view}
 use Rattle.cmm_data.specs.Placement.{DataSymbolTree}
@@ -16,7 +17,7 @@ use Rattle.cmm_tree.specs.View.{param_view, function_view, item_view}
 use Rattle.cmm_tree.specs.declared.file.Item.{Item}
 use Rattle.cmm_tree.specs.declared.file.Item.TheVariants as item
 use Rattle.image_form.specs.Image.{IsExt, le32, le_entry, name_bytes, params_bytes, func_bytes, sym_bytes, ext_bytes, desc_bytes, table_bytes, ret_byte}
-use Rattle.image_form.specs.Tables.{Func, Sym, Ext, Desc, ext}
+use Rattle.image_form.specs.Tables.{Func, Sym, Desc, ext}
 use Rattle.image_form.specs.declared.image.ExtRow.{ExtRow}
 use Rattle.image_form.proofs.Lengths.{length-le32, name_length, params_length}
 use Rattle.layout_rules.specs.declared.form.Form.{Form}
@@ -126,10 +127,10 @@ symbols_most (s ∷ ss) symbols = omega (arith, sum_by-cons symbol_size s ss, sy
 
 -- ---- external calls
 
-abbrev pub ext_size : Ext → ℕ
+abbrev pub ext_size : External → ℕ
 ext_size e = 4 + length e.name + length e.params
 
-pub ext_length : (e : Ext) → length (ext_bytes e) ≡ ext_size e
+pub ext_length : (e : External) → length (ext_bytes e) ≡ ext_size e
 unfolding ext_bytes
 ext_length e =
     let last = params_bytes e.params ++ ret_byte e.result ∷ [] in
@@ -139,7 +140,7 @@ pub calls_are : (rows : List ExtRow) → sum_by ext_size (map ext rows) ≡ sum_
 calls_are [] = refl
 calls_are (e ∷ rows) = omega (arith, sum_by-cons ext_size (ext e) (map ext rows), sum_by-cons call_size e rows, calls_are rows)
 
-pub exts_most : (es : List Ext) → AllByRecursion IsExt es → sum_by ext_size es ≤ 275 * length es
+pub exts_most : (es : List External) → AllByRecursion IsExt es → sum_by ext_size es ≤ 275 * length es
 exts_most [] all = omega arith
 exts_most (e ∷ es) all = omega (arith, sum_by-cons ext_size e es, all.0.name.1, all.0.few, exts_most es all.1)
 

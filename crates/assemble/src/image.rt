@@ -8,7 +8,7 @@ ghost use Rattle.cmm_tree.specs.View.{file_view};
 ghost use Rattle.image_form.specs.Image.{IsImage};
 ghost use Rattle.image_form.specs.Tables.{Tables, tables, ext};
 ghost use Rattle.layout_rules.specs.Conditions.{CanBeLaid};
-ghost use Rattle.layout_rules.specs.Externals.{ext_of, externals};
+ghost use Rattle.layout_rules.specs.Externals.{externals};
 ghost use Rattle.layout_rules.specs.Laid.{IsLaidOut};
 ghost use Rattle.layout_rules.specs.TooLarge.{first_too_large};
 
@@ -39,7 +39,7 @@ impl<'a, 'b> Source<'a, 'b> {
         requires jobs { 1 ≤ jobs }
         requires same { length work.now ≡ length self.now.pieces.now }
         requires source { IsSource self.now }
-        requires calls { map ext (contents calls) ≡ map ext_of (externals (tree_of self.now)) }
+        requires calls { map ext (contents calls) ≡ externals (tree_of self.now) }
         requires fits { first_too_large (laid_of self.now) ≡ None }
         ensures { IfOk result (λ image. tables image ≡ laid_of self.now) }
     {

@@ -3,7 +3,7 @@ ghost use Rattle.std.specs.Prelude.{◌≡◌, ◌<◌, ◌^◌, map, sum_by};
 ghost use Rattle.assemble.specs.Sizes.{item_size, symbol_size, call_size, piece_size, descs_size};
 ghost use Rattle.assemble.specs.Source.{IsSource, laid_of, tree_of};
 ghost use Rattle.image_form.specs.Tables.{ext};
-ghost use Rattle.layout_rules.specs.Externals.{ext_of, externals};
+ghost use Rattle.layout_rules.specs.Externals.{externals};
 ghost use Rattle.rv_layout.specs.Sizes.{AreSizesOf};
 
 use crate::places::Laid;
@@ -113,7 +113,7 @@ impl<'a, 'b> Source<'a, 'b> {
     /// The bytes of the sections. `calls` are the rows of the external calls.
     pub fn sizes(&self, calls: &[ExtRow]) -> Sizes
         requires source { IsSource self.now }
-        requires calls { map ext calls.now ≡ map ext_of (externals (tree_of self.now)) }
+        requires calls { map ext calls.now ≡ externals (tree_of self.now) }
         ensures { AreSizesOf result (laid_of self.now) }
     {
         Sizes {

@@ -1,8 +1,9 @@
 -- How many bytes the rows of an image have.
 use Rattle.std.proofs.Common.{◌≡◌, ℕ, ◌+◌, ◌*◌, List, [], ◌∷◌, ◌++◌, length, refl, length-append, arith}
 use Rattle.std.specs.List.{flat_map}
+use Rattle.bs_words.specs.External.{External}
 use Rattle.image_form.specs.Image.{le32, le_entry, ret_byte, name_bytes, params_bytes, func_bytes, sym_bytes, ext_bytes, desc_bytes, table_bytes}
-use Rattle.image_form.specs.Tables.{Func, Sym, Ext, Desc}
+use Rattle.image_form.specs.Tables.{Func, Sym, Desc}
 use Rattle.image_form.proofs.Lengths.{length-le32, name_length, params_length}
 
 pub func_length : (r : Func) → length (func_bytes r) ≡ 16 + (length r.name + length r.params)
@@ -30,7 +31,7 @@ pub sym_length : (s : Sym) → length (sym_bytes s) ≡ 6 + length s.name
 unfolding sym_bytes
 sym_length s = omega (arith, length-append (name_bytes s.name) (le32 s.offset), name_length s.name, length-le32 s.offset)
 
-pub ext_length : (e : Ext) → length (ext_bytes e) ≡ 4 + (length e.name + length e.params)
+pub ext_length : (e : External) → length (ext_bytes e) ≡ 4 + (length e.name + length e.params)
 unfolding ext_bytes
 ext_length e =
     let last = params_bytes e.params ++ ret_byte e.result ∷ [] in

@@ -1,5 +1,5 @@
 -- The external calls of a file fit their section.
-use Rattle.std.proofs.Common.{◌≡◌, ℕ, ◌+◌, ◌*◌, ◌≤◌, Bool, true, false, cond, List, [], ◌∷◌, ◌++◌, length, map, flat_map, refl, length-append, arith}
+use Rattle.std.proofs.Common.{◌≡◌, ℕ, ◌+◌, ◌*◌, ◌≤◌, Bool, true, false, cond, List, [], ◌∷◌, ◌++◌, length, flat_map, refl, length-append, arith}
 use Rattle.bs_words.specs.External.{External}
 use Rattle.bs_words.specs.declared.types.Ty.TheVariants.{Val}
 use Rattle.cmm_meaning.specs.Evaluation.{comps_of_arguments}
@@ -8,7 +8,7 @@ use Rattle.cmm_tree.specs.Tree.{Expression, Integer, Pointer, Symbol, Name, Noth
 use Rattle.cmm_types.specs.Faults.{row_length}
 use Rattle.cmm_types.specs.Types.{Scoped, with_parameters, with_bindings}
 use Rattle.image_form.specs.Image.{ext_bytes, table_bytes, table_limit}
-use Rattle.layout_rules.specs.Externals.{calls_in, calls_in_row, calls_in_bindings, calls_in_cases, calls_in_handlers, calls_in_function, all_calls, ext_of, is_among, firsts_behind, externals}
+use Rattle.layout_rules.specs.Externals.{calls_in, calls_in_row, calls_in_bindings, calls_in_cases, calls_in_handlers, calls_in_function, all_calls, is_among, firsts_behind, externals}
 use Rattle.text_sizes.specs.Measures.{call_bytes, items_bytes}
 use Rattle.code_bounds.proofs.Bodies.{ext_length, table_length}
 
@@ -126,16 +126,16 @@ firsts_few before (e ∷ es) =
     one true = omega arith
     one false = let both = rows_append before (e ∷ []) in omega (arith, both)
 
-table_few : (es : List External) → length (flat_map ext_bytes (map ext_of es)) ≤ 2 * rows_bytes es
+table_few : (es : List External) → length (flat_map ext_bytes es) ≤ 2 * rows_bytes es
 table_few [] = omega arith
 table_few (e ∷ es) =
-    let here = ext_length (ext_of e) in
+    let here = ext_length e in
     let others = table_few es in
-    omega (arith, here, others, length-append (ext_bytes (ext_of e)) (flat_map ext_bytes (map ext_of es)))
+    omega (arith, here, others, length-append (ext_bytes e) (flat_map ext_bytes es))
 
-pub extcs_short : (file : FileTree) → items_bytes file.items ≤ 16777216 → length (table_bytes ext_bytes (map ext_of (externals file))) ≤ table_limit
+pub extcs_short : (file : FileTree) → items_bytes file.items ≤ 16777216 → length (table_bytes ext_bytes (externals file)) ≤ table_limit
 extcs_short file short =
-    let table = table_length ext_bytes (map ext_of (externals file)) in
+    let table = table_length ext_bytes (externals file) in
     let rows = table_few (externals file) in
     let firsts = firsts_few [] (all_calls file) in
     let all = all_same file.items in

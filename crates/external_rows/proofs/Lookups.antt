@@ -15,8 +15,8 @@ use Rattle.bs_words.specs.declared.types.Ret.{Ret}
 use Rattle.bs_words.specs.declared.types.Comp.TheVariants.{Int, Val, Addr, Float}
 use Rattle.image_form.specs.Image.{comp_byte, ret_byte}
 use Rattle.image_form.specs.declared.image.ExtRow.{ExtRow}
-use Rattle.image_form.specs.Tables.{ext, Ext}
-use Rattle.layout_rules.specs.Externals.{ext_of, same_row, is_among, number_of}
+use Rattle.image_form.specs.Tables.{ext}
+use Rattle.layout_rules.specs.Externals.{same_row, is_among, number_of}
 use Rattle.external_rows.specs.Entries.{key_of, entry_view, AreKeyed, noted}
 
 abbrev pub Entry : Type 0
@@ -154,12 +154,8 @@ known e key es is keyed there = ap (λ b. cond b (map entry_view es) (map entry_
 
 -- ---- all rows
 
-rows_of : (es : List Entry) → map (λ (e : Entry). ext e.1) es ≡ map ext_of (map entry_view es)
-rows_of [] = refl
-rows_of (e ∷ es) = ap (λ rows. ext e.1 ∷ rows) (rows_of es)
-
-pub all_rows : (es : List Entry) (i len : ℕ) → len ≡ length es → len ≤ i → map (λ (e : Entry). ext e.1) (take i es) ≡ map ext_of (map entry_view es)
-all_rows es i len long h = ap (map (λ (e : Entry). ext e.1)) (take_all i es (omega (arith, long, h))) ∙ rows_of es
+pub all_rows : (es : List Entry) (i len : ℕ) → len ≡ length es → len ≤ i → map entry_view (take i es) ≡ map entry_view es
+all_rows es i len long h = ap (map entry_view) (take_all i es (omega (arith, long, h)))
 
 one_longer : {A : Type 0} (xs : List A) (i : ℕ) (x : A) → slice_get xs i ≡ Some x → take (suc i) xs ≡ take i xs ++ x ∷ []
 one_longer [] i x at = absurd (cc)
@@ -170,11 +166,11 @@ one_longer (y ∷ xs) zero x at = ap (λ z. z ∷ []) (some_same at)
 one_longer (y ∷ xs) (suc i) x at = ap (λ zs. y ∷ zs) (one_longer xs i x at)
 
 pub next_row : (es : List Entry) (i : ℕ) (e : Entry) (rows new : List ExtRow) (copy : ExtRow) → slice_get es i ≡ Some e → ext copy ≡ ext e.1 → new ≡ rows ++ copy ∷ [] →
-    map ext rows ≡ map (λ (x : Entry). ext x.1) (take i es) → map ext new ≡ map (λ (x : Entry). ext x.1) (take (i + 1) es)
+    map ext rows ≡ map entry_view (take i es) → map ext new ≡ map entry_view (take (i + 1) es)
 next_row es i e rows new copy at same pushed so_far =
-    let own : Entry → Ext = λ x. ext x.1 in
+    let own : Entry → External = entry_view in
     let next : i + 1 ≡ suc i = omega arith in
     ap (map ext) pushed
     ∙ (map-append ext rows (copy ∷ [])
-    ∙ (ap₂ (λ (a : List Ext) (b : Ext). a ++ b ∷ []) so_far same
+    ∙ (ap₂ (λ (a : List External) (b : External). a ++ b ∷ []) so_far same
     ∙ (sym (map-append own (take i es) (e ∷ [])) ∙ (ap (map own) (sym (one_longer es i e at)) ∙ ap (λ n. map own (take n es)) (sym next)))))

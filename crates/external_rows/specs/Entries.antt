@@ -1,9 +1,9 @@
 -- Rows of external calls, and how one more is noted.
 use Rattle.std.specs.Prelude.{◌≡◌, ℕ, cond, List, [], ◌∷◌, ◌++◌, map}
 use Rattle.std.specs.declared.vec.Vec.{Vec}
-use Rattle.bs_words.specs.Contents.{contents}
 use Rattle.bs_words.specs.External.{External}
 use Rattle.image_form.specs.Image.{comp_byte, ret_byte}
+use Rattle.image_form.specs.Tables.{ext}
 use Rattle.image_form.specs.declared.image.ExtRow.{ExtRow}
 use Rattle.layout_rules.specs.Externals.{is_among}
 
@@ -18,7 +18,7 @@ abbrev pub key_of : External → List ℕ
 key_of e = ret_byte e.result ∷ (map comp_byte e.params ++ 255 ∷ e.name)
 
 abbrev pub entry_view : {A : Type 0} → Vec ℕ A × ExtRow → External
-entry_view e = record { name = e.1.name; params = contents e.1.params; result = e.1.result }
+entry_view e = ext e.1
 
 -- each row is at its own bytes
 abbrev pub AreKeyed : {A : Type 0} → List (Vec ℕ A × ExtRow) → Type 0

@@ -4,7 +4,7 @@ ghost use Rattle.bs_words.specs.Contents.{contents};
 ghost use Rattle.image_form.specs.Image.{comp_byte};
 ghost use Rattle.image_form.specs.Tables.{ext};
 ghost use Rattle.external_rows.specs.Entries.{key_of, noted};
-ghost use Rattle.layout_rules.specs.Externals.{ext_of, number_of};
+ghost use Rattle.layout_rules.specs.Externals.{number_of};
 ghost use Rattle.mach_ir.specs.Acts.{row_of};
 
 use bs_words::{Comp, List, Name, Ret};
@@ -119,7 +119,7 @@ impl ExternalRows {
 
     /// A copy of the rows, as an image has them. The only error is want of memory.
     pub fn to_list(&self, alloc: Global) -> Result<List<ExtRow>, AllocError>
-        ensures { IfOk result (λ rows. map ext (contents rows) ≡ map ext_of self.now) }
+        ensures { IfOk result (λ rows. map ext (contents rows) ≡ self.now) }
     {
         let mut rows = Vec::new(alloc);
         for index in 0..self.rows.len() {

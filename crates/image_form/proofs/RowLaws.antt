@@ -5,9 +5,10 @@ use Rattle.std.specs.List.{flat_map, slice_get}
 use Rattle.std.specs.Int.{w32}
 use Rattle.std.proofs.lemmas.Bool.{leb-true, le-leb}
 use Rattle.std.proofs.lemmas.Bool.Decides.{Decides-and, Decides-or, Decides-eqb, Decides-ltb}
+use Rattle.bs_words.specs.External.{External}
 use Rattle.bs_words.specs.declared.types.Comp.{Comp}
 use Rattle.bs_words.specs.declared.types.Ret.{Ret}
-use Rattle.image_form.specs.Tables.{Func, Sym, Ext, Desc, func_names, sym_names}
+use Rattle.image_form.specs.Tables.{Func, Sym, Desc, func_names, sym_names}
 use Rattle.bs_words.specs.Symbol.{IsSymbol}
 use Rattle.image_form.specs.Image.{le32, le_entry, entry_limit, ret_byte, name_bytes, params_bytes, func_bytes, sym_bytes, ext_bytes, desc_bytes, IsParam, IsResult, IsArgument, IsExtResult, IsRoot, IsEntry, IsNextEntry, end_of, first_return}
 use Rattle.image_form.specs.Seen.{has}
@@ -160,40 +161,40 @@ root_field data_len before =
 
 -- ---- external calls
 
-pub record ExtRule (before : List Ext) (e : Ext) : Type 0 where
+pub record ExtRule (before : List External) (e : External) : Type 0 where
   pub name : IsSymbol e.name
   pub params : AreParams IsArgument e.params
   pub result : IsExtResult e.result
   pub new : has (map ext_bytes before) (ext_bytes e) ≡ false
 
-abbrev ext_of : List ℕ → List Comp → Ret → Ext
+abbrev ext_of : List ℕ → List Comp → Ret → External
 ext_of name params result = record { name = name; params = params; result = result }
 
-new_ext_field : (before : List Ext) (name : List ℕ) (params : List Comp)
+new_ext_field : (before : List External) (name : List ℕ) (params : List Comp)
     → IsField (kept (λ result. not (has (map ext_bytes before) (ext_bytes (ext_of name params result)))) (type_at ext_result_of)) (λ x. ret_byte x ∷ [])
     (λ result. IsExtResult result × (has (map ext_bytes before) (ext_bytes (ext_of name params result)) ≡ false))
 new_ext_field before name params =
     kept_field (type_at ext_result_of) (λ x. ret_byte x ∷ []) IsExtResult ext_result_field _ _ (λ result. new_decides (has (map ext_bytes before) (ext_bytes (ext_of name params result))))
 
 -- the bytes of a row, opened
-ext_opened : (e : Ext) → ext_bytes e ≡ name_bytes e.name ++ (params_bytes e.params ++ ret_byte e.result ∷ [])
+ext_opened : (e : External) → ext_bytes e ≡ name_bytes e.name ++ (params_bytes e.params ++ ret_byte e.result ∷ [])
 unfolding ext_bytes
 ext_opened e = refl
 
-ext_takes : (before : List Ext) (bytes : List ℕ) (x : Ext) (rest : List ℕ) → IsBytes bytes → ext_at before bytes ≡ Ok (x, rest) → Takes bytes (ext_bytes x) rest × ExtRule before x
+ext_takes : (before : List External) (bytes : List ℕ) (x : External) (rest : List ℕ) → IsBytes bytes → ext_at before bytes ≡ Ok (x, rest) → Takes bytes (ext_bytes x) rest × ExtRule before x
 unfolding ext_at
 ext_takes before bytes x rest fits e =
     let a = step name_at name_bytes IsSymbol name_field bytes _ (x, rest) fits e in
     let p = step (params_at 1) params_bytes _ ext_params_field a.rest _ (x, rest) a.takes.rest_fits a.then in
     let r = step _ (λ x. ret_byte x ∷ []) _ (new_ext_field before a.value p.value) p.rest _ (x, rest) p.takes.rest_fits p.then in
-    let made : Ext × List ℕ = (ext_of a.value p.value r.value, r.rest) in
+    let made : External × List ℕ = (ext_of a.value p.value r.value, r.rest) in
     let t1 = Takes-then a.rest (params_bytes p.value) p.rest (ret_byte r.value ∷ []) r.rest p.takes r.takes in
     let t0 = Takes-then bytes (name_bytes a.value) a.rest _ r.rest a.takes t1 in
     let taken : Takes bytes (ext_bytes made.0) r.rest = subst (λ (text : List ℕ). Takes bytes text r.rest) (sym (ext_opened made.0)) t0 in
-    subst (λ (y : Ext × List ℕ). Takes bytes (ext_bytes y.0) y.1 × ExtRule before y.0) (ok_is made (x, rest) r.then)
+    subst (λ (y : External × List ℕ). Takes bytes (ext_bytes y.0) y.1 × ExtRule before y.0) (ok_is made (x, rest) r.then)
     (taken, record { name = a.fits; params = p.fits; result = r.fits.0; new = r.fits.1 })
 
-ext_again : (before : List Ext) (x : Ext) (rest : List ℕ) → ExtRule before x → ext_at before (ext_bytes x ++ rest) ≡ Ok (x, rest)
+ext_again : (before : List External) (x : External) (rest : List ℕ) → ExtRule before x → ext_at before (ext_bytes x ++ rest) ≡ Ok (x, rest)
 unfolding ext_at
 ext_again before x rest rule =
     let opened : ext_bytes x ++ rest ≡ (name_bytes x.name ++ (params_bytes x.params ++ ret_byte x.result ∷ [])) ++ rest = ap (λ (t : List ℕ). t ++ rest) (ext_opened x) in
@@ -201,7 +202,7 @@ ext_again before x rest rule =
     ap (ext_at before) (opened ∙ regrouped)
     ∙ rw (name_field.again x.name _ rule.name, ext_params_field.again x.params _ rule.params, (new_ext_field before x.name x.params).again x.result rest (rule.result, rule.new)) refl
 
-pub ext_field : (before : List Ext) → IsField (ext_at before) ext_bytes (ExtRule before)
+pub ext_field : (before : List External) → IsField (ext_at before) ext_bytes (ExtRule before)
 ext_field before = record { takes = ext_takes before; again = ext_again before }
 
 -- ---- descriptors

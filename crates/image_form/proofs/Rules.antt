@@ -5,7 +5,8 @@ use Rattle.std.specs.Str.{bytes_eq}
 use Rattle.std.proofs.lemmas.Bool.{or_parts, or_from, false_from_ne_true}
 use Rattle.std.proofs.lemmas.List.{append-nil, map_push}
 use Rattle.std.proofs.lemmas.Slice.Eq.{bytes_eq-Decides}
-use Rattle.image_form.specs.Tables.{Func, Sym, Ext, Desc, func_names, sym_names}
+use Rattle.bs_words.specs.External.{External}
+use Rattle.image_form.specs.Tables.{Func, Sym, Desc, func_names, sym_names}
 use Rattle.image_form.specs.Image.{First, EachNext, IsFunc, IsBehind, IsSym, IsRoot, IsExt, IsDesc, IsEntry, IsNextEntry, entry_limit, end_of, ext_bytes}
 use Rattle.image_form.specs.Seen.{has}
 use Rattle.image_form.specs.Fields.{ext_at}
@@ -204,7 +205,7 @@ roots_to data_len roots small read =
 
 -- ---- external calls
 
-pub record ExtcsRead (extcs : List Ext) : Type 0 where
+pub record ExtcsRead (extcs : List External) : Type 0 where
   pub each : AllByRecursion IsExt extcs
   pub differ : AllDiffer extcs
 
@@ -217,28 +218,28 @@ all_differ_map key [] all = tt
 all_differ_map key (x ∷ xs) all = (differ_map key x xs all.0, all_differ_map key xs all.1)
 
 -- rows of the same bytes are the same row
-same_ext : (x y : Ext) → IsExt x → IsExt y → ext_bytes x ≡ ext_bytes y → x ≡ y
+same_ext : (x y : External) → IsExt x → IsExt y → ext_bytes x ≡ ext_bytes y → x ≡ y
 same_ext x y is-x is-y e =
-    let rule : (z : Ext) → IsExt z → ExtRule [] z = λ z is. record { name = is.name; params = record { few = is.few; each = is.params }; result = is.result; new = unfold has in refl } in
+    let rule : (z : External) → IsExt z → ExtRule [] z = λ z is. record { name = is.name; params = record { few = is.few; each = is.params }; result = is.result; new = unfold has in refl } in
     let read-x = (ext_field []).again x [] (rule x is-x) in
     let read-y = (ext_field []).again y [] (rule y is-y) in
-    ap (λ (p : Ext × List ℕ). p.0) (ok_is (x, []) (y, []) (sym read-x ∙ ap (λ (t : List ℕ). ext_at [] (t ++ [])) e ∙ read-y))
+    ap (λ (p : External × List ℕ). p.0) (ok_is (x, []) (y, []) (sym read-x ∙ ap (λ (t : List ℕ). ext_at [] (t ++ [])) e ∙ read-y))
 
-ext_differ : (x : Ext) (xs : List Ext) → IsExt x → AllByRecursion IsExt xs → AllByRecursion (λ y. x ≢ y) xs → AllByRecursion (λ k. ext_bytes x ≢ k) (map ext_bytes xs)
+ext_differ : (x : External) (xs : List External) → IsExt x → AllByRecursion IsExt xs → AllByRecursion (λ y. x ≢ y) xs → AllByRecursion (λ k. ext_bytes x ≢ k) (map ext_bytes xs)
 ext_differ x [] is all ne = tt
 ext_differ x (y ∷ xs) is all ne = (λ e. ne.0 (same_ext x y is all.0 e), ext_differ x xs is all.1 ne.1)
 
-exts_differ : (xs : List Ext) → AllByRecursion IsExt xs → AllDiffer xs → AllDiffer (map ext_bytes xs)
+exts_differ : (xs : List External) → AllByRecursion IsExt xs → AllDiffer xs → AllDiffer (map ext_bytes xs)
 exts_differ [] all differ = tt
 exts_differ (x ∷ xs) all differ = (ext_differ x xs all.0 all.1 differ.0, exts_differ xs all.1 differ.1)
 
-pub extcs_from : (extcs : List Ext) → AllAfter ExtRule [] extcs → ExtcsRead extcs
+pub extcs_from : (extcs : List External) → AllAfter ExtRule [] extcs → ExtcsRead extcs
 extcs_from extcs all = record {
   each = each_from IsExt [] extcs (weaker ExtRule (λ _ x. IsExt x) (λ b x r. record { name = r.name; few = r.params.few; params = r.params.each; result = r.result }) [] extcs all);
   differ = all_differ_map ext_bytes extcs (differ_from (map ext_bytes extcs) (new_from ext_bytes [] [] extcs (weaker ExtRule (λ b x. has ([] ++ map ext_bytes b) (ext_bytes x) ≡ false) (λ b x r. r.new) [] extcs all)));
 }
 
-pub extcs_to : (extcs : List Ext) → ExtcsRead extcs → AllAfter ExtRule [] extcs
+pub extcs_to : (extcs : List External) → ExtcsRead extcs → AllAfter ExtRule [] extcs
 extcs_to extcs read =
     let own = each_to IsExt [] extcs read.each in
     let new = new_to ext_bytes [] [] extcs (differ_to (map ext_bytes extcs) (exts_differ extcs read.each read.differ)) in

@@ -4,6 +4,7 @@
 use Rattle.std.specs.Prelude.{◌≡◌, ℕ, zero, suc, ◌+◌, ◌-◌, ◌/◌, ◌%◌, Bool, true, ◌&&◌, ◌||◌, not, List, [], ◌∷◌, ◌++◌, length, take, drop, map, Option, Some, None, Result, Ok, Err, nat_lt, nat_le, ◌==◌, if◌then◌else◌}
 use Rattle.std.specs.List.{slice_get}
 use Rattle.std.specs.Int.{Width, w16, w32, byte_len, from_le_bytes}
+use Rattle.bs_words.specs.External.{External}
 use Rattle.bs_words.specs.Symbol.{is_symbol}
 use Rattle.bs_words.specs.declared.types.Comp.{Comp}
 use Rattle.bs_words.specs.declared.types.Comp.TheVariants.{Int, Val, Addr}
@@ -11,7 +12,7 @@ use Rattle.bs_words.specs.declared.types.Ret.{Ret}
 use Rattle.bs_words.specs.declared.types.Ret.TheVariants as returns
 use Rattle.image_form.specs.declared.fault.Stop.{Stop}
 use Rattle.image_form.specs.declared.fault.Stop.TheVariants as stops
-use Rattle.image_form.specs.Tables.{Func, Sym, Ext, Desc, func_names, sym_names}
+use Rattle.image_form.specs.Tables.{Func, Sym, Desc, func_names, sym_names}
 use Rattle.image_form.specs.Image.{end_of, ext_bytes, entry_width, first_return}
 use Rattle.image_form.specs.Seen.{has}
 
@@ -142,7 +143,7 @@ root_at data_len before =
     (number_at w32)
 
 -- an entry that is there already is reported at its result
-unfoldable pub ext_at : List Ext → List ℕ → Result (Ext × List ℕ) ℕ
+unfoldable pub ext_at : List External → List ℕ → Result (External × List ℕ) ℕ
 ext_at before bytes = do
   name ← name_at bytes
   params ← params_at 1 name.1

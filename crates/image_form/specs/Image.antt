@@ -4,12 +4,13 @@ use Rattle.bs_words.specs.Fits.{data_limit}
 use Rattle.bs_words.specs.Symbol.{IsSymbol}
 use Rattle.std.specs.List.{flat_map, AllByRecursion, AllPairs}
 use Rattle.std.specs.Int.{Width, w16, w32, to_le_bytes}
+use Rattle.bs_words.specs.External.{External}
 use Rattle.bs_words.specs.declared.types.Comp.{Comp}
 use Rattle.bs_words.specs.declared.types.Comp.TheVariants.{Int, Val, Addr, Float}
 use Rattle.bs_words.specs.declared.types.Ret.{Ret}
 use Rattle.bs_words.specs.declared.types.Ret.TheVariants as returns
 use Rattle.image_form.specs.declared.image.Image as declared
-use Rattle.image_form.specs.Tables.{Func, Sym, Ext, Desc, Tables, tables, func_names, sym_names}
+use Rattle.image_form.specs.Tables.{Func, Sym, Desc, Tables, tables, func_names, sym_names}
 
 -- ---- words of the rules
 
@@ -91,7 +92,7 @@ func_bytes f =
 unfoldable pub sym_bytes : Sym → List ℕ
 sym_bytes s = name_bytes s.name ++ le32 s.offset
 
-unfoldable pub ext_bytes : Ext → List ℕ
+unfoldable pub ext_bytes : External → List ℕ
 ext_bytes e = name_bytes e.name ++ (params_bytes e.params ++ ret_byte e.result ∷ [])
 
 unfoldable pub desc_bytes : ℕ → Desc → List ℕ
@@ -207,15 +208,15 @@ abbrev pub IsExtResult : Ret → Type 0
 IsExtResult returns.Unit = ⊤
 IsExtResult (returns.Comp c) = IsParam c
 
-pub record IsExt (e : Ext) : Type 0 where
+pub record IsExt (e : External) : Type 0 where
   pub name : IsSymbol e.name
   pub few : length e.params ≤ 16
   pub params : AllByRecursion IsArgument e.params
   pub result : IsExtResult e.result
 
-pub record AreExtcs (extcs : List Ext) : Type 0 where
+pub record AreExtcs (extcs : List External) : Type 0 where
   pub each : AllByRecursion IsExt extcs
-  pub differ : AllPairs (λ (x y : Ext). x ≢ y) extcs
+  pub differ : AllPairs (λ (x y : External). x ≢ y) extcs
   pub short : length (table_bytes ext_bytes extcs) ≤ table_limit
 
 -- an odd entry is a register, an even one an offset in a frame of that size

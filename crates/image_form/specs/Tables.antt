@@ -3,6 +3,7 @@ use Rattle.std.specs.Prelude.{ℕ, List, map}
 use Rattle.bs_words.specs.declared.types.Comp.{Comp}
 use Rattle.bs_words.specs.declared.types.Ret.{Ret}
 use Rattle.bs_words.specs.Contents.{contents}
+use Rattle.bs_words.specs.External.{External}
 use Rattle.image_form.specs.declared.image.FuncRow.{FuncRow}
 use Rattle.image_form.specs.declared.image.SymRow.{SymRow}
 use Rattle.image_form.specs.declared.image.ExtRow.{ExtRow}
@@ -21,11 +22,6 @@ pub record Sym : Type 0 where
   pub name : List ℕ
   pub offset : ℕ
 
-pub record Ext : Type 0 where
-  pub name : List ℕ
-  pub params : List Comp
-  pub result : Ret
-
 pub record Desc : Type 0 where
   pub after : ℕ
   pub size : ℕ
@@ -38,7 +34,7 @@ pub record Tables : Type 0 where
   pub bytes : List ℕ
   pub syms : List Sym
   pub roots : List ℕ
-  pub extcs : List Ext
+  pub extcs : List External
   pub descs : List Desc
 
 -- ---- what the code's types hold
@@ -51,7 +47,7 @@ func f =
 abbrev pub sym : SymRow → Sym
 sym s = record { name = s.name; offset = s.offset }
 
-abbrev pub ext : ExtRow → Ext
+abbrev pub ext : ExtRow → External
 ext e = record { name = e.name; params = contents e.params; result = e.result }
 
 abbrev pub desc : DescRow → Desc

@@ -1,7 +1,8 @@
 //! The rows of the tables, each read in view of those before it.
 ghost use Rattle.std.specs.Prelude.{◌≡◌, List, ℕ, [], ◌∷◌, ◌++◌, ◌&&◌, ◌+◌, ◌%◌, ◌==◌, map, nat_lt, nat_le, IfOk};
 ghost use Rattle.std.specs.Int.{w32};
-ghost use Rattle.image_form.specs.Tables.{Ext, func, sym, ext, desc, func_names, sym_names};
+ghost use Rattle.bs_words.specs.External.{External};
+ghost use Rattle.image_form.specs.Tables.{func, sym, ext, desc, func_names, sym_names};
 ghost use Rattle.image_form.specs.Image.{end_of, ext_bytes};
 ghost use Rattle.image_form.specs.Seen.{Holds};
 ghost use Rattle.image_form.specs.Fields.{
@@ -331,10 +332,10 @@ pub(crate) fn root_table(alloc: Global, data_len: usize, body: &[u8]) -> Result<
 /// An external call. The rows that came before are known by their bytes.
 #[tactic(auto, unfolding(crate::specs::Fields::ext_at, crate::specs::Fields::kept))]
 fn ext_from<'a>(alloc: Global, seen: &mut Seen, bytes: &'a [u8]) -> Result<(ExtRow, &'a [u8]), Stop>
-    ensures gives { (before : List Ext)
+    ensures gives { (before : List External)
         → Holds seen.old (map ext_bytes before)
         → Gives (λ x. (ext x.0, x.1.now)) result (ext_at before bytes.now) }
-    ensures seen { (before : List Ext)
+    ensures seen { (before : List External)
         → Holds seen.old (map ext_bytes before)
         → IfOk result (λ x. Holds seen.new (map ext_bytes before ++ ext_bytes (ext x.0) ∷ [])) }
 {

@@ -1,7 +1,6 @@
 -- The external calls of a file: no row occurs twice, and each keeps the rules of images.
 use Rattle.std.proofs.Common.{◌≡◌, ◌≢◌, ℕ, Bool, true, false, cond, ◌&&◌, ◌==◌, List, [], ◌∷◌, ◌++◌, map, refl, sym, ap, ◌∙◌, subst, bytes_eq, true≢false}
 use Rattle.std.specs.List.{AllByRecursion}
-use Rattle.std.proofs.lemmas.List.{map-append}
 use Rattle.std.proofs.Math.Dec.{T, eqb_refl}
 use Rattle.std.proofs.lemmas.Slice.Eq.{bytes_eq-Decides}
 use Rattle.std.proofs.lemmas.Bool.{or_parts}
@@ -11,9 +10,8 @@ use Rattle.bs_words.specs.declared.types.Ret.{Ret}
 use Rattle.cmm_tree.specs.Tree.{FileTree}
 use Rattle.image_form.proofs.Differ.{AllDiffer}
 use Rattle.image_form.specs.Image.{IsExt, comp_byte, ret_byte}
-use Rattle.image_form.specs.Tables.{Ext}
 use Rattle.layout_rules.specs.Conditions.{IsExternalLaid}
-use Rattle.layout_rules.specs.Externals.{ext_of, same_row, is_among, firsts_behind, externals, all_calls}
+use Rattle.layout_rules.specs.Externals.{same_row, is_among, firsts_behind, externals, all_calls}
 
 -- the firsts of two lists, one after the other
 pub firsts_append : (before xs ys : List External) → firsts_behind before (xs ++ ys) ≡ firsts_behind (firsts_behind before xs) ys
@@ -38,17 +36,17 @@ all_three false b c e f g = cc
 all_three true false c e f g = cc
 all_three true true false e f g = cc
 
-row_same : (a b : External) → ext_of a ≡ ext_of b → same_row a b ≡ true
+row_same : (a b : External) → a ≡ b → same_row a b ≡ true
 row_same a b e =
-    let names : a.name ≡ b.name = ap (λ (x : Ext). x.name) e in
-    let params : a.params ≡ b.params = ap (λ (x : Ext). x.params) e in
-    let results : a.result ≡ b.result = ap (λ (x : Ext). x.result) e in
+    let names : a.name ≡ b.name = ap (λ (x : External). x.name) e in
+    let params : a.params ≡ b.params = ap (λ (x : External). x.params) e in
+    let results : a.result ≡ b.result = ap (λ (x : External). x.result) e in
     all_three (bytes_eq a.name b.name) (bytes_eq (map comp_byte a.params) (map comp_byte b.params)) (ret_byte a.result == ret_byte b.result)
     (subst (λ n. bytes_eq a.name n ≡ true) names (bytes_same a.name))
     (subst (λ (ps : List Comp). bytes_eq (map comp_byte a.params) (map comp_byte ps) ≡ true) params (bytes_same (map comp_byte a.params)))
     (subst (λ (r : Ret). (ret_byte a.result == ret_byte r) ≡ true) results (number_same (ret_byte a.result)))
 
-others : (rows : List External) (e : External) → is_among rows e ≡ false → AllByRecursion (λ x. x ≢ ext_of e) (map ext_of rows)
+others : (rows : List External) (e : External) → is_among rows e ≡ false → AllByRecursion (λ x. x ≢ e) rows
 others [] e none = tt
 others (x ∷ rows) e none =
     let both = or_parts (same_row x e) (is_among rows e) none in
@@ -62,23 +60,22 @@ differ_then : {A : Type 0} (xs : List A) (y : A) → AllDiffer xs → AllByRecur
 differ_then [] y differ none = (tt, tt)
 differ_then (x ∷ xs) y differ none = (all_then (λ z. x ≢ z) xs y differ.0 none.0, differ_then xs y differ.1 none.1)
 
-one_more : (known : Bool) (before : List External) (e : External) → is_among before e ≡ known → AllDiffer (map ext_of before) →
-    AllDiffer (map ext_of (cond known before (before ++ e ∷ [])))
+one_more : (known : Bool) (before : List External) (e : External) → is_among before e ≡ known → AllDiffer before →
+    AllDiffer (cond known before (before ++ e ∷ []))
 one_more true before e is differ = differ
-one_more false before e is differ =
-    subst AllDiffer (sym (map-append ext_of before (e ∷ []))) (differ_then (map ext_of before) (ext_of e) differ (others before e is))
+one_more false before e is differ = differ_then before e differ (others before e is)
 
-firsts_differ : (before es : List External) → AllDiffer (map ext_of before) → AllDiffer (map ext_of (firsts_behind before es))
+firsts_differ : (before es : List External) → AllDiffer before → AllDiffer (firsts_behind before es)
 firsts_differ before [] differ = differ
 firsts_differ before (e ∷ es) differ =
     firsts_differ (cond (is_among before e) before (before ++ e ∷ [])) es (one_more (is_among before e) before e refl differ)
 
-pub rows_differ : (file : FileTree) → AllDiffer (map ext_of (externals file))
+pub rows_differ : (file : FileTree) → AllDiffer (externals file)
 rows_differ file = firsts_differ [] (all_calls file) tt
 
 -- ---- the rules of each
 
-pub each_ext : (es : List External) → AllByRecursion IsExternalLaid es → AllByRecursion IsExt (map ext_of es)
+pub each_ext : (es : List External) → AllByRecursion IsExternalLaid es → AllByRecursion IsExt es
 each_ext [] laid = tt
 each_ext (e ∷ es) laid =
     (record { name = laid.0.name; few = laid.0.few; params = laid.0.params; result = laid.0.result }, each_ext es laid.1)

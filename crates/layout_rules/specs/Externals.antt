@@ -7,7 +7,6 @@ use Rattle.correctness.specs.Known.{row_of_call}
 use Rattle.cmm_tree.specs.Tree.{Expression, Integer, Pointer, Symbol, Name, Nothing, Float, Let, Assign, Operator, Load, Store, Alloc, App, Extcall, Checkbound, Raise, Seq, If, Switch, Catch, Exit, Try, Expressions, NoMore, More, Bindings, NoBinding, Bind, Cases, NoCase, Choose, Handlers, NoHandler, Handle, FunctionTree, FileTree, functions}
 use Rattle.cmm_types.specs.Types.{Scoped, with_parameters, with_bindings}
 use Rattle.image_form.specs.Image.{comp_byte, ret_byte}
-use Rattle.image_form.specs.Tables.{Ext}
 
 -- the rows of all external calls in an expression, in the order of the text, with these names in scope
 abbrev mutual
@@ -69,9 +68,6 @@ abbrev pub all_calls : FileTree → List External
 all_calls file = flat_map calls_in_function (functions file)
 
 -- ---- rows of an image
-
-abbrev pub ext_of : External → Ext
-ext_of e = record { name = e.name; params = e.params; result = e.result }
 
 -- two calls are of one row where their names, their arguments and their results are the same
 abbrev pub same_row : External → External → Bool

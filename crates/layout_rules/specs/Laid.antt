@@ -13,7 +13,7 @@ use Rattle.cmm_types.specs.Types.{body_type, result_of}
 use Rattle.image_form.specs.Image.{stub, stub_words}
 use Rattle.image_form.specs.Tables.{Tables, Func, Sym, Desc}
 use Rattle.layout_rules.specs.declared.form.Form.{Form}
-use Rattle.layout_rules.specs.Externals.{externals, ext_of, number_of}
+use Rattle.layout_rules.specs.Externals.{externals, number_of}
 use Rattle.layout_rules.specs.Forms.{words_of, total_words, place_of, AreForms}
 use Rattle.layout_rules.specs.Words.{Named, words_from}
 use Rattle.rv_pieces.specs.Known.{Descr}
@@ -131,7 +131,7 @@ laid_out file ps forms =
       bytes = data_of file entries;
       syms = map sym_of (symbols_of file);
       roots = map (λ address. address - data_start) (root_cells file);
-      extcs = map ext_of (externals file);
+      extcs = externals file;
       descs = descs_from stub_words ps forms;
     }
 

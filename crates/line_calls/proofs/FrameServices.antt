@@ -1,6 +1,7 @@
 -- The service of a frame call: the blocks move, and then the call gives a value or raises one.
 use Rattle.std.proofs.Common.{◌≡◌, ℕ, zero, suc, ◌+◌, ◌-◌, ◌*◌, ◌/◌, ◌%◌, ◌^◌, ◌<◌, ◌≤◌, ◌⊎◌, inl, inr, true, false, List, [], ◌∷◌, ◌++◌, length, reverse, Some, None, slice_get, slice_index, refl, ap, arith, ◌∙◌, sym, subst, ⊎_elim, get_or-set_same}
 use Rattle.std.proofs.lemmas.Bool.{and_from, cases_lt, cond-true, eq-eqb, le-leb}
+use Rattle.bs_words.specs.External.{External}
 use Rattle.bs_words.specs.Fits.{data_start}
 use Rattle.bs_words.specs.Memory.{Memory, heap_need}
 use Rattle.bs_words.specs.Observed.{Made}
@@ -11,7 +12,7 @@ use Rattle.bs_words.specs.declared.types.Ret.TheVariants as ret
 use Rattle.bs_words.specs.declared.values.Value.TheVariants.{Word}
 use Rattle.cmm_meaning.specs.State.{Gave, Threw}
 use Rattle.guarded_machine.specs.Guarded.{guarded_after}
-use Rattle.image_form.specs.Tables.{Desc, Ext, Tables}
+use Rattle.image_form.specs.Tables.{Desc, Tables}
 use Rattle.lin_ir.specs.Meaning.{Locations, are_vals, clear, poisoned}
 use Rattle.mach_ir.specs.Acts.{Around, is_complete}
 use Rattle.mach_ir.specs.Meaning.{Temporaries}
@@ -51,7 +52,7 @@ answer_is (ret.Comp t) x registers = refl
 
 -- ---- what the machine does
 
-module _ (s : Fixed) (w : View) (code : IsCode s w.place Ecall) (service : slice_index w.registers 7 ≡ 4) (e : Ext)
+module _ (s : Fixed) (w : View) (code : IsCode s w.place Ecall) (service : slice_index w.registers 7 ≡ 4) (e : External)
     (there : slice_get s.image.extcs (slice_index w.registers 5) ≡ Some e) (call : Made)
     (shows : (a : Machine) → Stands s a w → call_made e a.hart ≡ call) where
   pub to_collected : (a : Machine) → Stands s a w → (j k : ℕ) → j ≡ 1 + k →

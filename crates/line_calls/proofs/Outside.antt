@@ -1,6 +1,7 @@
 -- The service of an external call, and where the machine is after it.
 use Rattle.std.proofs.Common.{◌≡◌, ◌≢◌, ℕ, ◌+◌, ◌^◌, ◌<◌, ◌≤◌, inl, inr, Bool, true, false, cond, List, [], ◌∷◌, ◌++◌, Some, None, slice_get, slice_index, refl, ap, arith, ◌∙◌, sym, subst, get_or-set_same}
 use Rattle.std.specs.List.{AllByRecursion}
+use Rattle.bs_words.specs.External.{External}
 use Rattle.bs_words.specs.Memory.{Memory}
 use Rattle.bs_words.specs.Observed.{Made}
 use Rattle.bs_words.specs.declared.types.Loc.{Loc}
@@ -11,7 +12,7 @@ use Rattle.bs_words.specs.declared.values.Value.{Value}
 use Rattle.bs_words.specs.declared.values.Value.TheVariants.{Word}
 use Rattle.cmm_meaning.specs.State.{Gave}
 use Rattle.guarded_machine.specs.Guarded.{guarded_after}
-use Rattle.image_form.specs.Tables.{Ext, Tables}
+use Rattle.image_form.specs.Tables.{Tables}
 use Rattle.lin_ir.specs.Meaning.{Locations, clear}
 use Rattle.mach_ir.specs.Acts.{Around}
 use Rattle.mach_ir.specs.Meaning.{Temporaries, is_temporary}
@@ -182,7 +183,7 @@ within_behind s laid v young held a c within none place registers answers calls 
 
 -- ---- the service that moves no block
 
-module _ (s : Fixed) (w : View) (code : IsCode s w.place Ecall) (service : slice_index w.registers 7 ≡ 2) (e : Ext)
+module _ (s : Fixed) (w : View) (code : IsCode s w.place Ecall) (service : slice_index w.registers 7 ≡ 2) (e : External)
     (there : slice_get s.image.extcs (slice_index w.registers 5) ≡ Some e) (call : Made)
     (shows : (a : Machine) → Stands s a w → call_made e a.hart ≡ call) where
   to_answered : (a : Machine) → Stands s a w → (j k : ℕ) → j ≡ 1 + k →

@@ -4,6 +4,7 @@ use Rattle.std.specs.Prelude.{option_map}
 use Rattle.std.specs.List.{AllByRecursion, flat_map}
 use Rattle.std.proofs.lemmas.Bool.{eq-eqb, ne_eqb, cond-true, cond-false}
 use Rattle.std.proofs.lemmas.Option.{slice_get_within}
+use Rattle.bs_words.specs.External.{External}
 use Rattle.bs_words.specs.Fits.{data_start, fits, type_of_comp}
 use Rattle.bs_words.specs.declared.types.Comp.{Comp}
 use Rattle.bs_words.specs.declared.types.Comp.TheVariants as comp
@@ -13,7 +14,7 @@ use Rattle.bs_words.specs.declared.values.Obs.TheVariants as obs
 use Rattle.bs_words.specs.declared.values.Value.{Value}
 use Rattle.bs_words.specs.declared.values.Value.TheVariants.{Word, Block, Function}
 use Rattle.image_form.specs.Image.{IsArgument, ext_bytes, le32, table_bytes}
-use Rattle.image_form.specs.Tables.{Ext, Tables}
+use Rattle.image_form.specs.Tables.{Tables}
 use Rattle.image_form.proofs.Lengths.{Nonempty, ext_nonempty}
 use Rattle.lin_ir.specs.Formed.{comps, places_of}
 use Rattle.lin_ir.specs.Meaning.{Locations, values}
@@ -77,7 +78,7 @@ rows_many : {A : Type 0} (row : A → List ℕ) (rows : List A) → Nonempty row
 rows_many row [] some = omega arith
 rows_many row (x ∷ rows) some = omega (arith, length-append (row x) (flat_map row rows), some x, rows_many row rows some)
 
-pub few_externals : (s : Fixed) (k : ℕ) (e : Ext) → slice_get s.image.extcs k ≡ Some e → k < 2 ^ 27
+pub few_externals : (s : Fixed) (k : ℕ) (e : External) → slice_get s.image.extcs k ≡ Some e → k < 2 ^ 27
 unfolding table_bytes
 few_externals s k e there =
     let short = s.functions.tables.extcs.short in

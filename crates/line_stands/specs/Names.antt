@@ -1,22 +1,22 @@
 -- What the names in a function's lines stand for.
 use Rattle.std.specs.Prelude.{◌≡◌, ℕ, ◌^◌, ◌<◌, ◌≤◌, List, [], length, Some, slice_get, Contains}
+use Rattle.bs_words.specs.External.{External}
 use Rattle.bs_words.specs.declared.values.Value.{Value}
 use Rattle.cmm_meaning.specs.Setting.{Setting}
 use Rattle.layout_rules.specs.Known.{IsExternalOf}
-use Rattle.image_form.specs.Tables.{Ext}
 use Rattle.layout_rules.specs.Laid.{address_of_place}
 use Rattle.layout_rules.specs.Words.{Named}
 use Rattle.lin_ir.specs.Formed.{labels_in}
 use Rattle.lin_ir.specs.Meaning.{after_label}
 use Rattle.lin_ir.specs.declared.lin.Lin.{Lin}
 use Rattle.mach_ir.specs.Acts.{row_of}
-use Rattle.mach_ir.specs.declared.op.External.{External}
+use Rattle.mach_ir.specs.declared.op.External as declared
 use Rattle.linear_machine.specs.Relation.{Laid, StandsFor}
 use Rattle.linear_machine.specs.View.{Fixed}
 
 -- an external call's row in the image
-pub record IsRowAt (s : Fixed) (row : External) (number : ℕ) : Type 0 where
-  pub ext : Ext
+pub record IsRowAt (s : Fixed) (row : declared.External) (number : ℕ) : Type 0 where
+  pub ext : External
   pub there : slice_get s.image.extcs number ≡ Some ext
   pub name : ext.name ≡ row.name
   pub params : ext.params ≡ row.params
@@ -33,4 +33,4 @@ pub record NamesStand (s : Fixed) (laid : Laid) (n : Named) (m : Lin) (c : Setti
   -- a function, or static data: no block, so that it is known among none
   pub symbol : (name : List ℕ) (v : Value) → c.symbol name ≡ Some v →
       StandsFor s [] (n.symbol name) v × (n.symbol name < 2 ^ 30)
-  pub external : (row : External) → IsExternalOf m row → IsRowAt s row (n.external (row_of row))
+  pub external : (row : declared.External) → IsExternalOf m row → IsRowAt s row (n.external (row_of row))

@@ -13,7 +13,7 @@ use Rattle.cmm_meaning.specs.Run.{given_back}
 use Rattle.cmm_meaning.specs.State.{Doing, Gave, Threw}
 use Rattle.emit_rules.specs.Calls.{external_service}
 use Rattle.guarded_machine.specs.Guarded.{guarded_after}
-use Rattle.image_form.specs.Tables.{Tables, Ext}
+use Rattle.image_form.specs.Tables.{Tables}
 use Rattle.rv_isa.specs.declared.instr.Instr.TheVariants.{Ecall}
 use Rattle.rv_isa.specs.Registers.{t0, t2}
 use Rattle.rv_machine.specs.Services.{Machine, Going, call_made}
@@ -76,7 +76,7 @@ pub record GoesOn (s : Fixed) (a : Machine) (calls : List Made) (answers : List 
 pub record IsAsking (s : Fixed) (needs : Needs) (row : External) (frame : Bool)
     (arguments : List Value) (memory : Memory) (Goes : Doing → View → Type 0) (w : View) : Type 0
   where
-    pub ext : Ext
+    pub ext : External
     pub there : slice_get s.image.extcs (slice_index w.registers t0) ≡ Some ext
     pub name : ext.name ≡ row.name
     pub params : ext.params ≡ row.params

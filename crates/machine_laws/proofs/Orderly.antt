@@ -1,9 +1,10 @@
 -- The machine of images is orderly, and its run is that of its steps.
 use Rattle.std.proofs.Common.{◌≡◌, ◌∙◌, ◌⊎◌, inl, inr, ℕ, zero, suc, Bool, true, false, cond, List, [], ◌∷◌, ◌++◌, Option, Some, None, refl, sym, ap, append-nil}
+use Rattle.bs_words.specs.External.{External}
 use Rattle.bs_words.specs.Observed.{Made}
 use Rattle.bs_words.specs.declared.types.Ret.{Ret}
 use Rattle.bs_words.specs.declared.types.Ret.TheVariants as returns
-use Rattle.rv_machine.specs.Known.{Tables, Func, Ext}
+use Rattle.rv_machine.specs.Known.{Tables, Func}
 use Rattle.rv_machine.specs.Hart.{Hart, Placed, Next, Retired, Service, hart}
 use Rattle.rv_machine.specs.Hart as hart_next
 use Rattle.rv_machine.specs.FrameCalls.{has_trap_frame}
@@ -26,7 +27,7 @@ answered_calls returns.Unit call answers m = one_more m.calls call
 answered_calls (returns.Comp c) call [] m = no_more m.calls
 answered_calls (returns.Comp c) call (a ∷ answers) m = one_more m.calls call
 
-external_calls : (o : Option Ext) (m : Machine) → IsFrontOf m.calls (seen (external o m)).calls
+external_calls : (o : Option External) (m : Machine) → IsFrontOf m.calls (seen (external o m)).calls
 external_calls None m = no_more m.calls
 external_calls (Some e) m = answered_calls e.result _ m.answers m
 
@@ -57,7 +58,7 @@ frame_calls plan result call [] m = no_more m.calls
 frame_calls plan result call (first ∷ []) m = no_more m.calls
 frame_calls plan result call (first ∷ value ∷ answers) m = collected_calls result call first value answers _ m
 
-frame_call_calls : (plan : List Placed → List ℕ) (o : Option Ext) (m : Machine) → IsFrontOf m.calls (seen (frame_call plan o m)).calls
+frame_call_calls : (plan : List Placed → List ℕ) (o : Option External) (m : Machine) → IsFrontOf m.calls (seen (frame_call plan o m)).calls
 frame_call_calls plan None m = no_more m.calls
 frame_call_calls plan (Some e) m = frame_calls plan e.result _ m.answers m
 

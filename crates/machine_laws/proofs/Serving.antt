@@ -3,10 +3,10 @@ use Rattle.std.proofs.Common.{◌≡◌, ◌≢◌, ℕ, zero, suc, ◌+◌, ◌
 use Rattle.std.specs.Prelude.{slice_index}
 use Rattle.std.specs.List.{AllByRecursion}
 use Rattle.std.proofs.lemmas.Bool.{and_parts, leb-true}
+use Rattle.bs_words.specs.External.{External}
 use Rattle.bs_words.specs.Observed.{Made}
 use Rattle.bs_words.specs.declared.types.Ret.{Ret}
 use Rattle.bs_words.specs.declared.types.Ret.TheVariants as returns
-use Rattle.rv_machine.specs.Known.{Ext}
 use Rattle.rv_isa.specs.Registers.{a0, s1, s10, sp}
 use Rattle.rv_machine.specs.Allocation.{after_request, allocated, blocks_at_request, bytes_asked, is_request, young_from}
 use Rattle.rv_machine.specs.FrameCalls.{collected, has_trap_frame, raised, with_answer}
@@ -160,7 +160,7 @@ answered_sound (returns.Comp c) call (a ∷ answers) m s words =
     called_sound m.hart (with_register a0 a (filled destroyed m.hart.registers)) answers call m s
     (with_registers (filled destroyed m.hart.registers) a0 a cleared (words 0)) (λ i. words (suc i))
 
-external_sound : (o : Option Ext) (m : Machine) → IsSoundMachine m → IsSoundNow (external o m)
+external_sound : (o : Option External) (m : Machine) → IsSoundMachine m → IsSoundNow (external o m)
 external_sound None m s = tt
 external_sound (Some e) m s = answered_sound e.result _ m.answers m s.hart s.answers
 
@@ -231,7 +231,7 @@ frame_answered_sound plan result call (first ∷ []) m s words = tt
 frame_answered_sound plan result call (first ∷ value ∷ answers) m s words =
     collection_sound result call first value answers (collected plan m.hart) m (collected_sound plan m.hart s) (words 1) (λ i. words (suc (suc i)))
 
-frame_call_sound : (plan : List Placed → List ℕ) (o : Option Ext) (m : Machine) → IsSoundMachine m → IsSoundNow (frame_call plan o m)
+frame_call_sound : (plan : List Placed → List ℕ) (o : Option External) (m : Machine) → IsSoundMachine m → IsSoundNow (frame_call plan o m)
 frame_call_sound plan None m s = tt
 frame_call_sound plan (Some e) m s = frame_answered_sound plan e.result _ m.answers m s.hart s.answers
 

@@ -1,11 +1,11 @@
 -- Each instruction that a run goes on after has retired, and no more.
 use Rattle.std.proofs.Common.{◌≡◌, ℕ, zero, suc, ◌+◌, ◌-◌, ◌%◌, ◌^◌, ◌<◌, ◌≤◌, Bool, true, false, cond, List, [], ◌∷◌, Option, Some, None, refl, ap, sym, ◌∙◌, subst, arith, ◌⊎◌, inl, inr, ⊎_elim}
 use Rattle.std.specs.Prelude.{◌&&◌, ◌==◌, nat_lt, nat_le}
+use Rattle.bs_words.specs.External.{External}
 use Rattle.bs_words.specs.Word.{add_word}
 use Rattle.bs_words.specs.Observed.{Made}
 use Rattle.bs_words.specs.declared.types.Ret.{Ret}
 use Rattle.bs_words.specs.declared.types.Ret.TheVariants as returns
-use Rattle.image_form.specs.Tables.{Ext}
 use Rattle.rv_isa.specs.Decoding.{decoded}
 use Rattle.rv_isa.specs.declared.instr.Instr.{Instr}
 use Rattle.rv_isa.specs.declared.instr.Instr.TheVariants.{Lui, Auipc, Jal, Jalr, Branch, Load, Store, OpImm, Shift, Op, Addiw, ShiftWord, OpWord, Ecall}
@@ -153,7 +153,7 @@ answered-retires returns.Unit call answers m = (refl, omega arith)
 answered-retires (returns.Comp c) call [] m = tt
 answered-retires (returns.Comp c) call (a ∷ answers) m = (refl, omega arith)
 
-external-retires : (e : Option Ext) (m : Machine) → Retires m.hart.retired m.hart.services (external e m)
+external-retires : (e : Option External) (m : Machine) → Retires m.hart.retired m.hart.services (external e m)
 external-retires None m = tt
 external-retires (Some e) m = answered-retires e.result (call_made e m.hart) m.answers m
 
@@ -177,7 +177,7 @@ frame-retires plan ret call (first ∷ []) m = tt
 frame-retires plan ret call (first ∷ value ∷ answers) m =
     collection-retires m.hart.retired m.hart.services ret call first value answers (collected plan m.hart) m (collected-moves plan m.hart)
 
-call-retires : (plan : List Placed → List ℕ) (e : Option Ext) (m : Machine) → Retires m.hart.retired m.hart.services (frame_call plan e m)
+call-retires : (plan : List Placed → List ℕ) (e : Option External) (m : Machine) → Retires m.hart.retired m.hart.services (frame_call plan e m)
 call-retires plan None m = tt
 call-retires plan (Some e) m = frame-retires plan e.result (call_made e m.hart) m.answers m
 

@@ -1,10 +1,10 @@
 -- A run, instruction by instruction, and the text that it has end.
 use Rattle.std.proofs.Common.{◌≡◌, ℕ, zero, suc, ◌+◌, ◌-◌, ◌<◌, ◌≤◌, Bool, true, false, cond, List, [], ◌∷◌, ◌++◌, Option, Some, None, refl, ap, arith, ◌∙◌, sym, append_assoc, append-nil}
 use Rattle.std.specs.Prelude.{codes}
+use Rattle.bs_words.specs.External.{External}
 use Rattle.bs_words.specs.Observed.{Made}
 use Rattle.bs_words.specs.declared.types.Ret.{Ret}
 use Rattle.bs_words.specs.declared.types.Ret.TheVariants as returns
-use Rattle.image_form.specs.Tables.{Ext}
 use Rattle.rv_machine.specs.Allocation.{allocated}
 use Rattle.rv_machine.specs.Relocation.{Serviced, Goes, NoHeap, Refused}
 use Rattle.rv_machine.specs.Hart.{Hart, Placed, Next, hart, register}
@@ -35,7 +35,7 @@ answered_behind returns.Unit call h result answers all cs = refl
 answered_behind (returns.Comp c) call h result [] all cs = over_behind cs (Asks call)
 answered_behind (returns.Comp c) call h result (a ∷ answers) all cs = refl
 
-external_behind : (e : Option Ext) (h : Hart) (result : Ret) (answers : List ℕ) (cs : List Made)
+external_behind : (e : Option External) (h : Hart) (result : Ret) (answers : List ℕ) (cs : List Made)
     → external e (state h result answers cs) ≡ behind cs (external e (state h result answers []))
 external_behind None h result answers cs = over_behind cs _
 external_behind (Some e) h result answers cs = answered_behind e.result (call_made e h) h result answers answers cs
@@ -68,7 +68,7 @@ frame_behind plan ret call [] h result all cs = over_behind cs (Asks call)
 frame_behind plan ret call (first ∷ []) h result all cs = over_behind cs (Asks call)
 frame_behind plan ret call (first ∷ value ∷ left) h result all cs = collection_behind ret call first value left (collected plan h) h result all cs
 
-call_behind : (plan : List Placed → List ℕ) (e : Option Ext) (h : Hart) (result : Ret) (answers : List ℕ) (cs : List Made)
+call_behind : (plan : List Placed → List ℕ) (e : Option External) (h : Hart) (result : Ret) (answers : List ℕ) (cs : List Made)
     → frame_call plan e (state h result answers cs) ≡ behind cs (frame_call plan e (state h result answers []))
 call_behind plan None h result answers cs = over_behind cs _
 call_behind plan (Some e) h result answers cs = frame_behind plan e.result (call_made e h) answers h result answers cs

@@ -1,9 +1,10 @@
 -- How a run of the machine ends, and what is reported of it.
 use Rattle.std.specs.Prelude.{◌≡◌, ℕ, ◌+◌, ◌==◌, Bool, cond, List, [], ◌++◌, Option, Some, None, Result, IfOk, drop, find, codes}
+use Rattle.bs_words.specs.External.{External}
 use Rattle.bs_words.specs.Observed.{Made}
 use Rattle.bs_words.specs.declared.types.Ret.{Ret}
 use Rattle.bs_words.specs.declared.types.Ret.TheVariants.{Unit}
-use Rattle.image_form.specs.Tables.{Ext, Func}
+use Rattle.image_form.specs.Tables.{Func}
 use Rattle.rv_machine.specs.Relocation.{Serviced, Goes, NoHeap, Refused}
 use Rattle.rv_machine.specs.Hart.{Hart, hart}
 use Rattle.rv_machine.specs.Memory.{code_start}
@@ -64,7 +65,7 @@ service_now schedule h result answers taken =
 abbrev pub external_now : Hart → Ret → List ℕ → ℕ → Now
 external_now h result answers taken = external (external_at h) (before h result answers taken)
 
-abbrev pub answered_now : Ext → Hart → Ret → List ℕ → ℕ → Now
+abbrev pub answered_now : External → Hart → Ret → List ℕ → ℕ → Now
 answered_now row h result answers taken =
     answered row.result (call_made row h) (drop taken answers) (before h result answers taken)
 
@@ -73,7 +74,7 @@ frame_call_now schedule h result answers taken =
     frame_call ((schedule_of schedule).plan h.services) (external_at h)
     (before h result answers taken)
 
-abbrev pub frame_answered_now : Schedule → Ext → Hart → Ret → List ℕ → ℕ → Now
+abbrev pub frame_answered_now : Schedule → External → Hart → Ret → List ℕ → ℕ → Now
 frame_answered_now schedule row h result answers taken =
     frame_answered ((schedule_of schedule).plan h.services) row.result (call_made row h)
     (drop taken answers) (before h result answers taken)

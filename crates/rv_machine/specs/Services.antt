@@ -1,12 +1,12 @@
 -- What an ECALL asks for: t2 says which service.
 use Rattle.std.specs.Prelude.{ℕ, zero, suc, cond, List, [], ◌∷◌, ◌++◌, map, Option, Some, None, slice_get}
+use Rattle.bs_words.specs.External.{External}
 use Rattle.bs_words.specs.Observed.{Made}
 use Rattle.bs_words.specs.declared.types.Comp.{Comp}
 use Rattle.bs_words.specs.declared.types.Comp.TheVariants.{Val}
 use Rattle.bs_words.specs.declared.types.Ret.{Ret}
 use Rattle.bs_words.specs.declared.types.Ret.TheVariants as returns
 use Rattle.bs_words.specs.declared.values.Obs.{Obs}
-use Rattle.image_form.specs.Tables.{Ext}
 use Rattle.rv_isa.specs.Registers.{a0, destroyed_by_external, number, t0, t2}
 use Rattle.rv_machine.specs.Allocation.{allocated}
 use Rattle.rv_machine.specs.FrameCalls.{collected, has_trap_frame, raised, with_answer}
@@ -56,7 +56,7 @@ abbrev pub arguments_from : ℕ → List Comp → Hart → List Obs
 arguments_from r [] h = []
 arguments_from r (c ∷ cs) h = observed h c (register h r) ∷ arguments_from (suc r) cs h
 
-abbrev pub call_made : Ext → Hart → Made
+abbrev pub call_made : External → Hart → Made
 call_made e h = record { name = e.name; shown = arguments_from a0 e.params h }
 
 abbrev pub filled : List ℕ → List ℕ → List ℕ
@@ -84,7 +84,7 @@ answered (returns.Comp c) call [] m = Over m.calls (Asks call)
 answered (returns.Comp c) call (a ∷ answers) m =
     called call (returned_with (with_register a0 a (filled destroyed m.hart.registers)) m.hart) answers m
 
-abbrev pub external : Option Ext → Machine → Now
+abbrev pub external : Option External → Machine → Now
 external None m = Over m.calls (Stopped BadService)
 external (Some e) m = answered e.result (call_made e m.hart) m.answers m
 
@@ -123,13 +123,13 @@ frame_answered plan result call (first ∷ []) m = Over m.calls (Asks call)
 frame_answered plan result call (first ∷ value ∷ answers) m =
     after_collection result call first value answers (collected plan m.hart) m
 
-abbrev pub frame_call : (List Placed → List ℕ) → Option Ext → Machine → Now
+abbrev pub frame_call : (List Placed → List ℕ) → Option External → Machine → Now
 frame_call plan None m = Over m.calls (Stopped BadService)
 frame_call plan (Some e) m = frame_answered plan e.result (call_made e m.hart) m.answers m
 
 -- ---- by the number in t2; t0 has the number of the external call, or the bytes asked for
 
-abbrev pub external_at : Hart → Option Ext
+abbrev pub external_at : Hart → Option External
 external_at h = slice_get h.image.extcs (register h t0)
 
 -- Plans say, for the number of a service that moves the blocks and the blocks that there then are, where

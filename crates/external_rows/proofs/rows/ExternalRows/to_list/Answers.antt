@@ -1,6 +1,5 @@
 use Rattle.std.proofs.Common.{map, ap, sym, ◌∙◌}
 use Rattle.image_form.specs.Tables.{ext}
-use Rattle.layout_rules.specs.Externals.{ext_of}
 use Rattle.external_rows.proofs.Lookups.{next_row, all_rows}
 use Rattle.external_rows.proofs.rows.ExternalRows.to_list.Goals as goal
 
@@ -10,4 +9,4 @@ loop-index-preserved c = next_row c.self.inside.rows.entries c.loop-index.index 
 pub returns : goal.returns
 returns c =
     ap (map ext) c.from_vec.ensures
-    ∙ (c.loop-index.invariant ∙ (all_rows c.self.inside.rows.entries c.loop-index.index c.len-index-end.result c.len-index-end.ensures.len c.loop-index-test.false ∙ ap (map ext_of) c.self.view_is))
+    ∙ (c.loop-index.invariant ∙ (all_rows c.self.inside.rows.entries c.loop-index.index c.len-index-end.result c.len-index-end.ensures.len c.loop-index-test.false ∙ c.self.view_is))
