@@ -1,7 +1,7 @@
 //! What selection, passes and the layout make of texts, functions and pieces, for the rows of tables.
 //!
 //! `Code` has the names of the tables, and what their rows are about. The wanted lines of each table were made apart from
-//! the program that reads them, `rows_passes`.
+//! the program that reads them, `rows_commands`.
 #![tactic(auto)]
 
 mod code;

@@ -1,107 +1,29 @@
 //! What the tables are about.
+use crate::answers::Answers;
 use anyhow::Result;
-use rows_answers::{devices, faults, limits, listings};
-use rows_base::Layer;
-use rows_compiled::{compiled, generated, jobs, plans};
-use rows_lines::{Table, Top};
-use rows_top::evaluated;
-use std::thread::Threads;
+use rows_code::Code;
 
-/// What a table is about, which says how its rows are read and what is shown of the answers. Where no module of
-/// `rows_answers`, `rows_compiled` or `rows_top` is named, a row has the form of `rows_lines`, and all that `cmmc`
-/// says to it is shown.
+/// What a table is about, which says how its rows are read and what is shown of them.
 #[derive(Clone, Copy)]
 pub(crate) enum Subject {
-    /// What a layer below the compiler says (`rows_base`).
-    Base(Layer),
-    /// How operations and structures of Mach and Linear print (`rows_stages`).
-    Stages,
-    /// Words that are no command, values in and out of their grammars and limits, the commands' answers, and reads and
-    /// writes that fail in turn. The answers were counted by hand.
-    Commands,
-    /// The command `check`: its outcomes, what it needs, and each way in which it has none. The answers were counted by
-    /// hand.
-    Checks,
-    /// Faults of texts and their places (`faults`).
-    Faults,
-    /// Devices of which one read or one write goes wrong (`devices`).
-    Devices,
-    /// Texts at the ends of the limits, and just past them (`limits`).
-    Limits,
-    /// What `cmmc list` prints of texts (`listings`).
-    Listings,
-    /// Runs of compiled texts under plans that a hand made (`plans`).
-    Plans,
-    /// Texts of the whole language (`compiled`).
-    Compiled,
-    /// Texts with every operator, chunk, comparison and form of operands, with external calls and frame calls that
-    /// answer, and with every form of control, each compiled and run at the edges of words, under several ways to move
-    /// blocks. The answers are what an evaluator in another language makes of the meaning of these texts.
-    Operators,
-    /// How `cmmc run` runs images that were put together by hand. They make frame calls, external calls and allocation
-    /// services where blocks move, where a service refuses what it finds, and where the run ends. Each is there in both
-    /// versions of images. The outcomes are those of a second machine, written from the rules of the machine alone.
-    ///
-    /// After them come 71 images of one function each, whose words are those that `rows_passes` wants of the last 71 Linear
-    /// functions there: each operation, test and chunk of Linear. What they return, raise, call or ask was counted by
-    /// hand.
-    Images,
-    /// Texts of the generator, under every way in which the mover may ask, and by their meaning (`generated`).
-    Generated,
-    /// That a compile by several jobs shares functions among threads (`jobs`).
-    Held,
-    /// That an image does not show by how many jobs it was made, and that all functions are heard of (`jobs`).
-    Shared,
-    /// Runs of texts of the whole language, under frames and addresses that a hand made (`evaluated`).
-    Evaluated,
+    /// What `cmmc` or a layer below it answers to each row.
+    Answers(Answers),
+    /// What selection, passes and the layout make of texts, functions and pieces (`rows_code`).
+    Code(Code),
+    /// How functions of Mach and of Linear that are made by hand run, by a second reading of what these languages mean
+    /// (`rows_meanings`).
+    Meanings,
 }
 
 impl Subject {
     /// The subject with this name.
     pub(crate) fn of(name: &str) -> Result<Subject> {
-        match name {
-            "stages" => Ok(Subject::Stages),
-            "commands" => Ok(Subject::Commands),
-            "checks" => Ok(Subject::Checks),
-            "faults" => Ok(Subject::Faults),
-            "devices" => Ok(Subject::Devices),
-            "limits" => Ok(Subject::Limits),
-            "listings" => Ok(Subject::Listings),
-            "plans" => Ok(Subject::Plans),
-            "compiled" => Ok(Subject::Compiled),
-            "operators" => Ok(Subject::Operators),
-            "images" => Ok(Subject::Images),
-            "generated" => Ok(Subject::Generated),
-            "held" => Ok(Subject::Held),
-            "shared" => Ok(Subject::Shared),
-            "evaluated" => Ok(Subject::Evaluated),
-            _ => Ok(Subject::Base(Layer::of(name)?)),
+        if name == "meanings" {
+            return Ok(Subject::Meanings);
         }
-    }
-
-    /// What is shown of a row. `image` has the bytes of the last image that a row of `rows_base` gave.
-    pub(crate) fn said_to<R: Threads + Sync, T: Top>(
-        self,
-        table: &mut Table<'_, R, T>,
-        image: &mut Vec<u8>,
-        row: &str,
-    ) -> Result<Vec<u8>> {
-        match self {
-            Subject::Base(layer) => layer.said_to(table.alloc(), image, row),
-            Subject::Stages => rows_stages::said_to(table.alloc(), row),
-            Subject::Commands | Subject::Checks | Subject::Operators | Subject::Images => {
-                Ok(table.said_to(row)?)
-            }
-            Subject::Faults => Ok(faults::said_to(table, row)?),
-            Subject::Devices => Ok(devices::said_to(table, row)?),
-            Subject::Limits => limits::said_to(table, row),
-            Subject::Listings => listings::said_to(table, row),
-            Subject::Plans => plans::said_to(table, row),
-            Subject::Compiled => compiled::said_to(table, row),
-            Subject::Generated => Ok(generated::said_to(table, row)?),
-            Subject::Held => Ok(jobs::held(table, row)?),
-            Subject::Shared => Ok(jobs::shared(table, row)?),
-            Subject::Evaluated => evaluated::said_to(table.alloc(), row),
+        match Code::of(name) {
+            Some(code) => Ok(Subject::Code(code)),
+            None => Ok(Subject::Answers(Answers::of(name)?)),
         }
     }
 }
