@@ -12,7 +12,7 @@ use crate::counted::count_functions;
 use crate::large_pieces::pieces_of;
 use anyhow::{Result, bail};
 use assemble::assemble;
-use bs_fault::{BuildError, large_text};
+use bs_fault::{BuildError, FrontError, large_text};
 use cmm_data::place_data;
 use cmm_front::front;
 use cmm_walks::Checked;
@@ -33,7 +33,8 @@ fn told<R: Threads + Sync>(
 ) -> Result<Vec<u8>, AllocError> {
     let checked = match front(alloc, TEXT.as_bytes()) {
         Ok(checked) => checked,
-        Err(_) => return b"no file\n".to_vec(alloc),
+        Err(FrontError::Fault(_)) => return b"no file\n".to_vec(alloc),
+        Err(FrontError::OutOfMemory) => return Err(AllocError),
     };
     let pieces = pieces_of(alloc, points, entries)?;
     if count_functions(checked.typed().file().items.as_slice()) != 1 {

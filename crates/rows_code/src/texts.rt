@@ -5,7 +5,8 @@
 //! writes the code of an expression from its beginning on and numbers registers from the tree
 //! alone.
 use crate::counted::count_functions;
-use anyhow::Result;
+use anyhow::{Result, bail};
+use bs_fault::FrontError;
 use cmm_front::front;
 use mach_ir::text;
 use selection::select;
@@ -30,7 +31,8 @@ fn selected(alloc: Global, source: &[u8]) -> Result<Vec<u8>> {
                 page.extend_from_slice(text(alloc, &mach)?.as_slice())?;
             }
         }
-        Err(_) => page.extend_from_slice(b"a fault\n")?,
+        Err(FrontError::Fault(_)) => page.extend_from_slice(b"a fault\n")?,
+        Err(FrontError::OutOfMemory) => bail!("out of memory"),
     }
     Ok(page)
 }

@@ -49,14 +49,6 @@ fn doings(alloc: Global, text: &str) -> Result<Vec<Doing>> {
     Ok(doings)
 }
 
-/// The text whose functions are called.
-fn text_of(alloc: Global, row: &str) -> Result<Checked> {
-    match front(alloc, row.as_bytes()) {
-        Ok(checked) => Ok(checked),
-        Err(_) => bail!("the text has a fault"),
-    }
-}
-
 /// The rows of the table so far: the text, once it is read, and the function that is put together.
 #[derive(Drop)]
 pub struct Meanings {
@@ -83,7 +75,7 @@ impl Meanings {
     pub fn said_to(&mut self, row: &str) -> Result<Vec<u8>> {
         let row = row.trim();
         if self.text.is_none() {
-            self.text = Some(text_of(self.alloc, row)?);
+            self.text = Some(front(self.alloc, row.as_bytes())?);
             return Ok(Vec::new(self.alloc));
         }
         match row.split_once(" ") {

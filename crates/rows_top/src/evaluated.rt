@@ -35,12 +35,11 @@ fn check_of(alloc: Global, words: &str) -> Result<CheckWords> {
     for word in words.split(' ') {
         all.push(String::from_str(alloc, word)?)?;
     }
-    match read_words(alloc, all.as_slice()) {
-        Ok(Command::Check(check)) => Ok(check),
-        Ok(Command::Compile { .. } | Command::Run(_) | Command::List(_) | Command::Soak { .. }) => {
+    match read_words(alloc, all.as_slice())? {
+        Command::Check(check) => Ok(check),
+        Command::Compile { .. } | Command::Run(_) | Command::List(_) | Command::Soak { .. } => {
             bail!("no check: {words}")
         }
-        Err(_) => bail!("no words of a check: {words}"),
     }
 }
 
@@ -60,10 +59,7 @@ fn told(alloc: Global, layout: &Layout, row: &str) -> Result<Vec<u8>> {
         bail!("no bar: {row}");
     };
     let check = check_of(alloc, words)?;
-    let checked = match front(alloc, text.as_bytes()) {
-        Ok(checked) => checked,
-        Err(_) => bail!("the text has a fault: {text}"),
-    };
+    let checked = front(alloc, text.as_bytes())?;
     let file = checked.typed().file();
     match call_of(alloc, file, &check) {
         Ok(call) => {
