@@ -27,6 +27,7 @@ pub(crate) struct Function {
 }
 
 impl Function {
+    /// A function without a name and without instructions.
     pub fn new(alloc: Global) -> Self {
         Function {
             name: String::new(alloc),
@@ -57,6 +58,7 @@ impl Function {
         Ok(function)
     }
 
+    /// Adds what the next frame point of a Linear function names.
     pub fn add_names(&mut self, alloc: Global, text: &str) -> Result<()> {
         let mut locs = Vec::new(alloc);
         for reg in registers(alloc, text)?.as_slice() {
