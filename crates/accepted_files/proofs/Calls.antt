@@ -23,8 +23,7 @@ use Rattle.cmm_types.specs.Types.{Scoped, type_of, with_bindings, with_parameter
 use Rattle.cmm_types.specs.declared.role.Role.{Role}
 use Rattle.cmm_types.specs.declared.role.Role.TheVariants as role
 use Rattle.cmm_types.proofs.Containing.{contains_head, contains_tail}
-use Rattle.image_form.specs.Image.{IsArgument, IsExtResult}
-use Rattle.layout_rules.specs.Conditions.{IsExternalLaid}
+use Rattle.image_form.specs.Image.{IsArgument, IsExtResult, IsExt}
 use Rattle.layout_rules.specs.Externals.{calls_in, calls_in_row, calls_in_bindings, calls_in_cases, calls_in_handlers}
 use Rattle.layout_rules.proofs.Rules.{all_append}
 use Rattle.selection_accepted.specs.Known.{Fits, RowFits, BindingsFit, CasesFit, HandlersFit, ASymbol, ACall, Names, RowNames, BoundNames, CasesName, HandlersName}
@@ -53,21 +52,21 @@ result_is (ret.Comp comp.Addr) at none = tt
 result_is (ret.Comp comp.Float) at none = absurd (none (fault.Float at) here)
 
 pub AreLaid : List External → Type 0
-AreLaid es = AllByRecursion IsExternalLaid es
+AreLaid es = AllByRecursion IsExt es
 
 pub both : (xs ys : List External) → AreLaid xs → AreLaid ys → AreLaid (xs ++ ys)
 unfolding AreLaid
-both xs ys p q = all_append IsExternalLaid xs ys p q
+both xs ys p q = all_append IsExt xs ys p q
 
 pub nothing_laid : AreLaid []
 unfolding AreLaid
 nothing_laid = tt
 
-one_laid : (x : External) (xs : List External) → IsExternalLaid x → AreLaid xs → AreLaid (x ∷ xs)
+one_laid : (x : External) (xs : List External) → IsExt x → AreLaid xs → AreLaid (x ∷ xs)
 unfolding AreLaid
 one_laid x xs p q = (p, q)
 
-pub laid_all : (xs : List External) → AreLaid xs → AllByRecursion IsExternalLaid xs
+pub laid_all : (xs : List External) → AreLaid xs → AllByRecursion IsExt xs
 unfolding AreLaid
 laid_all xs p = p
 

@@ -44,8 +44,8 @@ use Rattle.cmm_types.specs.Gathered.{comp_faults, params_faults}
 use Rattle.cmm_types.specs.Types.{body_type, result_of, with_parameters, is_address}
 use Rattle.cmm_types.proofs.Containing.{contains_none, contains_cases, contains_head, contains_tail}
 use Rattle.image_form.proofs.Differ.{AllDiffer, apart}
-use Rattle.image_form.specs.Image.{IsParam, IsResult}
-use Rattle.layout_rules.specs.Conditions.{IsRowLaid, IsExternalLaid, IsFileLaid}
+use Rattle.image_form.specs.Image.{IsParam, IsResult, IsExt}
+use Rattle.layout_rules.specs.Conditions.{IsRowLaid, IsFileLaid}
 use Rattle.layout_rules.specs.Externals.{calls_in_function, all_calls, is_among, firsts_behind}
 use Rattle.layout_rules.proofs.Rules.{all_append}
 use Rattle.selection_accepted.proofs.Selecting.{definitions, front_accepts, selectable}
@@ -175,13 +175,13 @@ firsts_few before (e ∷ es) = by (is_among before e) (firsts_few before es) (fi
 
 -- ---- calls
 
-firsts_laid : (before es : List External) → AllByRecursion IsExternalLaid before → AllByRecursion IsExternalLaid es → AllByRecursion IsExternalLaid (firsts_behind before es)
+firsts_laid : (before es : List External) → AllByRecursion IsExt before → AllByRecursion IsExt es → AllByRecursion IsExt (firsts_behind before es)
 firsts_laid before [] p q = p
 firsts_laid before (e ∷ es) p q = firsts_laid (cond (is_among before e) before (before ++ e ∷ [])) es (by (is_among before e)) q.1
   where
-    by : (b : Bool) → AllByRecursion IsExternalLaid (cond b before (before ++ e ∷ []))
+    by : (b : Bool) → AllByRecursion IsExt (cond b before (before ++ e ∷ []))
     by true = p
-    by false = all_append IsExternalLaid before (e ∷ []) p (q.0, tt)
+    by false = all_append IsExt before (e ∷ []) p (q.0, tt)
 
 all_laid : (fs : List FunctionTree) → ((f : FunctionTree) → Contains fs f → AreLaid (calls_in_function f)) → AreLaid (flat_map calls_in_function fs)
 all_laid [] each = nothing_laid

@@ -21,7 +21,6 @@ use Rattle.image_form.specs.Image.{le32, func_bytes, sym_bytes, ext_bytes, desc_
 use Rattle.image_form.specs.Tables.{ext}
 use Rattle.image_form.specs.declared.image.ExtRow.{ExtRow}
 use Rattle.image_form.proofs.Lengths.{length-le32, length-words}
-use Rattle.image_rules.proofs.Externals.{each_ext}
 use Rattle.image_rules.proofs.Placed.{roots_in_data, cells_few}
 use Rattle.image_rules.proofs.Whole.{all_length, length_of_data}
 use Rattle.layout_rules.specs.Externals.{externals}
@@ -66,7 +65,7 @@ sized s source calls same =
     let named = subst (λ (ss : List DataSymbolTree). AllByRecursion (λ (x : DataSymbolTree). IsSymbol x.name) ss) (sym source.placed.symbols) source.can.of_file.symbols in
     let exts = externals file in
     let exts_same = ap (sum_by ext_size) same in
-    let few_exts = exts_most exts (each_ext (externals file) source.can.of_file.calls) in
+    let few_exts = exts_most exts source.can.of_file.calls in
     let descs = descs_from stub_words ps forms in
     let root_count = ap length source.placed.roots in
     record {

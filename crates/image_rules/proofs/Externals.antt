@@ -9,8 +9,7 @@ use Rattle.bs_words.specs.declared.types.Comp.{Comp}
 use Rattle.bs_words.specs.declared.types.Ret.{Ret}
 use Rattle.cmm_tree.specs.Tree.{FileTree}
 use Rattle.image_form.proofs.Differ.{AllDiffer}
-use Rattle.image_form.specs.Image.{IsExt, comp_byte, ret_byte}
-use Rattle.layout_rules.specs.Conditions.{IsExternalLaid}
+use Rattle.image_form.specs.Image.{comp_byte, ret_byte}
 use Rattle.layout_rules.specs.Externals.{same_row, is_among, firsts_behind, externals, all_calls}
 
 -- the firsts of two lists, one after the other
@@ -72,10 +71,3 @@ firsts_differ before (e ∷ es) differ =
 
 pub rows_differ : (file : FileTree) → AllDiffer (externals file)
 rows_differ file = firsts_differ [] (all_calls file) tt
-
--- ---- the rules of each
-
-pub each_ext : (es : List External) → AllByRecursion IsExternalLaid es → AllByRecursion IsExt es
-each_ext [] laid = tt
-each_ext (e ∷ es) laid =
-    (record { name = laid.0.name; few = laid.0.few; params = laid.0.params; result = laid.0.result }, each_ext es laid.1)

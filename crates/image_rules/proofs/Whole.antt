@@ -14,7 +14,7 @@ use Rattle.cmm_tree.specs.Tree.{FunctionTree, FileTree, functions}
 use Rattle.image_form.proofs.Differ.{apart}
 use Rattle.image_form.specs.Image.{First, EachNext, IsBehind, IsSym, IsRoot, AreTables, end_of, stub, stub_words}
 use Rattle.image_form.specs.Tables.{Sym, func_names, sym_names}
-use Rattle.image_rules.proofs.Externals.{rows_differ, each_ext}
+use Rattle.image_rules.proofs.Externals.{rows_differ}
 use Rattle.image_rules.proofs.Limits.{are_short}
 use Rattle.image_rules.proofs.Placed.{Lie, CellsLie, data_length, data_nonempty, symbols_in_data, roots_in_data}
 use Rattle.layout_rules.specs.declared.form.Form.{Form}
@@ -235,7 +235,7 @@ is_image file ps forms can are none =
         rising = roots_rise data_start (data_end file) (root_cells file) (omega arith) (roots_in_data file);
         short = short.roots;
       };
-      extcs = record { each = each_ext (externals file) can.of_file.calls; differ = apart _ (rows_differ file); short = short.extcs };
+      extcs = record { each = can.of_file.calls; differ = apart _ (rows_differ file); short = short.extcs };
       descs = record {
         each = each_desc file (4 * length (stub ++ code)) stub_words ps forms (omega arith) can.each (omega (arith, long));
         rising = descs_in_order file stub_words ps forms can.each;

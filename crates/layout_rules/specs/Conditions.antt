@@ -2,13 +2,12 @@
 use Rattle.std.specs.Prelude.{◌≡◌, ◌≢◌, ℕ, ◌+◌, ◌%◌, ◌^◌, ◌<◌, ◌≤◌, Bool, true, false, List, [], ◌∷◌, ◌++◌, length, map, Some, None, IsSome, Contains, count_by, sum_by, ⊤}
 use Rattle.std.specs.List.{AllByRecursion, AllPairs}
 use Rattle.bs_words.specs.Symbol.{IsSymbol}
-use Rattle.bs_words.specs.External.{External}
 use Rattle.cmm_data.specs.Contents.{root_cells}
 use Rattle.cmm_data.specs.Faults.{data_fault_of}
 use Rattle.cmm_data.specs.Placement.{DataSymbolTree, symbols_of, value_of_symbol}
 use Rattle.cmm_tree.specs.Tree.{FunctionTree, FileTree, functions, comps_of}
 use Rattle.cmm_types.specs.Types.{body_type, result_of}
-use Rattle.image_form.specs.Image.{EachNext, IsEntry, IsNextEntry, IsParam, IsResult, IsArgument, IsExtResult}
+use Rattle.image_form.specs.Image.{EachNext, IsEntry, IsNextEntry, IsParam, IsResult, IsExt}
 use Rattle.layout_rules.specs.Externals.{externals}
 use Rattle.layout_rules.specs.Forms.{is_label}
 use Rattle.rv_pieces.specs.Known.{Descr}
@@ -84,12 +83,6 @@ pub record IsRowLaid (f : FunctionTree) : Type 0 where
   pub params : AllByRecursion IsParam (comps_of f)
   pub result : IsResult (result_of (body_type f))
 
-pub record IsExternalLaid (e : External) : Type 0 where
-  pub name : IsSymbol e.name
-  pub few : length e.params ≤ 16
-  pub params : AllByRecursion IsArgument e.params
-  pub result : IsExtResult e.result
-
 -- What each file keeps that was accepted: its names and types may be in an image, no symbol is
 -- defined twice, its data has no fault, and it is no longer than a text. A root cell lies at a multiple
 -- of 8: that is a rule of data, but for integers out of range, which no file has that was accepted.
@@ -99,7 +92,7 @@ pub record IsFileLaid (file : FileTree) : Type 0 where
   pub differ : AllPairs (λ (x y : List ℕ). x ≢ y)
       (map (λ (f : FunctionTree). f.name) (functions file)
       ++ map (λ (s : DataSymbolTree). s.name) (symbols_of file))
-  pub calls : AllByRecursion IsExternalLaid (externals file)
+  pub calls : AllByRecursion IsExt (externals file)
   pub no_fault : data_fault_of file ≡ None
   pub roots : AllByRecursion (λ address. address % 8 ≡ 0) (root_cells file)
   pub few_functions : length (functions file) < 2 ^ 32

@@ -1,4 +1,4 @@
-//! The lines in which programs of the gate write instructions of Mach and of Linear.
+//! The lines in which rows write instructions of Mach and of Linear.
 #![tactic(auto)]
 
 mod forms;
