@@ -138,9 +138,8 @@ impl<'a> Machine<'a> {
             expression s body.entry.now false (within_try h) (deepened (taken
             (within_try h)) w))) }
     {
-        let tries = self.here.tries.checked_add(1).ok_or(AllocError)?;
-        self.here.tries = tries;
-        let bytes = self.here.taken()?;
+        let bytes = self.here.taken()?.checked_add(16).ok_or(AllocError)?;
+        self.here.tries += 1;
         self.world.deepen(bytes);
         Ok(Now::Begins {
             expr: body,

@@ -1,5 +1,5 @@
-use Rattle.std.proofs.Common.{◌≡◌, ℕ, ◌+◌, suc, false, ap, ◌∙◌, add-one}
-use Rattle.cmm_meaning.specs.State.{World, Here, taken, deepened}
+use Rattle.std.proofs.Common.{◌≡◌, ℕ, ◌+◌, false, ap, ◌∙◌, ◌*◌, add-one, arith}
+use Rattle.cmm_meaning.specs.State.{World, Here, within_try, taken, deepened}
 use Rattle.cmm_meaning.specs.Evaluation.{Evaluation}
 use Rattle.eval_frames.specs.Filled.{expression, resume}
 use Rattle.eval_frames.specs.Views.{here_view, world_view}
@@ -12,11 +12,12 @@ returns c s =
     let h = here_view m.here in
     let w = world_view m.world in
     let e = c.args.body.now in
-    let tries = c.in_ok-tries.tries in
-    let more : tries ≡ suc m.here.tries =
-    sum_is c.checked_add.result tries (m.here.tries + 1) _ c.checked_add.ensures c.in_ok-tries.ensures.ok_part ∙ add-one m.here.tries in
-    let at : ℕ → Here = λ k. record h { tries = k } in
-    let go : ℕ → ℕ → Evaluation = λ k n. resume s m.frames.items (expression s e false (at k) (deepened n w)) in
-    ap (λ (v : World). resume s m.frames.items (expression s e false (at tries) v)) c.deepen.ensures
-    ∙ ap (go tries) c.in_ok-bytes.ensures
-    ∙ ap (λ k. go k (taken (at k))) more
+    let bytes = c.in_ok-bytes.bytes in
+    let before = c.in_ok-taken.field-0 in
+    let sum : bytes ≡ before + 16 = sum_is c.checked_add.result bytes (before + 16) _ c.checked_add.ensures c.in_ok-bytes.ensures.ok_part in
+    let was : before ≡ m.here.below + m.here.frame + 16 * m.here.tries = c.in_ok-taken.ensures in
+    let is : bytes ≡ taken (within_try h) = omega arith in
+    let go : ℕ → ℕ → Evaluation = λ k n. resume s m.frames.items (expression s e false (record h { tries = k }) (deepened n w)) in
+    ap (λ (v : World). resume s m.frames.items (expression s e false (record h { tries = m.here.tries + 1 }) v)) c.deepen.ensures
+    ∙ ap (go (m.here.tries + 1)) is
+    ∙ ap (λ k. go k (taken (within_try h))) (add-one m.here.tries)
