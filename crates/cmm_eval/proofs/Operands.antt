@@ -15,7 +15,7 @@ use Rattle.cmm_meaning.specs.Evaluation.{Evaluated, Evaluation, Gives, Exits, Ra
 use Rattle.eval_frames.specs.declared.group.Group.TheVariants as group
 use Rattle.eval_frames.specs.Groups.{group_of}
 use Rattle.eval_frames.specs.Held.{held, inside, waiting_held, filled_held}
-use Rattle.eval_frames.proofs.Listed.{then_same}
+use Rattle.eval_frames.proofs.Listed.{then_same, value_same}
 use Rattle.eval_frames.specs.Filled.{operands_of, operated_by, fills_in, after_waiting, waits_for}
 
 -- ---- what goes on
@@ -64,14 +64,6 @@ each_value Q (Exits label values h w) f p = tt
 each_value Q (Raises v h w) f p = tt
 each_value Q (Stops why w) f p = tt
 
-value_alike : {B : Type 0} (e : Evaluation) (f g : Value → Here → World → Evaluated B) →
-    ((v : Value) (h : Here) (w : World) → f v h w ≡ g v h w) → with_value e f ≡ with_value e g
-value_alike (Gives (Some v) h w) f g p = p v h w
-value_alike (Gives None h w) f g p = refl
-value_alike (Exits label values h w) f g p = refl
-value_alike (Raises v h w) f g p = refl
-value_alike (Stops why w) f g p = refl
-
 light_then : {B C : Type 0} (light : Bool) (e : Here → World → Evaluation) (h : Here) (w : World) (f : Option Value → Here → World → Evaluated B)
     (g : B → Here → World → Evaluated C) →
     and_then (unless_light light e h w f) g ≡ unless_light light e h w (λ v h w. and_then (f v h w) g)
@@ -86,7 +78,7 @@ each_light Q false e h w f p = each_value Q (e h w) (λ v h w. f (Some v) h w) (
 light_alike : {B : Type 0} (light : Bool) (e : Here → World → Evaluation) (h : Here) (w : World) (f g : Option Value → Here → World → Evaluated B) →
     ((v : Option Value) (h : Here) (w : World) → f v h w ≡ g v h w) → unless_light light e h w f ≡ unless_light light e h w g
 light_alike true e h w f g p = p None h w
-light_alike false e h w f g p = value_alike (e h w) (λ v h w. f (Some v) h w) (λ v h w. g (Some v) h w) (λ v h w. p (Some v) h w)
+light_alike false e h w f g p = value_same (e h w) (λ v h w. f (Some v) h w) (λ v h w. g (Some v) h w) (λ v h w. p (Some v) h w)
 
 before_then : {B C : Type 0} (before : Option Value) (e : Here → World → Evaluation) (h : Here) (w : World) (f : Value → Here → World → Evaluated B)
     (g : B → Here → World → Evaluated C) →
