@@ -1,3 +1,4 @@
 pub mod Annotated
 pub mod Stands
+pub mod Turns
 pub mod Views

@@ -1,5 +1,5 @@
 //! What a node does once all its operands are there: calls among others.
-ghost use Rattle.std.specs.Prelude.{◌≡◌, ℕ, true, false, IfOk, Some, reverse, IsTrue, IsFalse};
+ghost use Rattle.std.specs.Prelude.{◌≡◌, ℕ, ◌+◌, ◌≤◌, true, false, IfOk, Some, reverse, IsTrue, IsFalse};
 ghost use Rattle.bs_words.specs.Memory.{allocated, next_block};
 ghost use Rattle.cmm_meaning.specs.Evaluation as evaluation;
 ghost use Rattle.cmm_meaning.specs.Evaluation.{Gives, proper, applied, stack_below};
@@ -10,6 +10,7 @@ ghost use Rattle.eval_frames.specs.Passing.{ComesBack, TakesPlace};
 ghost use Rattle.eval_frames.specs.Views.{here_view, layout_view, call_view};
 ghost use Rattle.eval_frames.specs.Around.{IsAround, around_view, activated_held};
 ghost use Rattle.cmm_eval.specs.Stands.{stands, goes_on, stands_in, goes_on_in};
+ghost use Rattle.cmm_eval.specs.Turns.{Falls, turns};
 
 use crate::machine::Machine;
 use bs_words::{Call, Kind, Name, Ret, Value};
@@ -42,9 +43,10 @@ impl<'a> Machine<'a> {
         mut values: Vec<Value>,
     ) -> Result<Now<'a>, AllocError>
         requires { IsAround around.now }
-        ensures { IfOk result (λ now. stands around.now self.new now ≡ goes_on around.now self.old
+        ensures meaning { IfOk result (λ now. stands around.now self.new now ≡ goes_on around.now self.old
             (λ h w. operated_by (around_view around.now) form.entry.now tail callee
             (reverse values.items) h w)) }
+        ensures falls { IfOk result (λ now. Falls 3 self.old self.new now) }
     {
         match form {
             Form::Alloc { header, .. } => {
@@ -104,10 +106,11 @@ impl<'a> Machine<'a> {
     }
 
     fn allocate(&mut self, header: u64, cells: Vec<Value>) -> Result<Now<'a>, AllocError>
-        ensures { IfOk result (λ now. (s : evaluation.Surroundings) →
+        ensures meaning { IfOk result (λ now. (s : evaluation.Surroundings) →
             stands_in s self.new now ≡ goes_on_in s self.old (λ h w.
             proper (allocated w.memory header cells.items) w (λ memory.
             Gives (Some (next_block w.memory)) h (record w { memory = memory })))) }
+        ensures falls { IfOk result (λ now. Falls 3 self.old self.new now) }
     {
         match self.world.memory.allocate(header, cells)? {
             Ok(pointer) => Ok(Now::Gives(Some(pointer))),
@@ -126,8 +129,9 @@ impl<'a> Machine<'a> {
         written: Ret,
     ) -> Result<Now<'a>, AllocError>
         requires { IsAround around.now }
-        ensures { IfOk result (λ now. stands around.now self.new now ≡ goes_on around.now self.old
+        ensures meaning { IfOk result (λ now. stands around.now self.new now ≡ goes_on around.now self.old
             (λ h w. applied (around_view around.now) callee arguments.items written tail h w)) }
+        ensures falls { IfOk result (λ now. Falls 3 self.old self.new now) }
     {
         let Value::Function(number) = callee else {
             return Ok(not_proper(Kind::BadCall));
@@ -169,10 +173,11 @@ impl<'a> Machine<'a> {
         arguments: &[Value],
         written: Ret,
     ) -> Result<Now<'a>, AllocError>
-        ensures { IfOk result (λ now. (s : evaluation.Surroundings) →
+        ensures meaning { IfOk result (λ now. (s : evaluation.Surroundings) →
             stands_in s self.new now ≡ goes_on_in s self.old (λ h w.
             returned written h (activated_held s callee.entry.frame
             (Some callee.entry.function.now) arguments.now (stack_below tail h) w))) }
+        ensures falls { IfOk result (λ now. Falls 3 self.old self.new now) }
     {
         let below = self.stack_below(tail)?;
         let taken = below.checked_add(callee.frame).ok_or(AllocError)?;
@@ -199,6 +204,7 @@ impl<'a> Machine<'a> {
         ensures world { IfOk result (λ _. self.new.world ≡ self.old.world) }
         ensures frames { IfOk result (λ _. ComesBack self.old.frames.items written
             (here_view here.entry) self.new.frames.items) }
+        ensures adds { IfOk result (λ _. turns self.new ≤ turns self.old + 1) }
     {
         let tests = Tests::written(written);
         if tail && self.take_place(tests) {
@@ -215,6 +221,7 @@ impl<'a> Machine<'a> {
         ensures place { IsTrue result →
             TakesPlace self.old.frames.items tests self.new.frames.items }
         ensures none { IsFalse result → self.new.frames.items ≡ self.old.frames.items }
+        ensures adds { turns self.new ≤ turns self.old }
     {
         let mut before = tests;
         let mut left = self.frames.len();
@@ -245,10 +252,11 @@ impl<'a> Machine<'a> {
         written: Ret,
     ) -> Result<Now<'a>, AllocError>
         requires { IsAround around.now }
-        ensures { IfOk result (λ now. stands around.now self.new now ≡ goes_on around.now self.old
+        ensures meaning { IfOk result (λ now. stands around.now self.new now ≡ goes_on around.now self.old
             (λ h w. returned written h (answered_as frame
             (around_view around.now).end written (call_seen
             (layout_view around.now.layout.now) name.entry.now arguments.now) w.answers w))) }
+        ensures falls { IfOk result (λ now. Falls 3 self.old self.new now) }
     {
         let call = Call {
             name: Name::from_vec(Vec::from_slice(around.alloc, name.as_bytes())?),
@@ -263,9 +271,10 @@ impl<'a> Machine<'a> {
 
     /// A call that is no frame call: one without a result takes no answer, each other one the next.
     fn plain_call(&mut self, call: Call, written: Ret) -> Result<Now<'a>, AllocError>
-        ensures { IfOk result (λ now. (s : evaluation.Surroundings) → (end : ℕ) →
+        ensures meaning { IfOk result (λ now. (s : evaluation.Surroundings) → (end : ℕ) →
             stands_in s self.new now ≡ goes_on_in s self.old (λ h w.
             returned written h (answered_as false end written (call_view call) w.answers w))) }
+        ensures falls { IfOk result (λ now. Falls 3 self.old self.new now) }
     {
         match written {
             Ret::Unit => {
@@ -285,9 +294,10 @@ impl<'a> Machine<'a> {
 
     /// A frame call takes two answers. It has been made before a value that it raises is tested.
     fn frame_call(&mut self, end: u64, call: Call, written: Ret) -> Result<Now<'a>, AllocError>
-        ensures { IfOk result (λ now. (s : evaluation.Surroundings) →
+        ensures meaning { IfOk result (λ now. (s : evaluation.Surroundings) →
             stands_in s self.new now ≡ goes_on_in s self.old (λ h w.
             returned written h (answered_as true end written (call_view call) w.answers w))) }
+        ensures falls { IfOk result (λ now. Falls 3 self.old self.new now) }
     {
         let Some((first, rest)) = self.world.answers.split_first() else {
             return Ok(Now::Stops(Stop::NoAnswer(call)));

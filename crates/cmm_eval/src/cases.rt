@@ -6,6 +6,7 @@ ghost use Rattle.cmm_meaning.specs.Evaluation.{Exits, Raises};
 ghost use Rattle.eval_frames.specs.Filled.{fills};
 ghost use Rattle.eval_frames.specs.Around.{IsAround, around_view};
 ghost use Rattle.cmm_eval.specs.Stands.{stands, goes_on, stands_in, goes_on_in};
+ghost use Rattle.cmm_eval.specs.Turns.{Falls};
 
 use crate::machine::Machine;
 use bs_words::{Kind, Ty, Value};
@@ -27,9 +28,10 @@ impl<'a> Machine<'a> {
         values: Vec<Value>,
     ) -> Result<Now<'a>, AllocError>
         requires { IsAround around.now }
-        ensures { IfOk result (λ now. stands around.now self.new now ≡ goes_on around.now self.old
+        ensures meaning { IfOk result (λ now. stands around.now self.new now ≡ goes_on around.now self.old
             (λ h w. fills (around_view around.now) frame.entry (Exits
             (label_view label.entry.now) values.items h w))) }
+        ensures falls { IfOk result (λ now. Falls 3 self.old self.new now) }
     {
         let Frame { form, tail, step } = frame;
         match step {
@@ -87,9 +89,10 @@ impl<'a> Machine<'a> {
 
     /// What a frame makes of a raise.
     pub(crate) fn raise(&mut self, frame: Frame<'a>, value: Value) -> Result<Now<'a>, AllocError>
-        ensures { IfOk result (λ now. (s : evaluation.Surroundings) →
+        ensures meaning { IfOk result (λ now. (s : evaluation.Surroundings) →
             stands_in s self.new now ≡ goes_on_in s self.old (λ h w.
             fills s frame.entry (Raises value h w))) }
+        ensures falls { IfOk result (λ now. Falls 3 self.old self.new now) }
     {
         let Frame { form, tail, step } = frame;
         match step {

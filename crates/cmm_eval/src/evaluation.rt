@@ -30,8 +30,7 @@ use eval_frames::world::{Stop, World};
 use std::alloc::{AllocError, Global};
 
 /// The run of function `entry` of a file, on argument words, with these answers to external calls and so
-/// many units of fuel. The error is want of memory; a stack or a heap of 2^64 bytes or
-/// more, and more than 2^64 turns, are answered so too.
+/// many units of fuel. The error is want of memory; a stack or a heap of 2^64 bytes or more is answered so too.
 pub fn eval(
     alloc: Global,
     file: &File,

@@ -6,6 +6,7 @@ ghost use Rattle.eval_frames.specs.declared.frame.Step.{Step};
 ghost use Rattle.eval_frames.specs.Filled.{WantsValue, does, fills, taken_by, joined_by, body_of, first_bound};
 ghost use Rattle.eval_frames.specs.Around.{IsAround, around_view};
 ghost use Rattle.cmm_eval.specs.Stands.{stands, goes_on, stands_in, goes_on_in};
+ghost use Rattle.cmm_eval.specs.Turns.{Falls};
 
 use crate::machine::Machine;
 use bs_words::{Kind, Value};
@@ -29,8 +30,9 @@ impl<'a> Machine<'a> {
         value: Option<Value>,
     ) -> Result<Now<'a>, AllocError>
         requires { IsAround around.now }
-        ensures { IfOk result (λ now. stands around.now self.new now ≡ goes_on around.now self.old
+        ensures meaning { IfOk result (λ now. stands around.now self.new now ≡ goes_on around.now self.old
             (λ h w. fills (around_view around.now) frame.entry (Gives value h w))) }
+        ensures falls { IfOk result (λ now. Falls 3 self.old self.new now) }
     {
         let Frame { form, tail, step } = frame;
         match step {
@@ -66,8 +68,9 @@ impl<'a> Machine<'a> {
     ) -> Result<Now<'a>, AllocError>
         requires around { IsAround around.now }
         requires wants { WantsValue frame.step }
-        ensures { IfOk result (λ now. stands around.now self.new now ≡ goes_on around.now self.old
+        ensures meaning { IfOk result (λ now. stands around.now self.new now ≡ goes_on around.now self.old
             (λ h w. fills (around_view around.now) frame.entry (Gives (Some value) h w))) }
+        ensures falls { IfOk result (λ now. Falls 3 self.old self.new now) }
     {
         let Frame { form, tail, step } = frame;
         match step {
@@ -117,8 +120,9 @@ impl<'a> Machine<'a> {
         value: Value,
     ) -> Result<Now<'a>, AllocError>
         requires { IsAround around.now }
-        ensures { IfOk result (λ now. stands around.now self.new now ≡ goes_on around.now self.old
+        ensures meaning { IfOk result (λ now. stands around.now self.new now ≡ goes_on around.now self.old
             (λ h w. taken_by (around_view around.now) form.entry.now tail value h w)) }
+        ensures falls { IfOk result (λ now. Falls 3 self.old self.new now) }
     {
         match form {
             Form::Assign { name, .. } => {
@@ -187,9 +191,10 @@ impl<'a> Machine<'a> {
         left_first: bool,
         first: Value,
     ) -> Result<Now<'a>, AllocError>
-        ensures { IfOk result (λ now. (s : evaluation.Surroundings) →
+        ensures meaning { IfOk result (λ now. (s : evaluation.Surroundings) →
             stands_in s self.new now ≡ goes_on_in s self.old (λ h w.
             does s (Step.First left_first) form.entry.now tail (Gives (Some first) h w))) }
+        ensures falls { IfOk result (λ now. Falls 3 self.old self.new now) }
     {
         if group_of(form) != Group::Two {
             return Ok(not_proper(Kind::BadValue));
@@ -202,9 +207,10 @@ impl<'a> Machine<'a> {
 
     // What a node with two operands does with their values.
     fn join(&mut self, form: &'a Form, left: Value, right: Value) -> Result<Now<'a>, AllocError>
-        ensures { IfOk result (λ now. (s : evaluation.Surroundings) →
+        ensures meaning { IfOk result (λ now. (s : evaluation.Surroundings) →
             stands_in s self.new now ≡ goes_on_in s self.old (λ h w.
             joined_by s form.entry.now left right h w)) }
+        ensures falls { IfOk result (λ now. Falls 3 self.old self.new now) }
     {
         match form {
             Form::Operator(op, _, _) => Ok(given(apply(*op, &self.world.memory, left, right))),
@@ -245,8 +251,9 @@ impl<'a> Machine<'a> {
         value: Value,
     ) -> Result<Now<'a>, AllocError>
         requires { IsAround around.now }
-        ensures { IfOk result (λ now. stands around.now self.new now ≡ goes_on around.now self.old
+        ensures meaning { IfOk result (λ now. stands around.now self.new now ≡ goes_on around.now self.old
             (λ h w. first_bound (around_view around.now) bindings.entry.now value h w)) }
+        ensures falls { IfOk result (λ now. Falls 3 self.old self.new now) }
     {
         match bindings.split_first() {
             None => Ok(not_proper(Kind::BadValue)),
@@ -267,9 +274,10 @@ impl<'a> Machine<'a> {
         level: usize,
         tries: u64,
     ) -> Result<Now<'a>, AllocError>
-        ensures { IfOk result (λ now. (s : evaluation.Surroundings) →
+        ensures meaning { IfOk result (λ now. (s : evaluation.Surroundings) →
             stands_in s self.new now ≡ goes_on_in s self.old (λ h w.
             body_of s form.entry.now tail level tries h w)) }
+        ensures falls { IfOk result (λ now. Falls 3 self.old self.new now) }
     {
         match form {
             Form::Let(_, body) => {

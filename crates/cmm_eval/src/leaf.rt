@@ -7,6 +7,7 @@ ghost use Rattle.eval_frames.specs.Held.{inside};
 ghost use Rattle.eval_frames.specs.Filled.{standing};
 ghost use Rattle.eval_frames.specs.Around.{IsAround, around_view};
 ghost use Rattle.cmm_eval.specs.Stands.{stands, goes_on};
+ghost use Rattle.cmm_eval.specs.Turns.{Falls};
 
 use crate::machine::Machine;
 use bs_words::Value;
@@ -62,8 +63,9 @@ impl<'a> Machine<'a> {
         tail: bool,
     ) -> Result<Now<'a>, AllocError>
         requires { group_of form.now ≡ Group.One }
-        ensures { IfOk result (λ now. stands around.now self.new now ≡ goes_on around.now self.old
+        ensures meaning { IfOk result (λ now. stands around.now self.new now ≡ goes_on around.now self.old
             (λ h w. inside (around_view around.now) form.entry.now tail h w)) }
+        ensures falls { IfOk result (λ now. Falls 3 self.old self.new now) }
     {
         let expr = operand_of(form);
         self.push(form, tail, Step::Operand)?;
@@ -79,8 +81,9 @@ impl<'a> Machine<'a> {
         tail: bool,
     ) -> Result<Now<'a>, AllocError>
         requires { group_of form.now ≡ Group.Two }
-        ensures { IfOk result (λ now. stands around.now self.new now ≡ goes_on around.now self.old
+        ensures meaning { IfOk result (λ now. stands around.now self.new now ≡ goes_on around.now self.old
             (λ h w. inside (around_view around.now) form.entry.now tail h w)) }
+        ensures falls { IfOk result (λ now. Falls 3 self.old self.new now) }
     {
         let (left, right) = both_operands(form);
         let left_first = is_left_first(&self.here, left, right);

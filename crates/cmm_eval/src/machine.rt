@@ -6,6 +6,7 @@ ghost use Rattle.eval_frames.specs.Held.{inside};
 ghost use Rattle.eval_frames.specs.Filled.{HasEnded, expression, standing, fills};
 ghost use Rattle.eval_frames.specs.Around.{IsAround, around_view};
 ghost use Rattle.cmm_eval.specs.Stands.{stands, goes_on};
+ghost use Rattle.cmm_eval.specs.Turns.{Falls, turns};
 
 use bs_words::Kind;
 use cmm_tree::{Expr, Form};
@@ -30,8 +31,9 @@ pub(crate) struct Machine<'a> {
 impl<'a> Machine<'a> {
     /// Evaluates to the end, and answers how that came.
     ///
-    /// Each turn takes a unit, ends a frame or goes on in one. The error is want of memory; a stack or a heap of
-    /// 2^64 bytes or more, and more than 2^64 turns, are answered so too.
+    /// A turn in which a node begins takes a unit and adds at most three frames. Any other takes a frame away, and adds
+    /// none, or at most two where a node begins next. So the units bound the turns. The error is want of memory; a stack
+    /// or a heap of 2^64 bytes or more is answered so too.
     #[tactic(auto, using(crate::proofs::Resumed::resume_push, crate::proofs::Resumed::resume_stops))]
     pub(crate) fn run(
         &mut self,
@@ -45,7 +47,7 @@ impl<'a> Machine<'a> {
             first.entry) }
     {
         let mut now = first;
-        'turns: for _turn in 0..u64::MAX {
+        'turns: loop {
             now = match now {
                 Now::Begins { expr, tail } => self.begin(around, expr, tail)?,
                 Now::Stops(why) => return Ok(Now::Stops(why)),
@@ -55,7 +57,6 @@ impl<'a> Machine<'a> {
                 },
             };
         }
-        Err(AllocError)
     }
 
     /// A node begins: it takes a unit, and its type is to be tested.
@@ -67,8 +68,9 @@ impl<'a> Machine<'a> {
         tail: bool,
     ) -> Result<Now<'a>, AllocError>
         requires { IsAround around.now }
-        ensures { IfOk result (λ now. stands around.now self.new now ≡ goes_on around.now self.old
+        ensures meaning { IfOk result (λ now. stands around.now self.new now ≡ goes_on around.now self.old
             (λ h w. expression (around_view around.now) expr.entry.now tail h w)) }
+        ensures falls { IfOk result (λ now. Falls 0 self.old self.new now) }
     {
         if group_of(&expr.form) == Group::Float {
             return Ok(not_proper(Kind::BadValue));
@@ -96,6 +98,7 @@ impl<'a> Machine<'a> {
           tail = tail;
           step = step.entry;
         } ∷ []) }
+        ensures adds { IfOk result (λ _. turns self.new ≡ turns self.old + 1) }
     {
         self.frames.push(Frame { form, tail, step })?;
         Ok(())
@@ -110,8 +113,9 @@ impl<'a> Machine<'a> {
     ) -> Result<Now<'a>, AllocError>
         requires around { IsAround around.now }
         requires taken { self.old.world.left + 1 < 2 ^ 64 }
-        ensures { IfOk result (λ now. stands around.now self.new now ≡ goes_on around.now self.old
+        ensures meaning { IfOk result (λ now. stands around.now self.new now ≡ goes_on around.now self.old
             (λ h w. inside (around_view around.now) form.entry.now tail h w)) }
+        ensures falls { IfOk result (λ now. Falls 4 self.old self.new now) }
     {
         match group_of(form) {
             Group::Float => Ok(not_proper(Kind::BadValue)),
@@ -139,9 +143,10 @@ impl<'a> Machine<'a> {
     ) -> Result<Now<'a>, AllocError>
         requires around { IsAround around.now }
         requires ended { HasEnded ended }
-        ensures { IfOk result (λ now. stands around.now self.new now ≡ goes_on around.now self.old
+        ensures meaning { IfOk result (λ now. stands around.now self.new now ≡ goes_on around.now self.old
             (λ h w. fills (around_view around.now) frame.entry (standing
             (around_view around.now) ended.entry h w))) }
+        ensures falls { IfOk result (λ now. Falls 3 self.old self.new now) }
     {
         match ended {
             Now::Gives(value) => self.fill(around, frame, value),

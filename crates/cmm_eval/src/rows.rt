@@ -7,6 +7,7 @@ ghost use Rattle.eval_frames.specs.Held.{inside};
 ghost use Rattle.eval_frames.specs.declared.group.Group.{Group};
 ghost use Rattle.eval_frames.specs.Around.{IsAround, around_view};
 ghost use Rattle.cmm_eval.specs.Stands.{stands, goes_on, stands_in, goes_on_in};
+ghost use Rattle.cmm_eval.specs.Turns.{Falls};
 ghost use Rattle.cmm_meaning.specs.Evaluation as evaluation;
 
 use crate::machine::Machine;
@@ -22,9 +23,10 @@ impl<'a> Machine<'a> {
     /// A sequence.
     pub(crate) fn sequence(&mut self, form: &'a Form, tail: bool) -> Result<Now<'a>, AllocError>
         requires { group_of form.now ≡ Group.Sequence }
-        ensures { IfOk result (λ now. (s : evaluation.Surroundings) →
+        ensures meaning { IfOk result (λ now. (s : evaluation.Surroundings) →
             stands_in s self.new now ≡ goes_on_in s self.old (λ h w.
             inside s form.entry.now tail h w)) }
+        ensures falls { IfOk result (λ now. Falls 3 self.old self.new now) }
     {
         match form {
             Form::Seq(elements) => self.elements(form, tail, elements.as_slice()),
@@ -59,9 +61,10 @@ impl<'a> Machine<'a> {
         tail: bool,
         elements: &'a [Expr],
     ) -> Result<Now<'a>, AllocError>
-        ensures { IfOk result (λ now. (s : evaluation.Surroundings) →
+        ensures meaning { IfOk result (λ now. (s : evaluation.Surroundings) →
             stands_in s self.new now ≡ goes_on_in s self.old (λ h w.
             elements_from s elements.entry.now tail h w)) }
+        ensures falls { IfOk result (λ now. Falls 3 self.old self.new now) }
     {
         match elements.split_first() {
             None => Ok(Now::Gives(None)),
@@ -79,9 +82,10 @@ impl<'a> Machine<'a> {
     pub(crate) fn enter_scope(&mut self, form: &'a Form, tail: bool) -> Result<Now<'a>, AllocError>
         requires group { group_of form.now ≡ Group.Scope }
         requires taken { self.old.world.left + 1 < 2 ^ 64 }
-        ensures { IfOk result (λ now. (s : evaluation.Surroundings) →
+        ensures meaning { IfOk result (λ now. (s : evaluation.Surroundings) →
             stands_in s self.new now ≡ goes_on_in s self.old (λ h w.
             inside s form.entry.now tail h w)) }
+        ensures falls { IfOk result (λ now. Falls 4 self.old self.new now) }
     {
         let level = self.here.names.len();
         let tries = self.here.tries;
@@ -133,10 +137,11 @@ impl<'a> Machine<'a> {
 
     /// The body of a try begins. A stack of 2^64 bytes or more is answered as want of memory.
     fn begin_try(&mut self, body: &'a Expr) -> Result<Now<'a>, AllocError>
-        ensures { IfOk result (λ now. (s : evaluation.Surroundings) →
+        ensures meaning { IfOk result (λ now. (s : evaluation.Surroundings) →
             stands_in s self.new now ≡ goes_on_in s self.old (λ h w.
             expression s body.entry.now false (within_try h) (deepened (taken
             (within_try h)) w))) }
+        ensures falls { IfOk result (λ now. Falls 3 self.old self.new now) }
     {
         let bytes = self.here.taken()?.checked_add(16).ok_or(AllocError)?;
         self.here.tries += 1;
@@ -158,9 +163,10 @@ impl<'a> Machine<'a> {
         mut values: Vec<Option<Value>>,
     ) -> Result<Now<'a>, AllocError>
         requires { IsAround around.now }
-        ensures { IfOk result (λ now. stands around.now self.new now ≡ goes_on around.now self.old
+        ensures meaning { IfOk result (λ now. stands around.now self.new now ≡ goes_on around.now self.old
             (λ h w. waits_for (around_view around.now) form.entry.now tail
             (reverse operands.entry.now) (reverse values.items) h w)) }
+        ensures falls { IfOk result (λ now. Falls 3 self.old self.new now) }
     {
         let mut left = operands.len();
         while left > 0 {
@@ -186,9 +192,10 @@ impl<'a> Machine<'a> {
         waited: Vec<Option<Value>>,
     ) -> Result<Now<'a>, AllocError>
         requires { IsAround around.now }
-        ensures { IfOk result (λ now. stands around.now self.new now ≡ goes_on around.now self.old
+        ensures meaning { IfOk result (λ now. stands around.now self.new now ≡ goes_on around.now self.old
             (λ h w. after_waiting (around_view around.now) form.entry.now tail waited.items h
             w)) }
+        ensures falls { IfOk result (λ now. Falls 3 self.old self.new now) }
     {
         match prompt_callee(&self.here, form) {
             Some(expr) => {
@@ -216,8 +223,9 @@ impl<'a> Machine<'a> {
         row: Row<'a>,
     ) -> Result<Now<'a>, AllocError>
         requires { IsAround around.now }
-        ensures { IfOk result (λ now. stands around.now self.new now ≡ goes_on around.now self.old
+        ensures meaning { IfOk result (λ now. stands around.now self.new now ≡ goes_on around.now self.old
             (λ h w. row_fills (around_view around.now) form.entry.now tail callee row.entry h w)) }
+        ensures falls { IfOk result (λ now. Falls 3 self.old self.new now) }
     {
         let Row {
             operands,

@@ -6,8 +6,8 @@ use Rattle.eval_frames.specs.declared.world.World as world
 use Rattle.cmm_eval.proofs.Called.{activated_is}
 use Rattle.cmm_eval.proofs.machine.Machine.activate.Goals as goal
 
-pub returns : goal.returns
-returns c s =
+pub returns-clause-meaning : goal.returns-clause-meaning
+returns-clause-meaning c s =
     let m = c.args.self.now in
     let p = c.in_ok-come_back.ensures in
     let f = c.args.callee in

@@ -16,8 +16,8 @@ use Rattle.cmm_eval.proofs.Ended.{if_ok_then}
 use Rattle.eval_frames.proofs.HeldAround.{call_missing, call_misfit, call_fit}
 use Rattle.cmm_eval.proofs.machine.Machine.apply.Goals as goal
 
-pub returns-in_default-get : goal.returns-in_default-get
-returns-in_default-get c =
+pub returns-in_default-get-clause-meaning : goal.returns-in_default-get-clause-meaning
+returns-in_default-get-clause-meaning c =
     let a = c.args.around.now in
     let s = around_view a in
     let m = c.args.self.now in
@@ -31,8 +31,8 @@ returns-in_default-get c =
     ∙ ap (resume s m.frames.items) (sym (call_missing a c.requires k missing values c.args.written c.args.tail h w))
     ∙ sym (ap (λ (v : Value). resume s m.frames.items (applied s v values c.args.written c.args.tail h w)) c.in-Function.is)
 
-pub returns-then-not-fit_parameters : goal.returns-then-not-fit_parameters
-returns-then-not-fit_parameters c =
+pub returns-then-not-fit_parameters-clause-meaning : goal.returns-then-not-fit_parameters-clause-meaning
+returns-then-not-fit_parameters-clause-meaning c =
     let a = c.args.around.now in
     let s = around_view a in
     let m = c.args.self.now in
@@ -52,8 +52,8 @@ returns-then-not-fit_parameters c =
     ∙ ap (resume s m.frames.items) (sym (call_misfit a c.requires k f.now found values fits c.args.written c.args.tail h w))
     ∙ sym (ap (λ (v : Value). resume s m.frames.items (applied s v values c.args.written c.args.tail h w)) c.in-Function.is)
 
-pub returns : goal.returns
-returns c =
+pub returns-clause-meaning : goal.returns-clause-meaning
+returns-clause-meaning c =
     let a = c.args.around.now in
     let s = around_view a in
     let m = c.args.self.now in
@@ -82,4 +82,4 @@ returns c =
     ∙ ap (call (slice_index (layout_view a.layout.now).frames k)) c.as_slice-arguments.ensures.value
     ∙ ap (resume s m.frames.items) (sym (call_fit a c.requires k f.now found values fits written tail h w))
     ∙ sym (ap (λ (v : Value). resume s m.frames.items (applied s v values written tail h w)) c.in-Function.is))
-    c.activate.ensures
+    c.activate.ensures.meaning

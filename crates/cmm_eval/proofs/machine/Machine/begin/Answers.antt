@@ -14,8 +14,8 @@ use Rattle.cmm_eval.proofs.Ended.{if_ok_then}
 use Rattle.cmm_eval.proofs.Turns.{pushed, node_begins}
 use Rattle.cmm_eval.proofs.machine.Machine.begin.Goals as goal
 
-pub returns : goal.returns
-returns c =
+pub returns-clause-meaning : goal.returns-clause-meaning
+returns-clause-meaning c =
     let a = c.args.around.now in
     let s = around_view a in
     let m = c.args.self.now in
@@ -35,4 +35,4 @@ returns c =
     ∙ ap (λ (v : world.World). resume s frames (inside s e.form tail h (world_view v))) p.world
     ∙ pushed s m.frames.items frames _ (inside s e.form tail h (record w { left = w.left - 1 })) (expression s e tail h w) p.frames
     (node_begins s e tail h w not-float c.if-self-eq0.false))
-    c.enter.ensures
+    c.enter.ensures.meaning

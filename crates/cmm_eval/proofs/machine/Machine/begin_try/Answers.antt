@@ -1,13 +1,13 @@
 use Rattle.std.proofs.Common.{◌≡◌, ℕ, ◌+◌, false, ap, ◌∙◌, ◌*◌, add-one, arith}
-use Rattle.cmm_meaning.specs.State.{World, Here, within_try, taken, deepened}
+use Rattle.cmm_meaning.specs.State.{World, within_try, taken, deepened}
 use Rattle.cmm_meaning.specs.Evaluation.{Evaluation}
 use Rattle.eval_frames.specs.Filled.{expression, resume}
 use Rattle.eval_frames.specs.Views.{here_view, world_view}
 use Rattle.cmm_eval.proofs.Ordered.{sum_is}
 use Rattle.cmm_eval.proofs.machine.Machine.begin_try.Goals as goal
 
-pub returns : goal.returns
-returns c s =
+pub returns-clause-meaning : goal.returns-clause-meaning
+returns-clause-meaning c s =
     let m = c.args.self.now in
     let h = here_view m.here in
     let w = world_view m.world in

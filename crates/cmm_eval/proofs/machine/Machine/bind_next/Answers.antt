@@ -6,8 +6,8 @@ use Rattle.cmm_eval.proofs.Resumed.{stands_pushed_at}
 use Rattle.eval_frames.proofs.Listed.{bindings_first}
 use Rattle.cmm_eval.proofs.machine.Machine.bind_next.Goals as goal
 
-pub returns-in_ok-push-in-Some : goal.returns-in_ok-push-in-Some
-returns-in_ok-push-in-Some c s =
+pub returns-in_ok-push-in-Some-clause-meaning : goal.returns-in_ok-push-in-Some-clause-meaning
+returns-in_ok-push-in-Some-clause-meaning c s =
     let p = c.in_ok-push-in-Some.ensures in
     let b = c.in-Some.binding.now in
     stands_pushed_at s c.args.self.now c.push.new.self (record { form = c.args.form; tail = c.args.tail; step = step.Bindings c.args.bindings })

@@ -7,8 +7,8 @@ use Rattle.eval_frames.specs.declared.frame.Step.TheVariants as step
 use Rattle.cmm_eval.proofs.Resumed.{stands_pushed}
 use Rattle.cmm_eval.proofs.machine.Machine.body.Goals as goal
 
-pub returns-in_ok-push-in-Let : goal.returns-in_ok-push-in-Let
-returns-in_ok-push-in-Let c s =
+pub returns-in_ok-push-in-Let-clause-meaning : goal.returns-in_ok-push-in-Let-clause-meaning
+returns-in_ok-push-in-Let-clause-meaning c s =
     let p = c.in_ok-push-in-Let.ensures in
     let tail = c.args.tail in
     let level = c.args.level in

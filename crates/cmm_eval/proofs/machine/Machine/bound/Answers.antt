@@ -8,8 +8,8 @@ use Rattle.eval_frames.specs.declared.frame.Now.{Now}
 use Rattle.cmm_eval.proofs.Ended.{if_ok_then, first_is_bound}
 use Rattle.cmm_eval.proofs.machine.Machine.bound.Goals as goal
 
-pub returns-in-Some-2 : goal.returns-in-Some-2
-returns-in-Some-2 c =
+pub returns-in-Some-2-clause-meaning : goal.returns-in-Some-2-clause-meaning
+returns-in-Some-2-clause-meaning c =
     let s = around_view c.args.around.now in
     let m = c.args.self.now in
     let here = here_view c.bind_value.new.here in
@@ -21,8 +21,8 @@ returns-in-Some-2 c =
     ∙ first_is_bound s c.args.around.now.end c.args.bindings.now c.in-Some.binding.now rest c.args.value (here_view m.here) here w c.in_ok-kind-in-Some.field-0
     c.in-Some.ensures.cases.0 c.requires.end c.in_ok-kind-in-Some.ensures)
 
-pub returns-in-None-2 : goal.returns-in-None-2
-returns-in-None-2 c =
+pub returns-in-None-2-clause-meaning : goal.returns-in-None-2-clause-meaning
+returns-in-None-2-clause-meaning c =
     let s = around_view c.args.around.now in
     let m = c.args.self.now in
     let here = here_view c.bind_value.new.here in
@@ -32,4 +32,4 @@ returns-in-None-2 c =
     ∙ ap (resume s m.frames.items)
     (sym (ap (λ (k : Option Kind). or_improper k w (bindings_from s rest here w)) c.in-None-2.is)
     ∙ first_is_bound s c.args.around.now.end c.args.bindings.now c.in-Some.binding.now rest c.args.value (here_view m.here) here w c.in_ok-kind-in-Some.field-0
-    c.in-Some.ensures.cases.0 c.requires.end c.in_ok-kind-in-Some.ensures)) c.bind_next.ensures
+    c.in-Some.ensures.cases.0 c.requires.end c.in_ok-kind-in-Some.ensures)) c.bind_next.ensures.meaning

@@ -11,8 +11,8 @@ use Rattle.cmm_eval.proofs.Called.{call_is}
 use Rattle.cmm_eval.proofs.Ended.{if_ok_then}
 use Rattle.cmm_eval.proofs.machine.Machine.call_outside.Goals as goal
 
-pub returns-then-frame : goal.returns-then-frame
-returns-then-frame c =
+pub returns-then-frame-clause-meaning : goal.returns-then-frame-clause-meaning
+returns-then-frame-clause-meaning c =
     let a = c.args.around.now in
     let s = around_view a in
     let m = c.args.self.now in
@@ -29,10 +29,10 @@ returns-then-frame c =
     ∙ ap (resume s m.frames.items)
     (ap (λ (end : ℕ). ended true end (call_view call)) c.requires.end
     ∙ ap (λ (k : Made). ended true s.end k) is
-    ∙ ap (λ (b : Bool). ended b s.end seen) (sym c.if-frame.true))) c.frame_call.ensures
+    ∙ ap (λ (b : Bool). ended b s.end seen) (sym c.if-frame.true))) c.frame_call.ensures.meaning
 
-pub returns-else-frame : goal.returns-else-frame
-returns-else-frame c =
+pub returns-else-frame-clause-meaning : goal.returns-else-frame-clause-meaning
+returns-else-frame-clause-meaning c =
     let a = c.args.around.now in
     let s = around_view a in
     let m = c.args.self.now in
@@ -48,4 +48,4 @@ returns-else-frame c =
     if_ok_then _ _ c.plain_call.result (λ now p. p s s.end
     ∙ ap (resume s m.frames.items)
     (ap (λ (k : Made). ended false s.end k) is
-    ∙ ap (λ (b : Bool). ended b s.end seen) (sym c.if-frame.false))) c.plain_call.ensures
+    ∙ ap (λ (b : Bool). ended b s.end seen) (sym c.if-frame.false))) c.plain_call.ensures.meaning

@@ -5,8 +5,8 @@ use Rattle.eval_frames.specs.Views.{here_view, world_view}
 use Rattle.cmm_eval.proofs.Resumed.{stands_pushed_at}
 use Rattle.cmm_eval.proofs.machine.Machine.callee.Goals as goal
 
-pub returns-in_ok-push-in-Some : goal.returns-in_ok-push-in-Some
-returns-in_ok-push-in-Some c =
+pub returns-in_ok-push-in-Some-clause-meaning : goal.returns-in_ok-push-in-Some-clause-meaning
+returns-in_ok-push-in-Some-clause-meaning c =
     let s = around_view c.args.around.now in
     let m = c.args.self.now in
     let p = c.in_ok-push-in-Some.ensures in

@@ -6,8 +6,8 @@ use Rattle.cmm_eval.proofs.Resumed.{stands_pushed_at}
 use Rattle.eval_frames.proofs.Listed.{elements_first}
 use Rattle.cmm_eval.proofs.machine.Machine.elements.Goals as goal
 
-pub returns-in_ok-push-in-Some : goal.returns-in_ok-push-in-Some
-returns-in_ok-push-in-Some c s =
+pub returns-in_ok-push-in-Some-clause-meaning : goal.returns-in_ok-push-in-Some-clause-meaning
+returns-in_ok-push-in-Some-clause-meaning c s =
     let p = c.in_ok-push-in-Some.ensures in
     let m = c.args.self.now in
     let rest = c.in-Some.rest.now in

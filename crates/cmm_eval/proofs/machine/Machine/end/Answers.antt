@@ -6,8 +6,8 @@ use Rattle.eval_frames.specs.declared.frame.Now.{Now}
 use Rattle.cmm_eval.proofs.Resumed.{does_stops}
 use Rattle.cmm_eval.proofs.machine.Machine.end.Goals as goal
 
-pub returns-in-Stops : goal.returns-in-Stops
-returns-in-Stops c =
+pub returns-in-Stops-clause-meaning : goal.returns-in-Stops-clause-meaning
+returns-in-Stops-clause-meaning c =
     let s = around_view c.args.around.now in
     let m = c.args.self.now in
     let f = c.args.frame in

@@ -11,8 +11,8 @@ use Rattle.cmm_eval.proofs.Ended.{if_ok_then}
 use Rattle.cmm_eval.proofs.Operands.{row_waits}
 use Rattle.cmm_eval.proofs.machine.Machine.enter.Goals as goal
 
-pub returns-in-Row : goal.returns-in-Row
-returns-in-Row c =
+pub returns-in-Row-clause-meaning : goal.returns-in-Row-clause-meaning
+returns-in-Row-clause-meaning c =
     let a = c.args.around.now in
     let s = around_view a in
     let m = c.args.self.now in
@@ -28,4 +28,4 @@ returns-in-Row c =
     (ap (λ (l : List Expr). waits_for s f tail (reverse l) (reverse c.new.result.items) h w) c.operands_of.ensures
     ∙ ap (λ (l : List (Option Value)). waits_for s f tail (reverse (operands_of f)) (reverse l) h w) c.new.ensures.items
     ∙ row_waits s f tail h w (sym c.in-Row.ensures)))
-    c.wait.ensures
+    c.wait.ensures.meaning

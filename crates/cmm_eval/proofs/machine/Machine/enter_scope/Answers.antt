@@ -12,8 +12,8 @@ use Rattle.eval_frames.proofs.Listed.{let_is}
 use Rattle.cmm_eval.proofs.Ended.{if_ok_then, bounds_count}
 use Rattle.cmm_eval.proofs.machine.Machine.enter_scope.Goals as goal
 
-pub returns-in_ok-push-in-Let : goal.returns-in_ok-push-in-Let
-returns-in_ok-push-in-Let c =
+pub returns-in_ok-push-in-Let-clause-meaning : goal.returns-in_ok-push-in-Let-clause-meaning
+returns-in_ok-push-in-Let-clause-meaning c =
     let p = c.in_ok-push-in-Let.ensures in
     let m = c.args.self.now in
     let tail = c.args.tail in
@@ -30,10 +30,10 @@ returns-in_ok-push-in-Let c =
     (ap (λ l. and_then (bindings_from s l h w) (λ _ h w. body_of s c.args.form.now tail level m.here.tries h w)) c.as_slice.ensures.value
     ∙ ap (λ n. and_then (bindings_from s v.items h w) (λ _ h w. body_of s c.args.form.now tail n m.here.tries h w)) level_is
     ∙ subst (λ (f : Form). and_then (bindings_from s v.items h w) (λ _ i w. body_of s f tail (length h.names) h.tries i w) ≡ inside s f tail h w) (sym c.in-Let.is)
-    (sym (let_is s v b tail h w)))) c.bind_next.ensures
+    (sym (let_is s v b tail h w)))) c.bind_next.ensures.meaning
 
-pub returns-in_ok-push-in-Catch : goal.returns-in_ok-push-in-Catch
-returns-in_ok-push-in-Catch c s =
+pub returns-in_ok-push-in-Catch-clause-meaning : goal.returns-in_ok-push-in-Catch-clause-meaning
+returns-in_ok-push-in-Catch-clause-meaning c s =
     let p = c.in_ok-push-in-Catch.ensures in
     let m = c.args.self.now in
     let f = c.args.form.now in
@@ -55,8 +55,8 @@ returns-in_ok-push-in-Catch c s =
     ∙ subst (λ (f : Form). caught s.end (suc w.left) false (handlers_of s f tail) (length h.names) tries (expression s body tail h w) ≡ inside s f tail h w)
     (sym c.in-Catch.is) refl)
 
-pub returns-in_ok-push-in-Try : goal.returns-in_ok-push-in-Try
-returns-in_ok-push-in-Try c =
+pub returns-in_ok-push-in-Try-clause-meaning : goal.returns-in_ok-push-in-Try-clause-meaning
+returns-in_ok-push-in-Try-clause-meaning c =
     let p = c.in_ok-push-in-Try.ensures in
     let m = c.args.self.now in
     let n = c.push-in-Try.new.self in
@@ -76,4 +76,4 @@ returns-in_ok-push-in-Try c =
     (ap (λ (e : Expr). tried (handler_of s f tail) level tries (begun s e h w)) c.deref-in-Try.ensures
     ∙ ap (λ k. tried (handler_of s f tail) k tries (begun s body h w)) level_is
     ∙ subst (λ (f : Form). tried (handler_of s f tail) (length h.names) tries (begun s body h w) ≡ inside s f tail h w)
-    (sym c.in-Try.is) refl)) c.begin_try.ensures
+    (sym c.in-Try.is) refl)) c.begin_try.ensures.meaning

@@ -33,8 +33,8 @@ loop-left-preserved c =
           ∙ c.loop-left.invariant.rest s h w;
     }
 
-pub returns-in-None : goal.returns-in-None
-returns-in-None c =
+pub returns-in-None-clause-meaning : goal.returns-in-None-clause-meaning
+returns-in-None-clause-meaning c =
     let s = around_view c.args.around.now in
     let xs = c.args.row.operands.now in
     let left = c.loop-left.left in

@@ -4,8 +4,8 @@ use Rattle.eval_frames.specs.Views.{here_view, world_view, call_view}
 use Rattle.cmm_eval.proofs.Called.{calls_more, frame_taken}
 use Rattle.cmm_eval.proofs.machine.Machine.frame_call.Goals as goal
 
-pub returns : goal.returns
-returns c s =
+pub returns-clause-meaning : goal.returns-clause-meaning
+returns-clause-meaning c s =
     let m = c.args.self.now in
     let h = here_view m.here in
     let call = call_view c.args.call in

@@ -13,8 +13,8 @@ use Rattle.cmm_eval.proofs.Turns.{pushed}
 use Rattle.cmm_eval.proofs.Leaving.{none_of, misfits, handler_begins}
 use Rattle.cmm_eval.proofs.machine.Machine.leave.Goals as goal
 
-pub returns-in-Some-first_misfit : goal.returns-in-Some-first_misfit
-returns-in-Some-first_misfit c =
+pub returns-in-Some-first_misfit-clause-meaning : goal.returns-in-Some-first_misfit-clause-meaning
+returns-in-Some-first_misfit-clause-meaning c =
     let s = around_view c.args.around.now in
     let m = c.args.self.now in
     let f = c.args.frame.form.now in
@@ -41,8 +41,8 @@ returns-in-Some-first_misfit c =
     (misfits s f tail within c.in-Catch.turns c.in-Catch.level c.in-Catch.tries label values h w c.if-turns-eq0.false x kind ready enters
     ∙ ap (λ st. does s st f tail (Exits label values h w)) (sym c.in-Catch.is))
 
-pub returns-in-Catch : goal.returns-in-Catch
-returns-in-Catch c =
+pub returns-in-Catch-clause-meaning : goal.returns-in-Catch-clause-meaning
+returns-in-Catch-clause-meaning c =
     let s = around_view c.args.around.now in
     let m = c.args.self.now in
     let f = c.args.frame.form.now in

@@ -7,8 +7,8 @@ use Rattle.eval_frames.specs.declared.frame.Step.TheVariants as step
 use Rattle.cmm_eval.proofs.Resumed.{stands_pushed_at}
 use Rattle.cmm_eval.proofs.machine.Machine.operand.Goals as goal
 
-pub returns : goal.returns
-returns c =
+pub returns-clause-meaning : goal.returns-clause-meaning
+returns-clause-meaning c =
     let p = c.in_ok-push.ensures in
     let s = around_view c.args.around.now in
     let m = c.args.self.now in

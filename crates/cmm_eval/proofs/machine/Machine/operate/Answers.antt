@@ -7,8 +7,8 @@ use Rattle.cmm_eval.proofs.Resumed.{stands_pushed}
 use Rattle.cmm_eval.proofs.Ended.{late_callee}
 use Rattle.cmm_eval.proofs.machine.Machine.operate.Goals as goal
 
-pub returns-in-App : goal.returns-in-App
-returns-in-App c =
+pub returns-in-App-clause-meaning : goal.returns-in-App-clause-meaning
+returns-in-App-clause-meaning c =
     let s = around_view c.args.around.now in
     let p = c.in_ok-push-in-None.ensures in
     let form = c.args.form in

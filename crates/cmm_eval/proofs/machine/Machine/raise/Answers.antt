@@ -10,8 +10,8 @@ use Rattle.eval_frames.specs.declared.world.World as world
 use Rattle.cmm_eval.proofs.Ended.{bounds_count, raised, raise_passes, try_handles}
 use Rattle.cmm_eval.proofs.machine.Machine.raise.Goals as goal
 
-pub returns-in-Try-form : goal.returns-in-Try-form
-returns-in-Try-form c s =
+pub returns-in-Try-form-clause-meaning : goal.returns-in-Try-form-clause-meaning
+returns-in-Try-form-clause-meaning c s =
     let m = c.args.self.now in
     let form = c.args.frame.form in
     let tail = c.args.frame.tail in
@@ -48,8 +48,8 @@ IsPassed (step.Catch within turns level tries) = Unit {0}
 IsPassed (step.Try level tries) = ⊥
 IsPassed (step.Return here tests) = ⊥
 
-pub returns : goal.returns
-returns c s =
+pub returns-clause-meaning : goal.returns-clause-meaning
+returns-clause-meaning c s =
     let m = c.args.self.now in
     let passed : IsPassed c.args.frame.step =
     elim c.in-Typed.is [

@@ -6,8 +6,8 @@ use Rattle.cmm_eval.proofs.Resumed.{stands_pushed}
 use Rattle.cmm_eval.proofs.Ended.{second_begins}
 use Rattle.cmm_eval.proofs.machine.Machine.second.Goals as goal
 
-pub returns : goal.returns
-returns c s =
+pub returns-clause-meaning : goal.returns-clause-meaning
+returns-clause-meaning c s =
     let p = c.in_ok-push.ensures in
     let first = c.args.first in
     let left_first = c.args.left_first in

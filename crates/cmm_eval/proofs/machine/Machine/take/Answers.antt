@@ -12,8 +12,8 @@ use Rattle.eval_frames.specs.declared.frame.Now.{Now}
 use Rattle.cmm_eval.proofs.Ended.{switch_chooses}
 use Rattle.cmm_eval.proofs.machine.Machine.take.Goals as goal
 
-pub returns-in-Some : goal.returns-in-Some
-returns-in-Some c =
+pub returns-in-Some-clause-meaning : goal.returns-in-Some-clause-meaning
+returns-in-Some-clause-meaning c =
     let s = around_view c.args.around.now in
     let m = c.args.self.now in
     let h = here_view m.here in
@@ -28,8 +28,8 @@ returns-in-Some c =
     ∙ ap (λ (l : List Case). chosen (case_for (cases_ready s tail l) k) h w) (sym c.as_slice.ensures.value)
     ∙ ap (λ o. chosen o h w) (sym (c.in-Some.ensures s tail))))
 
-pub returns-in-None : goal.returns-in-None
-returns-in-None c =
+pub returns-in-None-clause-meaning : goal.returns-in-None-clause-meaning
+returns-in-None-clause-meaning c =
     let a = c.args.around.now in
     let s = around_view a in
     let m = c.args.self.now in

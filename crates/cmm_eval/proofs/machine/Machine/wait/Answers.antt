@@ -32,8 +32,8 @@ loop-left-preserved c =
           ∙ c.loop-left.invariant.rest s w;
     }
 
-pub returns-then-not-is_light_address : goal.returns-then-not-is_light_address
-returns-then-not-is_light_address c =
+pub returns-then-not-is_light_address-clause-meaning : goal.returns-then-not-is_light_address-clause-meaning
+returns-then-not-is_light_address-clause-meaning c =
     let s = around_view c.args.around.now in
     let f = c.args.form.now in
     let tail = c.args.tail in
