@@ -19,7 +19,7 @@ use std::alloc::{AllocError, Global};
 
 /// What is reported of the run of a call with so much fuel: its outcome, and what it needs of stack, heap and fuel. The
 /// frames and addresses of the file's functions are handed in. The error is want of
-/// memory; a stack or a heap of 2^64 bytes or more, and more than 2^64 turns, are answered so too.
+/// memory; a stack or a heap of 2^64 bytes or more is answered so too.
 pub fn report_of_run(
     alloc: Global,
     file: &File,
@@ -49,8 +49,7 @@ pub fn report_of_run(
 }
 
 /// The outcome of the run of a call with so much fuel. The frames and addresses of the file's functions are handed in.
-/// The error is want of memory; a stack or a heap of 2^64 bytes or more, and more than 2^64 turns, are
-/// answered so too.
+/// The error is want of memory; a stack or a heap of 2^64 bytes or more is answered so too.
 pub fn outcome_of_run(
     alloc: Global,
     file: &File,
