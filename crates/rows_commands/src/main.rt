@@ -5,13 +5,13 @@
 #![tactic(auto)]
 
 mod answers;
+mod left;
 mod subject;
 
 use answers::Answers;
 use anyhow::Result;
-use rows_code::Tables;
+use left::Left;
 use rows_lines::Table;
-use rows_meanings::Meanings;
 use rows_top::called::Called;
 use std::io::{self, BufRead, BufReader, BufWriter, Write};
 use subject::Subject;
@@ -21,32 +21,20 @@ fn main(rt: HostRuntime) -> Result<()> {
     let top = Called { alloc };
     let mut subject = Subject::Answers(Answers::Commands);
     let mut table = Table::new(&rt, &top, alloc);
-    let mut image = Vec::new(alloc);
-    let mut code = Tables::new(alloc);
-    let mut meanings = Meanings::new(alloc);
+    let mut left = Left::new(alloc);
     let mut out = BufWriter::new(alloc, rt.stdout())?;
     for line in BufReader::new(alloc, rt.stdin())?.lines(alloc) {
         let line = line?;
         match line.as_str().strip_prefix("= ") {
             Some(name) => {
-                code.end(&mut out)?;
+                left.end(&mut out)?;
                 subject = Subject::of(name)?;
                 table = Table::new(&rt, &top, alloc);
             }
-            None => {
-                let row = line.as_str();
-                match subject {
-                    Subject::Code(of) => code.add(&rt, &mut out, of, row)?,
-                    Subject::Meanings => out.write_all(meanings.said_to(row)?.as_slice())?,
-                    Subject::Answers(answers) => {
-                        let said = answers.said_to(&mut table, &mut image, row)?;
-                        out.write_all(said.as_slice())?;
-                    }
-                }
-            }
+            None => left.take(&rt, &mut table, &mut out, subject, line.as_str())?,
         }
     }
-    code.end(&mut out)?;
+    left.end(&mut out)?;
     out.flush()?;
     Ok(())
 }
