@@ -9,5 +9,8 @@ pub enum Plan<'a> {
     /// A start for each block, by serial.
     Starts(&'a [u64]),
     /// The plan that is drawn from a word of the generator.
-    Drawn { word: u64 },
+    Drawn {
+        /// The word from which the new starts are drawn.
+        word: u64,
+    },
 }

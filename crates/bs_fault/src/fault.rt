@@ -11,49 +11,123 @@ use thiserror::Error;
 #[derive(Clone, Copy, Debug)]
 pub enum Fault {
     /// F1: the text has more than 16,777,216 bytes.
-    TooLong { at: u32 },
+    TooLong {
+        /// The place of the first byte that is too many: 16,777,216.
+        at: u32,
+    },
     /// F2: no token begins here, or a backslash begins no escape.
-    BadToken { at: u32 },
+    BadToken {
+        /// The place of that byte, or of the backslash, in bytes from the start of the text.
+        at: u32,
+    },
     /// F3: a string, a comment or a brace is not closed.
-    Unclosed { at: u32 },
+    Unclosed {
+        /// The place of its opening byte, in bytes from the start of the text.
+        at: u32,
+    },
     /// F4: the grammar allows no such token here, or the text ends inside a form.
-    Unexpected { at: u32 },
+    Unexpected {
+        /// The place of the token, in bytes from the start of the text; where the text ends, its
+        /// length.
+        at: u32,
+    },
     /// F5: parentheses nest deeper than 250.
-    TooDeep { at: u32 },
+    TooDeep {
+        /// The place of the `(` of level 251, in bytes from the start of the text.
+        at: u32,
+    },
     /// F6: an integer is out of range.
-    IntRange { at: u32 },
+    IntRange {
+        /// The place of the integer, in bytes from the start of the text.
+        at: u32,
+    },
     /// F7: more than 16 parameters or arguments. It is at the seventeenth.
-    TooManyParams { at: u32 },
+    TooManyParams {
+        /// The place of the seventeenth, in bytes from the start of the text.
+        at: u32,
+    },
     /// F8: a function has more than 32,000 tokens.
-    FunctionTooLong { at: u32 },
+    FunctionTooLong {
+        /// The place of the function's `(`, in bytes from the start of the text.
+        at: u32,
+    },
     /// F9: the static data passes 16,777,216 bytes.
-    DataTooLarge { at: u32 },
+    DataTooLarge {
+        /// The place of the item that passes it, in bytes from the start of the text.
+        at: u32,
+    },
     /// F10: an item of static data breaks its rule.
-    DataItem { at: u32 },
+    DataItem {
+        /// The place of the item, in bytes from the start of the text.
+        at: u32,
+    },
     /// F11: a name is not bound.
-    Unbound { at: u32 },
+    Unbound {
+        /// The place of the name, in bytes from the start of the text.
+        at: u32,
+    },
     /// F12: a symbol is not defined.
-    UnknownSymbol { at: u32 },
+    UnknownSymbol {
+        /// The place of the symbol's string, in bytes from the start of the text.
+        at: u32,
+    },
     /// F13: a symbol, or a label of one catch, is defined twice.
-    DuplicateSymbol { at: u32 },
+    DuplicateSymbol {
+        /// The place of the second definition, in bytes from the start of the text.
+        at: u32,
+    },
     /// F14: another number of arguments than parameters.
-    Arity { at: u32 },
+    Arity {
+        /// The place of the `(` of the call, or of the exit, in bytes from the start of the text.
+        at: u32,
+    },
     /// F15: an expression without a value is where a value is taken.
-    NoValue { at: u32 },
+    NoValue {
+        /// The place of the expression's first byte, in bytes from the start of the text.
+        at: u32,
+    },
     /// F16: an assignment to a name that is not mutable.
-    NotMutable { at: u32 },
+    NotMutable {
+        /// The place of the name, in bytes from the start of the text.
+        at: u32,
+    },
     /// F17: the header of an allocation does not fit its block.
-    AllocHeader { at: u32 },
+    AllocHeader {
+        /// The place of the header, in bytes from the start of the text.
+        at: u32,
+    },
     /// F18: no visible handler has this label.
-    UnknownLabel { at: u32 },
+    UnknownLabel {
+        /// The place of the label, or of an exit without one, in bytes from the start of the text.
+        at: u32,
+    },
     /// F19: a float.
-    Float { at: u32 },
+    Float {
+        /// The place of the token that is of floats, in bytes from the start of the text.
+        at: u32,
+    },
     /// F20: an address that is used after a frame point it was bound before.
-    AddrLive { bound: u32, point: u32, used: u32 },
+    AddrLive {
+        /// The place of the bound name, of the operand, or of the `(` of an assign, in bytes from
+        /// the start of the text.
+        bound: u32,
+        /// The place of the frame point's `(`, in bytes from the start of the text.
+        point: u32,
+        /// The place of the name, or of the `(` that takes the operand, in bytes from the start of
+        /// the text.
+        used: u32,
+    },
     /// F21: an argument of an external call, or the body of a function, is an address.
-    AddrArgument { at: u32 },
+    AddrArgument {
+        /// The place of the argument, or of the function's `(`, in bytes from the start of the
+        /// text.
+        at: u32,
+    },
     /// F22: the number of indexes of a switch, or an index.
-    SwitchSize { at: u32 },
+    SwitchSize {
+        /// The place of the integer, in bytes from the start of the text.
+        at: u32,
+    },
 }
 
 /// Why a text was not accepted.

@@ -8,7 +8,12 @@ pub enum Value {
     /// A word of 64 bits. Addresses of static data are words.
     Word(u64),
     /// The address `offset` bytes after the start of the block that was allocated as number `serial`.
-    Block { serial: u64, offset: u64 },
+    Block {
+        /// The number of the block in the order of allocation, from 0 on.
+        serial: u64,
+        /// The bytes from the start of the block to the address.
+        offset: u64,
+    },
     /// The function of the file of that number, in the order of the text.
     Function(u32),
 }

@@ -36,7 +36,13 @@ fn range_fault(at: u32, kind: TokenKind, text: &[u8]) -> Option<Fault>
             None => Some(Fault::IntRange { at }),
             Some(_) => None,
         },
-        _ => None,
+        TokenKind::Name
+        | TokenKind::Float
+        | TokenKind::String
+        | TokenKind::Keyword(_)
+        | TokenKind::Operator(_)
+        | TokenKind::FloatOperator
+        | TokenKind::Sign(_) => None,
     }
 }
 

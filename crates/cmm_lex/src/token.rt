@@ -124,7 +124,7 @@ pub enum Keyword {
     While,
     /// `catch`: a body with handlers for exits.
     Catch,
-    /// `with`: what stands before the handlers of a `catch` or a `try`.
+    /// `with`: what comes before the handlers of a `catch` or a `try`.
     With,
     /// `exit`: an exit to a handler.
     Exit,

@@ -11,10 +11,16 @@ use thiserror::Error;
 pub enum Stop {
     /// No text goes on with this token, or ends here.
     #[error("no text goes on so")]
-    Unexpected { left: usize },
+    Unexpected {
+        /// The tokens that are left, this one counted; 0 where the text ends.
+        left: usize,
+    },
     /// This parenthesis is one level too deep.
     #[error("parentheses nest too deep")]
-    TooDeep { left: usize },
+    TooDeep {
+        /// The tokens that are left, this parenthesis counted.
+        left: usize,
+    },
     /// Memory was wanted and not there.
     #[error("out of memory")]
     OutOfMemory,

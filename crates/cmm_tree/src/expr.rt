@@ -33,15 +33,20 @@ pub enum Form {
     /// What computes with floats: a literal, an operator, or an access of memory. It is read, and refused
     /// as a fault at its word.
     Float {
+        /// The place of the literal, operator or chunk, in bytes from the start of the text.
         word_at: u32,
+        /// The operands, in the order of the text.
         operands: Vec<Expr>,
     },
     /// Bindings, one after the other, and what is evaluated in their scope.
     Let(Vec<Binding>, Box<Expr>),
     /// A new value for a mutable name.
     Assign {
+        /// The place of the name, in bytes from the start of the text.
         name_at: u32,
+        /// The mutable name.
         name: Name,
+        /// The expression whose value it gets.
         value: Box<Expr>,
     },
     /// An operator on two operands, the left one first.
@@ -52,24 +57,36 @@ pub enum Form {
     Store(Chunk, Box<Expr>, Box<Expr>),
     /// A new block with this header and the values of its cells.
     Alloc {
+        /// The place of the header, in bytes from the start of the text.
         header_at: u32,
+        /// The header of the block, a word of 64 bits.
         header: u64,
+        /// The expressions whose values its cells get, the first cell first.
         operands: Vec<Expr>,
     },
     /// A call of the function that the first expression gives.
     App {
+        /// The expression that gives the function.
         callee: Box<Expr>,
+        /// The arguments, in the order of the text.
         arguments: Vec<Expr>,
+        /// The result that the call is written with.
         result: Ret,
+        /// The place of the written result, in bytes from the start of the text.
         result_at: u32,
     },
     /// A call of what lies outside the file, by its name. A frame call, marked by `frame`, is one at
     /// which the mover may move every block, and which may raise.
     Extcall {
+        /// Whether it is a frame call.
         frame: bool,
+        /// The symbol that is called.
         name: Name,
+        /// The arguments, in the order of the text.
         arguments: Vec<Expr>,
+        /// The result that the call is written with.
         result: Ret,
+        /// The place of the written result, in bytes from the start of the text.
         result_at: u32,
     },
     /// A test that raises where the index, the second, is not below the bound.
@@ -82,24 +99,36 @@ pub enum Form {
     If(Box<Expr>, Box<Expr>, Box<Expr>),
     /// A choice by a number below `size`.
     Switch {
+        /// The place of the size, in bytes from the start of the text.
         size_at: u32,
+        /// The number of its indexes, which begin at 0. In a file without a fault it is 1 to 4,096.
         size: u64,
+        /// The expression whose value is the index.
         selector: Box<Expr>,
+        /// The cases, in the order of the text.
         cases: Vec<Case>,
     },
     /// A body, and handlers to which an exit may leave.
     Catch(Box<Expr>, Vec<Handler>),
     /// An exit to the handler of that label.
     Exit {
+        /// The place of the label, in bytes from the start of the text. An exit without one has its
+        /// own place here.
         label_at: u32,
+        /// The label of the handler.
         label: Label,
+        /// The expressions whose values the handler's parameters get, in the order of the text.
         arguments: Vec<Expr>,
     },
     /// A body, and what handles a raise out of it.
     Try {
+        /// What is evaluated first.
         body: Box<Expr>,
+        /// The place of the name, in bytes from the start of the text.
         name_at: u32,
+        /// The name that the raised value is bound to.
         name: Name,
+        /// What is evaluated after a raise out of the body.
         handler: Box<Expr>,
     },
 }

@@ -83,8 +83,11 @@ pub enum Datum {
     Val(Option<u64>),
     /// The address of a symbol, whose string is at `name_at`. It is a root where it is written as a `val`.
     Address {
+        /// Whether it is a root.
         root: bool,
+        /// The place of the symbol's string, in bytes from the start of the text.
         name_at: u32,
+        /// The symbol.
         name: Name,
     },
     /// That many zero bytes.
@@ -95,7 +98,9 @@ pub enum Datum {
     Text(List<u8>),
     /// A symbol that must be defined. It changes nothing.
     Global {
+        /// The place of the symbol's string, in bytes from the start of the text.
         name_at: u32,
+        /// The symbol.
         name: Name,
     },
     /// A float. It is read, and refused as a fault.

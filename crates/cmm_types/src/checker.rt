@@ -118,9 +118,32 @@ impl Checker {
         ensures found { self.new.found ≡ noted_all (call_faults (definition_of symbols.now)
             (expr_view callee.now) at arguments) self.old.found }
     {
-        if let Form::Symbol(name) = &callee.form {
-            let parameters = symbols.parameters(name);
-            self.note_arity(parameters, at, arguments);
+        match &callee.form {
+            Form::Symbol(name) => {
+                let parameters = symbols.parameters(name);
+                self.note_arity(parameters, at, arguments);
+            }
+            Form::Integer(_)
+            | Form::Pointer(_)
+            | Form::Name(_)
+            | Form::Nothing
+            | Form::Float { .. }
+            | Form::Let(_, _)
+            | Form::Assign { .. }
+            | Form::Operator(_, _, _)
+            | Form::Load(_, _)
+            | Form::Store(_, _, _)
+            | Form::Alloc { .. }
+            | Form::App { .. }
+            | Form::Extcall { .. }
+            | Form::Checkbound(_, _)
+            | Form::Raise(_)
+            | Form::Seq(_)
+            | Form::If(_, _, _)
+            | Form::Switch { .. }
+            | Form::Catch(_, _)
+            | Form::Exit { .. }
+            | Form::Try { .. } => {}
         }
     }
 

@@ -37,18 +37,23 @@ pub enum Step<'a> {
     Typed(Ty),
     /// The last part: the scope before it comes back.
     Scope {
+        /// How many names are in the scope that comes back.
         level: usize,
+        /// How many tries are entered and not left once it is back.
         tries: u64,
     },
     /// The only operand.
     Operand,
     /// The first of two operands.
     First {
+        /// Whether it is the left one, and not the right one.
         left_first: bool,
     },
     /// The second of two operands.
     Second {
+        /// The value of the operand that was evaluated first.
         first: Value,
+        /// Whether that was the left one, and not the right one.
         left_first: bool,
     },
     /// The element before these of a sequence.
@@ -57,43 +62,59 @@ pub enum Step<'a> {
     Bindings(&'a [Binding]),
     /// The bindings of a let; the scope is the one before them.
     Bound {
+        /// How many names are in scope before the let.
         level: usize,
+        /// How many tries are entered and not left before the let.
         tries: u64,
     },
     /// The operand to the right of these; the values of those further right, last to first.
     Waiting {
+        /// The operands to the left of it.
         rest: &'a [Expr],
+        /// The values of the operands to the right of it; those that wait have none.
         values: Vec<Option<Value>>,
     },
     /// The callee, after the arguments that did not wait, last to first.
     Callee {
+        /// What the arguments have come to, first to last: those that wait have no value.
         waited: Vec<Option<Value>>,
     },
     /// An operand that has waited, between those of the row that are left and their values.
     Filling {
+        /// The value of the callee, or none where it waits or there is no callee.
         callee: Option<Value>,
+        /// The operands to the left of it, and the values of those to the right of it.
         row: Row<'a>,
     },
     /// The callee, after all arguments, last to first.
     LateCallee {
+        /// The values of the arguments, last to first.
         values: Vec<Value>,
     },
     /// The body of a catch, or one of its handlers.
     Catch {
+        /// Whether it is one of the handlers, and not the body.
         within: bool,
+        /// How many further exits its handlers take; at 0, an exit goes on outwards.
         turns: u64,
+        /// How many names are in scope before the catch.
         level: usize,
+        /// How many tries are entered and not left before the catch.
         tries: u64,
     },
     /// The body of a try.
     Try {
+        /// How many names are in scope before the try.
         level: usize,
+        /// How many tries are entered and not left before the try.
         tries: u64,
     },
     /// The body of a callee. The activation is the one to which it returns, and the tests are those that
     /// its value meets before: of the call, and, after tail calls, of all that they have replaced.
     Return {
+        /// The activation to which it returns.
         here: Here<'a>,
+        /// The tests that its value meets on the way there.
         tests: Tests,
     },
 }
@@ -103,14 +124,18 @@ pub enum Step<'a> {
 pub enum Now<'a> {
     /// An expression begins.
     Begins {
+        /// The expression.
         expr: &'a Expr,
+        /// Whether it is in tail position.
         tail: bool,
     },
     /// It gave a value, or none.
     Gives(Option<Value>),
     /// It left to a handler of a catch.
     Exits {
+        /// The label of the handler.
         label: &'a Label,
+        /// The values of the arguments of the exit, first to last.
         values: Vec<Value>,
     },
     /// It raised a value.

@@ -22,7 +22,12 @@ pub enum Flow {
     /// A jump that is an exit of the text: it costs a unit.
     Exit(Label),
     /// To the label where the test holds, else on.
-    Branch { test: Test, label: Label },
+    Branch {
+        /// What is tested of the operands.
+        test: Test,
+        /// The label to which control goes where the test holds.
+        label: Label,
+    },
     /// For each index from 0 on, its label.
     Switch(Seq<Label>),
     /// Pushes a trap whose handler is at the label.

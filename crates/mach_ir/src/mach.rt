@@ -37,49 +37,65 @@ pub enum Mark {
     /// An exit to the handler that has the label, which ends so many tries. Moves before it have put the
     /// values of the handler's parameters there.
     Exit {
+        /// The label of the handler.
         label: Label,
+        /// The number of tries that it ends, the innermost first.
         tries: u32,
     },
     /// Goes on where the test holds, else at the label `otherwise`.
     If {
+        /// What is tested of the operands.
         test: Test,
+        /// The label to which control goes where the test fails.
         otherwise: Label,
     },
     /// Before what is done where the test fails.
     Else {
+        /// The mark's own label, to which control goes where the test fails.
         label: Label,
+        /// The label of the end of the `if`.
         end: Label,
     },
     /// For each index from 0 on, the label of its case.
     Switch(Seq<Label>),
     /// `indexes` are those for which the switch comes here.
     Case {
+        /// The indexes of this case, counted from 0.
         indexes: Seq<u32>,
+        /// The mark's own label, to which the switch goes for these indexes.
         label: Label,
+        /// The label of the end of the switch.
         end: Label,
     },
     /// Before the body of a catch.
     Catch,
     /// Before a handler of a catch.
     With {
+        /// The mark's own label, to which exits to this handler go.
         label: Label,
+        /// The label of the end of the catch.
         end: Label,
     },
     /// Pushes the trap of its handler.
     Try {
+        /// The label of the handler that a raise goes to.
         handler: Label,
     },
     /// The end of the body of the try with this handler: pops its trap, and goes on at the end.
     Leave {
+        /// The label of the handler whose trap is popped.
         handler: Label,
+        /// The label of the end of the try.
         end: Label,
     },
     /// What is raised comes here. The result is the raised value.
     Handler {
+        /// The mark's own label, to which a raise out of the body goes.
         label: Label,
     },
     /// The end of a structure.
     End {
+        /// The mark's own label, to which the bodies of the structure go on.
         label: Label,
     },
 }

@@ -45,9 +45,19 @@ pub enum Pure {
 #[derive(Clone, Drop)]
 pub enum Access {
     /// From an address.
-    Load { chunk: Chunk, offset: u64 },
+    Load {
+        /// The width of the load, and how it is extended to a word.
+        chunk: Chunk,
+        /// The bytes that are added to the address.
+        offset: u64,
+    },
     /// To an address: the first operand; the second is the value.
-    Store { chunk: Chunk, offset: u64 },
+    Store {
+        /// The width of the store.
+        chunk: Chunk,
+        /// The bytes that are added to the address.
+        offset: u64,
+    },
     /// At least one block, and a result for each. The first gets the next serial, and lies at the
     /// highest address.
     Alloc(Blocks),
@@ -79,11 +89,26 @@ pub struct External {
 #[derive(Clone, Drop)]
 pub enum Calling {
     /// The function goes on after it, with what the callee gives.
-    Call { callee: Callee, result: Ret },
+    Call {
+        /// The function that is called.
+        callee: Callee,
+        /// The result that the call is written with.
+        result: Ret,
+    },
     /// The callee takes the place of this function.
-    TailCall { callee: Callee, result: Ret },
+    TailCall {
+        /// The function that is called.
+        callee: Callee,
+        /// The result that the call is written with.
+        result: Ret,
+    },
     /// With `frame` set it is a frame point, and may raise.
-    External { row: External, frame: bool },
+    External {
+        /// Its name, the components of its arguments, and its result.
+        row: External,
+        /// Whether it is a frame point, and may raise.
+        frame: bool,
+    },
 }
 
 /// What may leave a straight run with no mark.

@@ -22,7 +22,9 @@ pub enum Schedule {
     /// is for the first service that moves, of an allocation or of a frame call, and so on; a plan has a
     /// new start for each block, by serial.
     Lists {
+        /// The numbers of the instructions before which it asks.
         asks: List<u64>,
+        /// The plans, one for each service from the first on. A start is an address in bytes.
         plans: List<List<u64>>,
     },
 }

@@ -166,85 +166,129 @@ pub enum Condition {
 pub enum Instr {
     /// `imm`: the upper 20 bits of a 32-bit number, 0 to 2^20 - 1.
     Lui {
+        /// The number of the register that is written (rd), 0 to 31.
         rd: u8,
+        /// The upper 20 bits (imm) of the 32-bit number that is written, 0 to 2^20 - 1.
         imm: u32,
     },
     /// `imm` as in `Lui`.
     Auipc {
+        /// The number of the register that is written (rd), 0 to 31.
         rd: u8,
+        /// The upper 20 bits (imm) of what is added to the address of this instruction.
         imm: u32,
     },
     /// `offset`: bytes from this instruction, the 21 low bits of a signed number, even.
     Jal {
+        /// The number of the register that gets the address of the next instruction (rd), 0 to 31.
         rd: u8,
+        /// The byte offset of the target (imm), as the 21 low bits of a signed number, even.
         offset: u32,
     },
     /// `imm`: the 12 low bits of a signed number.
     Jalr {
+        /// The number of the register that gets the address of the next instruction (rd), 0 to 31.
         rd: u8,
+        /// The number of the register that has the base address (rs1), 0 to 31.
         rs1: u8,
+        /// The byte offset from the base (imm), as the 12 low bits of a signed number, 0 to 4095.
         imm: u16,
     },
     /// `offset`: bytes from this instruction, the 13 low bits of a signed number, even.
     Branch {
+        /// The condition under which it jumps (funct3).
         condition: Condition,
+        /// The number of the register that is compared, on the left (rs1), 0 to 31.
         rs1: u8,
+        /// The number of the register that is compared, on the right (rs2), 0 to 31.
         rs2: u8,
+        /// The byte offset of the target (imm), as the 13 low bits of a signed number, even.
         offset: u16,
     },
     /// `imm`: the 12 low bits of a signed number.
     Load {
+        /// How many bytes are loaded, and what extends them (funct3).
         width: LoadWidth,
+        /// The number of the register that is written (rd), 0 to 31.
         rd: u8,
+        /// The number of the register that has the base address (rs1), 0 to 31.
         rs1: u8,
+        /// The byte offset from the base (imm), as the 12 low bits of a signed number, 0 to 4095.
         imm: u16,
     },
     /// `rs1` has the address, `rs2` what is stored. `imm`: the 12 low bits of a signed number.
     Store {
+        /// How many bytes are stored (funct3).
         width: StoreWidth,
+        /// The number of the register that has the base address (rs1), 0 to 31.
         rs1: u8,
+        /// The number of the register whose low bytes are stored (rs2), 0 to 31.
         rs2: u8,
+        /// The byte offset from the base (imm), as the 12 low bits of a signed number, 0 to 4095.
         imm: u16,
     },
     /// `imm`: the 12 low bits of a signed number.
     OpImm {
+        /// The operation (funct3).
         op: AluImmOp,
+        /// The number of the register that is written (rd), 0 to 31.
         rd: u8,
+        /// The number of the register that is read (rs1), 0 to 31.
         rs1: u8,
+        /// The second operand (imm), as the 12 low bits of a signed number, 0 to 4095.
         imm: u16,
     },
     /// `amount`: 0 to 63.
     Shift {
+        /// The shift (the upper six bits of the word, and funct3).
         op: ShiftOp,
+        /// The number of the register that is written (rd), 0 to 31.
         rd: u8,
+        /// The number of the register that is shifted (rs1), 0 to 31.
         rs1: u8,
+        /// By how many bits it is shifted (shamt), 0 to 63.
         amount: u8,
     },
     /// `rd` becomes the operation on `rs1` and `rs2`.
     Op {
+        /// The operation (funct7 and funct3).
         op: AluOp,
+        /// The number of the register that is written (rd), 0 to 31.
         rd: u8,
+        /// The number of the register that is read first (rs1), 0 to 31.
         rs1: u8,
+        /// The number of the register that is read second (rs2), 0 to 31.
         rs2: u8,
     },
     /// `imm`: the 12 low bits of a signed number.
     Addiw {
+        /// The number of the register that is written (rd), 0 to 31.
         rd: u8,
+        /// The number of the register whose low 32 bits are read (rs1), 0 to 31.
         rs1: u8,
+        /// What is added (imm), as the 12 low bits of a signed number, 0 to 4095.
         imm: u16,
     },
     /// `amount`: 0 to 31.
     ShiftWord {
+        /// The shift (funct7 and funct3).
         op: ShiftWordOp,
+        /// The number of the register that is written (rd), 0 to 31.
         rd: u8,
+        /// The number of the register whose low 32 bits are shifted (rs1), 0 to 31.
         rs1: u8,
+        /// By how many bits they are shifted (shamt), 0 to 31.
         amount: u8,
     },
     /// `rd` becomes the operation on the low 32 bits of `rs1` and `rs2`.
     OpWord {
+        /// The operation on 32 bits (funct7 and funct3).
         op: AluWordOp,
+        /// The number of the register that is written (rd), 0 to 31.
         rd: u8,
+        /// The number of the register that is read first (rs1), 0 to 31.
         rs1: u8,
+        /// The number of the register that is read second (rs2), 0 to 31.
         rs2: u8,
     },
     /// Asks for a service of the runtime.

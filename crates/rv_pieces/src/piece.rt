@@ -16,9 +16,13 @@ pub enum Piece {
     Label(Label),
     /// To the label where the condition holds of the two registers, else on.
     Branch {
+        /// What has to hold of the two registers.
         condition: Condition,
+        /// The first register, `rs1` of the condition.
         left: Register,
+        /// The second register, `rs2` of the condition.
         right: Register,
+        /// The label to which control goes where the condition holds.
         label: Label,
     },
     /// To the label.
@@ -27,7 +31,9 @@ pub enum Piece {
     Row(Label),
     /// The address of the label's place becomes the register's value. Two words.
     LabelAddress {
+        /// The register that gets the address.
         to: Register,
+        /// The label whose place it is.
         label: Label,
     },
     /// Calls the function of this name: `ra` becomes the address after the two words.
@@ -37,12 +43,16 @@ pub enum Piece {
     /// The value of the symbol becomes the register's value: the address of its data or of the
     /// function. Two words.
     SymbolAddress {
+        /// The register that gets the value.
         to: Register,
+        /// The symbol.
         name: Name,
     },
     /// The number of the external call's row in the image becomes the register's value. Two words.
     ExternalNumber {
+        /// The register that gets the number.
         to: Register,
+        /// The external call whose row it is.
         row: External,
     },
     /// The place is a return address, and this is its descriptor. It takes no words.

@@ -12,11 +12,26 @@ pub enum Step {
     /// No event.
     Quiet,
     /// Something is bound to a slot, at this place: an address or not.
-    Binds { slot: usize, address: bool, at: u32 },
+    Binds {
+        /// The number of the slot, from 0 on.
+        slot: usize,
+        /// Whether what is bound is an address.
+        address: bool,
+        /// The place of what is bound, in bytes from the start of the text.
+        at: u32,
+    },
     /// What is in a slot is used, at this place.
-    Uses { slot: usize, at: u32 },
+    Uses {
+        /// The number of the slot, from 0 on.
+        slot: usize,
+        /// The place of what uses it, in bytes from the start of the text.
+        at: u32,
+    },
     /// A frame point.
-    Passes { at: u32 },
+    Passes {
+        /// The place of the frame point, in bytes from the start of the text.
+        at: u32,
+    },
 }
 
 /// The nodes that may come next, by number. Most nodes have one or two, which need no memory of their own.
