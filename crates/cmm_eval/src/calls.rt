@@ -150,18 +150,6 @@ impl<'a> Machine<'a> {
         self.activate(around.alloc, form, tail, callee, arguments, written)
     }
 
-    /// The stack bytes below a callee: in tail position it takes the place of its caller. A stack of 2^64
-    /// bytes or more is answered as want of memory.
-    fn stack_below(&self, tail: bool) -> Result<u64, AllocError>
-        ensures { IfOk result (λ bytes. bytes ≡ stack_below tail (here_view self.now.here)) }
-    {
-        if tail {
-            Ok(self.here.below)
-        } else {
-            self.here.taken()
-        }
-    }
-
     /// A call of a function with a frame of so many bytes. The error is want of memory; a stack of 2^64
     /// bytes or more is answered so too.
     fn activate(
@@ -179,7 +167,7 @@ impl<'a> Machine<'a> {
             (Some callee.entry.function.now) arguments.now (stack_below tail h) w))) }
         ensures falls { IfOk result (λ now. Falls 3 self.old self.new now) }
     {
-        let below = self.stack_below(tail)?;
+        let below = self.here.stack_below(tail)?;
         let taken = below.checked_add(callee.frame).ok_or(AllocError)?;
         let inner = activation(alloc, callee.function, below, callee.frame, arguments)?;
         self.world.deepen(taken);

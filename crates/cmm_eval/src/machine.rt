@@ -78,7 +78,7 @@ impl<'a> Machine<'a> {
         if self.world.left == 0 {
             return Ok(Now::Stops(Stop::OutOfFuel));
         }
-        self.world.left -= 1;
+        self.world.spend();
         self.push(&expr.form, tail, Step::Typed(expr.ty))?;
         self.enter(around, &expr.form, tail)
     }

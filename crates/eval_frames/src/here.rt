@@ -3,7 +3,7 @@ ghost use Rattle.std.specs.Prelude.{◌≡◌, ◌∷◌, [], IfOk, option_map, 
 ghost use Rattle.cmm_types.specs.Types.{type_named};
 ghost use Rattle.cmm_types.specs.Light.{is_immutable};
 ghost use Rattle.cmm_meaning.specs.State.{scope, innermost, value_of, assigned, back_in, taken};
-ghost use Rattle.cmm_meaning.specs.Evaluation.{with_bound};
+ghost use Rattle.cmm_meaning.specs.Evaluation.{with_bound, stack_below};
 ghost use Rattle.cmm_meaning.specs.Run.{nobody};
 ghost use Rattle.eval_frames.specs.Views.{bound_view, bounds_view, here_view};
 
@@ -73,6 +73,14 @@ impl<'a> Here<'a> {
         let activation = self.below.checked_add(self.frame).ok_or(AllocError)?;
         let tries = self.tries.checked_mul(16).ok_or(AllocError)?;
         activation.checked_add(tries).ok_or(AllocError)
+    }
+
+    /// The stack bytes below a callee: in tail position it takes the place of its caller. The error is
+    /// want of memory; a stack of 2^64 bytes or more is answered so too.
+    pub fn stack_below(&self, tail: bool) -> Result<u64, AllocError>
+        ensures { IfOk result (λ bytes. bytes ≡ stack_below tail (here_view self.now)) }
+    {
+        if tail { Ok(self.below) } else { self.taken() }
     }
 
     /// The value of the innermost binding of a name.

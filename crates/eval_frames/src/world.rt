@@ -1,5 +1,5 @@
 //! What a run keeps that never goes back.
-ghost use Rattle.std.specs.Prelude.{◌≡◌};
+ghost use Rattle.std.specs.Prelude.{◌≡◌, ◌<◌, ◌-◌};
 ghost use Rattle.cmm_meaning.specs.State.{deepened};
 ghost use Rattle.eval_frames.specs.Views.{world_view};
 
@@ -33,6 +33,14 @@ pub struct World<'a> {
 }
 
 impl World<'_> {
+    /// Takes a unit, where one is left.
+    pub fn spend(&mut self)
+        requires { 0 < self.old.left }
+        ensures { self.new ≡ record self.old { left = self.old.left - 1 } }
+    {
+        self.left -= 1;
+    }
+
     /// Notes that the stack has come to so many bytes.
     pub fn deepen(&mut self, bytes: u64)
         ensures { world_view self.new ≡ deepened bytes (world_view self.old) }

@@ -32,7 +32,7 @@ returns-clause-meaning c =
     (λ now. stands a c.enter.new.self now ≡ goes_on a m (λ h w. expression s e tail h w)) c.enter.result
     (λ now q. q
     ∙ ap (λ (i : here.Here). resume s frames (inside s e.form tail (here_view i) (world_view c.push.new.self.world))) p.here
-    ∙ ap (λ (v : world.World). resume s frames (inside s e.form tail h (world_view v))) p.world
+    ∙ ap (λ (v : world.World). resume s frames (inside s e.form tail h (world_view v))) (p.world ∙ c.spend.ensures)
     ∙ pushed s m.frames.items frames _ (inside s e.form tail h (record w { left = w.left - 1 })) (expression s e tail h w) p.frames
     (node_begins s e tail h w not-float c.if-self-eq0.false))
     c.enter.ensures.meaning
