@@ -2,4 +2,3 @@ pub mod Tables
 pub mod Image
 pub mod Seen
 pub mod Fields
-pub mod Reading

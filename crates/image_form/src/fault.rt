@@ -28,7 +28,8 @@ impl From<AllocError> for ImageError {
 
 /// Why the body of a section was not read.
 #[derive(Drop)]
-pub(crate) enum Stop {
+pub enum Stop {
+    /// Memory ran out.
     Memory,
     /// A field breaks a rule or passes the end of the body. It is known by the number of bytes of the
     /// body from the field on.

@@ -45,8 +45,9 @@ pub(crate) fn u16_from(bytes: &[u8]) -> Result<(u16, &[u8]), Stop>
     Ok((u16::from_le_bytes([front[0], front[1]]), rest))
 }
 
+/// A number of 32 bits.
 #[tactic(auto, unfolding(crate::specs::Fields::number_at))]
-pub(crate) fn u32_from(bytes: &[u8]) -> Result<(u32, &[u8]), Stop>
+pub fn u32_from(bytes: &[u8]) -> Result<(u32, &[u8]), Stop>
     ensures { Gives (λ x. (x.0, x.1.now)) result (number_at w32 bytes.now) }
 {
     if bytes.len() < 4 {
@@ -59,7 +60,7 @@ pub(crate) fn u32_from(bytes: &[u8]) -> Result<(u32, &[u8]), Stop>
 
 /// A size, a number of entries or an entry of a descriptor: 16 bits in version 1, and 32 in version 2.
 #[tactic(auto, unfolding(crate::specs::Fields::wide_at))]
-pub(crate) fn wide_from(version: u32, bytes: &[u8]) -> Result<(u32, &[u8]), Stop>
+pub fn wide_from(version: u32, bytes: &[u8]) -> Result<(u32, &[u8]), Stop>
     ensures { Gives (λ x. (x.0, x.1.now)) result (wide_at version bytes.now) }
 {
     if version == 1 {
@@ -82,8 +83,9 @@ fn text_from(bytes: &[u8]) -> Result<(&[u8], &[u8]), Stop>
     Ok(rest.split_at(len))
 }
 
+/// A name after its length.
 #[tactic(auto, unfolding(crate::specs::Fields::name_at, crate::specs::Fields::kept))]
-pub(crate) fn name_from(bytes: &[u8]) -> Result<(&[u8], &[u8]), Stop>
+pub fn name_from(bytes: &[u8]) -> Result<(&[u8], &[u8]), Stop>
     ensures gives { Gives (λ x. (x.0.now, x.1.now)) result (name_at bytes.now) }
     ensures short { IfOk result (λ x. length x.0.now ≤ 255) }
 {
@@ -96,7 +98,7 @@ pub(crate) fn name_from(bytes: &[u8]) -> Result<(&[u8], &[u8]), Stop>
 
 /// A name that did not come before. It is then among those that did.
 #[tactic(auto, unfolding(crate::specs::Fields::new_name_at, crate::specs::Fields::kept))]
-pub(crate) fn new_name_from<'a>(
+pub fn new_name_from<'a>(
     alloc: Global,
     seen: &mut Seen,
     bytes: &'a [u8],
@@ -166,7 +168,7 @@ fn ext_result_of(byte: u8) -> Option<Ret>
 
 /// The result of a function.
 #[tactic(auto, unfolding(crate::specs::Fields::type_at))]
-pub(crate) fn result_from(bytes: &[u8]) -> Result<(Ret, &[u8]), Stop>
+pub fn result_from(bytes: &[u8]) -> Result<(Ret, &[u8]), Stop>
     ensures { Gives (λ x. (x.0, x.1.now)) result (type_at result_of bytes.now) }
 {
     let (byte, rest) = byte_from(bytes)?;
@@ -178,7 +180,7 @@ pub(crate) fn result_from(bytes: &[u8]) -> Result<(Ret, &[u8]), Stop>
 
 /// The result of an external call.
 #[tactic(auto, unfolding(crate::specs::Fields::type_at))]
-pub(crate) fn ext_result_from(bytes: &[u8]) -> Result<(Ret, &[u8]), Stop>
+pub fn ext_result_from(bytes: &[u8]) -> Result<(Ret, &[u8]), Stop>
     ensures { Gives (λ x. (x.0, x.1.now)) result (type_at ext_result_of bytes.now) }
 {
     let (byte, rest) = byte_from(bytes)?;
@@ -203,8 +205,9 @@ fn comps_from(alloc: Global, most: u8, count: u8, bytes: &[u8]) -> Result<(Vec<C
     Ok((comps, rest))
 }
 
+/// The number of types, at most 16, and the types up to that byte.
 #[tactic(auto, unfolding(crate::specs::Fields::params_at, crate::specs::Fields::kept))]
-pub(crate) fn params_from(alloc: Global, most: u8, bytes: &[u8]) -> Result<(Vec<Comp>, &[u8]), Stop>
+pub fn params_from(alloc: Global, most: u8, bytes: &[u8]) -> Result<(Vec<Comp>, &[u8]), Stop>
     ensures gives { Gives (λ x. (x.0.items, x.1.now)) result (params_at most bytes.now) }
     ensures few { IfOk result (λ x. length x.0.items ≤ 16) }
 {

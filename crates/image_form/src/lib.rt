@@ -1,20 +1,16 @@
-//! Images: compiled programs as bytes.
+//! Images: compiled programs as tables, and the fields of which their bytes are made.
 //!
 //! An image holds seven tables: functions, code, data, symbols of the data, root cells of the data,
 //! external calls, and descriptors of the frames at return addresses. It has one spelling in bytes,
-//! with numbers little-endian.
+//! with numbers little-endian, which `image_bytes` reads and writes.
 #![tactic(auto)]
 
 mod fault;
-mod fields;
+pub mod fields;
 mod image;
 pub mod limits;
-mod reading;
-mod rows;
 mod seen;
-mod writing;
 
-pub use fault::ImageError;
+pub use fault::{ImageError, Stop};
 pub use image::{DescRow, ExtRow, FuncRow, Image, SymRow};
-pub use reading::read_image;
-pub use writing::{comp_byte, ret_byte, write_image};
+pub use seen::Seen;

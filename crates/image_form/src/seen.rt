@@ -7,12 +7,13 @@ use std::collections::BTreeSet;
 
 /// Names, or rows by their bytes.
 #[derive(Drop)]
-pub(crate) struct Seen {
+pub struct Seen {
     texts: BTreeSet<Vec<u8>>,
 }
 
 impl Seen {
-    pub(crate) fn new(alloc: Global) -> Self
+    /// None came before.
+    pub fn new(alloc: Global) -> Self
         ensures { Holds result [] }
     {
         Seen {
@@ -21,7 +22,7 @@ impl Seen {
     }
 
     /// Adds the text, and answers whether it was new.
-    pub(crate) fn insert(&mut self, text: Vec<u8>) -> Result<bool, AllocError>
+    pub fn insert(&mut self, text: Vec<u8>) -> Result<bool, AllocError>
         ensures new { IfOk result (λ added.
             (texts : List (List ℕ))
             → Holds self.old texts

@@ -6,7 +6,8 @@
 //! rules of images alone.
 use anyhow::Result;
 use bs_fault::image_text;
-use image_form::{ImageError, read_image, write_image};
+use image_bytes::{read_image, write_image};
+use image_form::ImageError;
 use std::alloc::Global;
 
 /// What is shown of a row. `image` has the bytes that the last row of `image` gave.
