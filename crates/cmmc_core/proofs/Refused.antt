@@ -3,7 +3,7 @@ use Rattle.std.proofs.Common.{◌≡◌, sym, subst, ◌∙◌, List, Result, Ok
 use Rattle.std.specs.Prelude.{ℕ, IfErr}
 use Rattle.command_line.specs.Command.{RunTree}
 use Rattle.image_form.specs.Image.{AreTables, tables_bytes}
-use Rattle.image_bytes.specs.Reading.{reading, NoImage, IsRefusalOf}
+use Rattle.image_codec.specs.Reading.{reading, NoImage, IsRefusalOf}
 use Rattle.image_form.specs.Tables.{Tables}
 use Rattle.image_form.specs.declared.fault.ImageError.{ImageError}
 use Rattle.image_form.specs.declared.fault.ImageError.TheVariants as image_error

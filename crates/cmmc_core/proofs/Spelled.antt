@@ -4,10 +4,10 @@ use Rattle.std.specs.Prelude.{codes}
 use Rattle.std.specs.List.{flat_map}
 use Rattle.bs_words.specs.Fits.{data_limit}
 use Rattle.bs_fault.specs.declared.image.ImageRefusal.{ImageRefusal}
-use Rattle.image_bytes.proofs.ImageLaws.{is_read}
+use Rattle.image_codec.proofs.ImageLaws.{is_read}
 use Rattle.image_form.proofs.Lengths.{length-le32, length-words}
 use Rattle.image_form.specs.Image.{AreTables, tables_bytes, section_bytes, table_bytes, func_bytes, sym_bytes, ext_bytes, desc_bytes, le32, magic, table_limit, code_limit}
-use Rattle.image_bytes.specs.Reading.{reading, NoImage}
+use Rattle.image_codec.specs.Reading.{reading, NoImage}
 use Rattle.image_form.specs.Tables.{Tables}
 use Rattle.cmmc_core.specs.Run.{IsSpelling, IsNoImage, longest_image}
 

@@ -5,7 +5,7 @@ use Rattle.command_line.specs.Command.{RunTree}
 use Rattle.command_line.specs.declared.command.Moves.{Moves}
 use Rattle.command_line.specs.declared.command.Moves.TheVariants.{Never, Every, Seed}
 use Rattle.image_form.specs.Image.{AreTables, tables_bytes}
-use Rattle.image_bytes.specs.Reading.{reading}
+use Rattle.image_codec.specs.Reading.{reading}
 use Rattle.image_form.specs.Tables.{Tables, Func}
 use Rattle.mover_plans.specs.Schedules.{never, every, seeded}
 use Rattle.rv_machine.specs.Hart.{Hart}

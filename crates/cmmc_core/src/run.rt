@@ -17,7 +17,7 @@ use bs_fault::ImageRefusal;
 use bs_io::{InFault, OutFault, Sink, Source, read_all};
 use bs_words::List;
 use command_line::{Arg, Moves, RunWords};
-use image_bytes::read_image;
+use image_codec::read_image;
 use image_form::{Image, ImageError};
 use mover_runtime::{Schedule, run_image};
 use rv_machine::{LoadError, Machine, Setup, load, word_of_arg};

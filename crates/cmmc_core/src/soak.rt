@@ -22,7 +22,7 @@ use bs_io::{Sink, write_all};
 use bs_words::Name;
 use cmm_gen::generate;
 use command_line::{Arg, CheckWords, Moves, RunWords};
-use image_bytes::write_image;
+use image_codec::write_image;
 use image_form::Image;
 use rv_machine::MOST_ROOM;
 use std::alloc::{AllocError, Global};

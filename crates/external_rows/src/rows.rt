@@ -8,7 +8,7 @@ ghost use Rattle.layout_rules.specs.Externals.{number_of};
 ghost use Rattle.mach_ir.specs.Acts.{row_of};
 
 use bs_words::{Comp, List, Name, Ret};
-use image_bytes::{comp_byte, ret_byte};
+use image_codec::{comp_byte, ret_byte};
 use image_form::ExtRow;
 use indexmap::IndexMap;
 use mach_ir::External;

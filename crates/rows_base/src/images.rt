@@ -6,7 +6,7 @@
 //! rules of images alone.
 use anyhow::Result;
 use bs_fault::image_text;
-use image_bytes::{read_image, write_image};
+use image_codec::{read_image, write_image};
 use image_form::ImageError;
 use std::alloc::Global;
 

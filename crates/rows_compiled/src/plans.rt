@@ -10,7 +10,7 @@ ghost use Rattle.image_form.specs.Image.{IsImage};
 use anyhow::Result;
 use bs_io::MemSink;
 use bs_words::{List, Name};
-use image_bytes::read_image;
+use image_codec::read_image;
 use image_form::{Image, ImageError};
 use mover_runtime::{Schedule, run_image};
 use rows_lines::{Table, Top};

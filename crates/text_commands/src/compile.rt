@@ -8,7 +8,7 @@ use bs_fault::{BuildError, Fault, FrontError, Large};
 use bs_words::List;
 use cmm_front::front;
 use file_compile::{Gate, compile};
-use image_bytes::write_image;
+use image_codec::write_image;
 use std::alloc::{AllocError, Global};
 use std::thread::Threads;
 use thiserror::Error;

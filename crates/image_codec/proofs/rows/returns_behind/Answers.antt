@@ -1,0 +1,10 @@
+use Rattle.std.proofs.Common.{nat_lt}
+use Rattle.image_form.specs.Tables.{desc}
+use Rattle.image_form.proofs.Loops.{none_at_last, some_at_last}
+use Rattle.image_codec.proofs.rows.returns_behind.Goals as goal
+
+pub returns-in-None : goal.returns-in-None
+returns-in-None c = none_at_last (λ d. nat_lt d.after c.args.offset) desc c.args.before.now c.in-None.ensures.value
+
+pub returns-in-Some : goal.returns-in-Some
+returns-in-Some c = some_at_last (λ d. nat_lt d.after c.args.offset) desc c.args.before.now c.in-Some.row.now c.in-Some.ensures.value
