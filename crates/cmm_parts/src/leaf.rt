@@ -11,7 +11,8 @@ ghost use Rattle.cmm_nodes.specs.declared.stop.Stop.TheVariants.{OutOfMemory};
 use crate::front::{name_of, word};
 use bs_words::{Name, is_symbol};
 use cmm_lex::{Keyword, Sign, Token, TokenKind, string_of};
-use cmm_nodes::{Stop, exit_to, float_leaf, node};
+use cmm_nodes::node::node;
+use cmm_nodes::{Stop, exit_to, float_leaf};
 use cmm_tree::{Expr, Form, Label};
 use std::alloc::Global;
 
