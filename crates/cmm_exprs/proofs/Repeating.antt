@@ -2,7 +2,7 @@
 use Rattle.std.proofs.Common.{◌≡◌, ℕ, ◌≤◌, ◌<◌, zero, suc, Bool, true, false, cond, List, [], ◌∷◌, ◌++◌, length, sym, ap, ◌∙◌, arith}
 use Rattle.cmm_lex.specs.Token.{TokenTree}
 use Rattle.cmm_grammar.specs.Reading.{Read, Stops, Why, Reader, bind, some_of}
-use Rattle.cmm_parts.specs.declared.stop.Stop.{Stop}
+use Rattle.cmm_nodes.specs.declared.stop.Stop.{Stop}
 use Rattle.cmm_parts.specs.Results.{Fails}
 use Rattle.cmm_parts.proofs.Lists.{with_front, front-none, front-more, fails-along}
 

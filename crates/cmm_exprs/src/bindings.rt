@@ -4,13 +4,14 @@ ghost use Rattle.cmm_grammar.specs.Words.{is_close};
 ghost use Rattle.cmm_grammar.specs.Grammar.{a_binding, a_mutable_binding, bindings_to_close, let_body, let_form};
 ghost use Rattle.cmm_tree.specs.View.{expr_view};
 ghost use Rattle.cmm_parts.specs.Results.{trees, Gives, ReadsBy, many_of};
-ghost use Rattle.cmm_parts.specs.Nodes.{binding_part};
+ghost use Rattle.cmm_nodes.specs.Nodes.{binding_part};
 ghost use Rattle.cmm_operations.specs.Forms.{MayRead, ReadsForms};
 ghost use Rattle.cmm_exprs.specs.Results.{binding_rule, enclosed_bindings, let_one};
 
 use cmm_lex::Token;
+use cmm_nodes::{Stop, let_node};
 use cmm_operations::{body_to_close, expression};
-use cmm_parts::{Stop, Test, component, is_open, let_node, name_of, passes, token};
+use cmm_parts::{Test, component, is_open, name_of, passes, token};
 use cmm_tree::{Binding, Expr};
 use std::alloc::Global;
 

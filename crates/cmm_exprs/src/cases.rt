@@ -8,10 +8,9 @@ ghost use Rattle.cmm_operations.specs.Forms.{MayRead, ReadsForms};
 ghost use Rattle.cmm_exprs.specs.Results.{case_part, case_goes_on, marked_parts, some_by};
 
 use cmm_lex::Token;
+use cmm_nodes::{Stop, sequence, switch_node, while_loop};
 use cmm_operations::{body_to_close, list, operand};
-use cmm_parts::{
-    Stop, Test, case_number, is_case, more_numbers, sequence, switch_node, token, while_loop, word,
-};
+use cmm_parts::{Test, case_number, is_case, more_numbers, token, word};
 use cmm_tree::{Case, CaseIndex, Expr};
 use std::alloc::Global;
 

@@ -11,11 +11,12 @@ use crate::cases::{switch_form, while_form};
 use crate::handlers::{catch_form, exit_form, try_form};
 use cmm_grammar::Head;
 use cmm_lex::Token;
+use cmm_nodes::Stop;
 use cmm_operations::{
     alloc_form, app_form, assign_form, extcall_form, float_form, load_form, pair_form, raise_form,
     seq_form, sequence_to_close, store_form, triple_form,
 };
-use cmm_parts::{Stop, head};
+use cmm_parts::head;
 use cmm_tree::Expr;
 use std::alloc::Global;
 

@@ -10,10 +10,10 @@ ghost use Rattle.cmm_operations.specs.Forms.{MayRead, ReadsForms};
 ghost use Rattle.cmm_exprs.specs.Results.{handler_part, handler_goes_on, marked_parts, some_by, bare_handler_rule, handlers_rule};
 
 use cmm_lex::Token;
+use cmm_nodes::{Stop, bare_catch, catch_node, exit_node, sequence, try_node};
 use cmm_operations::{body_to_close, body_to_with, list, operand, operands};
 use cmm_parts::{
-    LabelHead, Stop, Test, bare_catch, begins_label, catch_node, exit_node, inner_label, is_and,
-    name_of, opened_label, passes, sequence, token, try_node,
+    LabelHead, Test, begins_label, inner_label, is_and, name_of, opened_label, passes, token,
 };
 use cmm_tree::{Expr, Handler, Label};
 use std::alloc::Global;

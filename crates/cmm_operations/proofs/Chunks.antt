@@ -11,8 +11,8 @@ use Rattle.cmm_grammar.specs.declared.word.ChunkWord.TheVariants as starts
 use Rattle.cmm_grammar.proofs.Basics.{bind_bind}
 use Rattle.cmm_parts.specs.Parts.{chunk_at, chunk_by}
 use Rattle.cmm_parts.specs.Results.{Fails}
-use Rattle.cmm_parts.specs.declared.stop.Stop.{Stop}
-use Rattle.cmm_parts.specs.declared.stop.Stop.TheVariants.{Unexpected, TooDeep, OutOfMemory}
+use Rattle.cmm_nodes.specs.declared.stop.Stop.{Stop}
+use Rattle.cmm_nodes.specs.declared.stop.Stop.TheVariants.{Unexpected, TooDeep, OutOfMemory}
 
 chunk-reads-by : (k : Option Chunk → ℕ → Rule AnExpression) (d : ℕ) (forms : Forms) (t : TokenTree) (ts : List TokenTree) (o : Option ChunkWord)
     → maybe_given (option_map (λ a. (t, a)) o) (λ o. reading (chunked k o) d forms) t ts

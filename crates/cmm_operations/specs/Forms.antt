@@ -5,7 +5,7 @@ use Rattle.cmm_lex.specs.declared.token.Token as declared
 use Rattle.cmm_tree.specs.View.{expr_view}
 use Rattle.cmm_tree.specs.declared.expr.Expr.{Expr}
 use Rattle.cmm_grammar.specs.Grammar.{form}
-use Rattle.cmm_parts.specs.declared.stop.Stop.{Stop}
+use Rattle.cmm_nodes.specs.declared.stop.Stop.{Stop}
 use Rattle.cmm_parts.specs.Results.{Part, ReadsBy}
 
 -- what reads a form after its parenthesis, by the tokens there, the depth inside it and its place,

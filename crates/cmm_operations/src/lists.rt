@@ -7,7 +7,8 @@ ghost use Rattle.cmm_parts.specs.Results.{trees, Gives, ReadsBy, many_of, test_o
 ghost use Rattle.cmm_operations.specs.Forms.{MayRead, ReadsForms};
 
 use cmm_lex::Token;
-use cmm_parts::{Stop, Test, is_open, passes, sequence, simple, token};
+use cmm_nodes::{Stop, sequence};
+use cmm_parts::{Test, is_open, passes, simple, token};
 use cmm_tree::Expr;
 use std::alloc::Global;
 

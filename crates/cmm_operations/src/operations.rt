@@ -9,11 +9,11 @@ ghost use Rattle.cmm_operations.specs.Forms.{MayRead, ReadsForms};
 use crate::lists::{list, operand, operands};
 use cmm_grammar::{Pair, Triple};
 use cmm_lex::Token;
-use cmm_parts::{
-    PlacedChunk, Stop, Test, alloc_node, app_node, assign_node, call_result, chunk, extcall_node,
-    float_node, loaded, name_of, paired, passes, raise_node, sequence_at, stored, symbol, token,
-    tripled, word,
+use cmm_nodes::{
+    PlacedChunk, Stop, alloc_node, app_node, assign_node, extcall_node, float_node, loaded, paired,
+    raise_node, sequence_at, stored, tripled,
 };
+use cmm_parts::{Test, call_result, chunk, name_of, passes, symbol, token, word};
 use cmm_tree::Expr;
 use std::alloc::Global;
 

@@ -2,8 +2,8 @@
 use Rattle.std.proofs.Common.{◌≡◌, ℕ, ◌≤◌, zero, suc, Bool, true, false, cond, List, [], ◌∷◌, ◌++◌, length, refl, sym, ap, ◌∙◌, arith, append-nil, append_assoc}
 use Rattle.cmm_lex.specs.Token.{TokenTree}
 use Rattle.cmm_grammar.specs.Reading.{Outcome, Read, Stops, Why, Stuck, Reader, bind, many}
-use Rattle.cmm_parts.specs.declared.stop.Stop.{Stop}
-use Rattle.cmm_parts.specs.declared.stop.Stop.TheVariants.{Unexpected, TooDeep, OutOfMemory}
+use Rattle.cmm_nodes.specs.declared.stop.Stop.{Stop}
+use Rattle.cmm_nodes.specs.declared.stop.Stop.TheVariants.{Unexpected, TooDeep, OutOfMemory}
 use Rattle.cmm_parts.specs.Results.{Fails}
 
 -- a list whose front was read before

@@ -15,7 +15,7 @@ use Rattle.cmm_grammar.specs.Words.{is_symbol_token, is_open_bracket, leaf_of, w
 use Rattle.cmm_grammar.specs.Grammar.{label_rest}
 use Rattle.cmm_grammar.specs.Reading.{Read, Stops, Stuck, Reader, bind, given, bracket_at, one_by, behind, deeper, reading, forms_below}
 use Rattle.cmm_parts.specs.declared.parts.LabelHead.{LabelHead}
-use Rattle.cmm_parts.specs.declared.parts.PlacedChunk.{PlacedChunk}
+use Rattle.cmm_nodes.specs.declared.build.PlacedChunk.{PlacedChunk}
 
 -- the result that a call declares
 abbrev pub result_part : ℕ → Ret → ResultPart

@@ -6,8 +6,8 @@ use Rattle.cmm_lex.specs.declared.token.Token as declared
 use Rattle.cmm_grammar.specs.Words.{is_alloc, is_close, is_colon, is_name, is_integer, is_float, is_string, is_with, is_case, is_no_case, is_ret, ends_case, ends_handler}
 use Rattle.cmm_grammar.specs.Rule.{Sort, Value, Rule}
 use Rattle.cmm_grammar.specs.Reading.{Outcome, Read, Stops, Stuck, Deep, Reader, many, reading, forms_below, reads}
-use Rattle.cmm_parts.specs.declared.stop.Stop.{Stop}
-use Rattle.cmm_parts.specs.declared.stop.Stop.TheVariants.{Unexpected, TooDeep, OutOfMemory}
+use Rattle.cmm_nodes.specs.declared.stop.Stop.{Stop}
+use Rattle.cmm_nodes.specs.declared.stop.Stop.TheVariants.{Unexpected, TooDeep, OutOfMemory}
 use Rattle.cmm_parts.specs.declared.front.Test.{Test}
 use Rattle.cmm_parts.specs.declared.front.Test.TheVariants as test
 

@@ -8,13 +8,13 @@ ghost use Rattle.cmm_grammar.specs.Reading.{one_by, reads};
 ghost use Rattle.cmm_tree.specs.View.{declared_view};
 ghost use Rattle.cmm_parts.specs.Results.{trees, Gives, ReadsBy, test_of};
 ghost use Rattle.cmm_parts.specs.Parts.{result_part, symbol_in};
-ghost use Rattle.cmm_parts.specs.declared.stop.Stop.TheVariants.{OutOfMemory};
+ghost use Rattle.cmm_nodes.specs.declared.stop.Stop.TheVariants.{OutOfMemory};
 
-use crate::stop::Stop;
 use crate::words;
 use bs_words::{Name, Ret, is_symbol};
 use cmm_grammar::Head;
 use cmm_lex::{Keyword, Sign, Token, TokenKind, integer_word, string_of, text_of};
+use cmm_nodes::Stop;
 use cmm_tree::Declared;
 use std::alloc::Global;
 

@@ -6,13 +6,13 @@ ghost use Rattle.cmm_grammar.specs.Reading.{bracket_at};
 ghost use Rattle.cmm_tree.specs.View.{expr_view};
 ghost use Rattle.cmm_parts.specs.Results.{trees, Gives};
 ghost use Rattle.cmm_parts.specs.Parts.{symbol_leaf, simple_at};
-ghost use Rattle.cmm_parts.specs.declared.stop.Stop.TheVariants.{OutOfMemory};
+ghost use Rattle.cmm_nodes.specs.declared.stop.Stop.TheVariants.{OutOfMemory};
 
 use crate::front::{name_of, word};
-use crate::node::{exit_to, float_leaf, node};
-use crate::stop::Stop;
 use bs_words::{Name, is_symbol};
 use cmm_lex::{Keyword, Sign, Token, TokenKind, string_of};
+use cmm_nodes::node::node;
+use cmm_nodes::{Stop, exit_to, float_leaf};
 use cmm_tree::{Expr, Form, Label};
 use std::alloc::Global;
 

@@ -11,11 +11,11 @@ ghost use Rattle.cmm_parts.specs.Results.{trees, Gives, ReadsBy, many_of};
 ghost use Rattle.cmm_parts.specs.Parts.{label_part, opened_label, chunk_part, chunk_at};
 
 use crate::front::{Test, component, name_of, passes, symbol_of, token, word};
-use crate::stop::Stop;
 use crate::words;
 use bs_words::{Chunk, Name};
 use cmm_grammar::{ChunkWord, Width};
 use cmm_lex::{Token, TokenKind};
+use cmm_nodes::{PlacedChunk, Stop};
 use cmm_tree::{CaseIndex, Param};
 use std::alloc::Global;
 
@@ -54,15 +54,6 @@ fn width<'t>(source: &[u8], tokens: &'t [Token]) -> Result<(Width, &'t [Token]),
         Some(width) => Ok((width, rest)),
         None => Err(Stop::Unexpected { left: tokens.len() }),
     }
-}
-
-/// The chunk of a load or a store.
-#[derive(Clone, Copy)]
-pub struct PlacedChunk {
-    /// `None` is a chunk of floats.
-    pub chunk: Option<Chunk>,
-    /// The place of its first word in bytes; 0 where no word is there, which is `val`.
-    pub at: u32,
 }
 
 /// That chunk at that place.

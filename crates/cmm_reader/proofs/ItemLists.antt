@@ -10,7 +10,7 @@ use Rattle.cmm_grammar.specs.Parts.{ItemPart, item_of}
 use Rattle.cmm_grammar.specs.Rule.{AnItem}
 use Rattle.cmm_grammar.specs.Grammar.{a_data_item, an_item}
 use Rattle.cmm_grammar.specs.Reading.{Read, Stops, Why, Reader, bind, items_by, items_at, reads}
-use Rattle.cmm_parts.specs.declared.stop.Stop.{Stop}
+use Rattle.cmm_nodes.specs.declared.stop.Stop.{Stop}
 use Rattle.cmm_parts.specs.Results.{trees, Fails}
 use Rattle.cmm_parts.proofs.Lengths.{Takes, shorter}
 use Rattle.cmm_parts.proofs.Lists.{with_front, front-none, front-more, fails-along}

@@ -19,8 +19,8 @@ use Rattle.cmm_tree.specs.View.{file_view}
 use Rattle.cmm_tree.specs.declared.file.File.{File}
 use Rattle.bs_fault.specs.Reported.{IsFirst, Faultless}
 use Rattle.cmm_grammar.specs.Reading.{Outcome, Read, Stops, Why, Stuck, Deep, items_at}
-use Rattle.cmm_parts.specs.declared.stop.Stop.{Stop}
-use Rattle.cmm_parts.specs.declared.stop.Stop.TheVariants as stop
+use Rattle.cmm_nodes.specs.declared.stop.Stop.{Stop}
+use Rattle.cmm_nodes.specs.declared.stop.Stop.TheVariants as stop
 use Rattle.cmm_parts.specs.Results.{trees, Fails}
 use Rattle.cmm_grammar.specs.Spelling.{nesting}
 use Rattle.cmm_reader.specs.Text.{file_faults}

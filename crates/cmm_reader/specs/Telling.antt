@@ -10,8 +10,8 @@ use Rattle.cmm_lex.specs.Token.{TokenTree}
 use Rattle.cmm_lex.specs.declared.token.Token as declared
 use Rattle.cmm_tree.specs.View.{file_view}
 use Rattle.cmm_tree.specs.declared.file.File.{File}
-use Rattle.cmm_parts.specs.declared.stop.Stop.{Stop}
-use Rattle.cmm_parts.specs.declared.stop.Stop.TheVariants as stop
+use Rattle.cmm_nodes.specs.declared.stop.Stop.{Stop}
+use Rattle.cmm_nodes.specs.declared.stop.Stop.TheVariants as stop
 use Rattle.cmm_lex.specs.Lexing.{Splits, first_range}
 use Rattle.cmm_tree.specs.Tree.{ItemTree, FileTree}
 use Rattle.bs_fault.specs.Reported.{IsFirst, Faultless}

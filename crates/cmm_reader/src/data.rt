@@ -11,12 +11,13 @@ ghost use Rattle.cmm_grammar.specs.Reading.{reads};
 ghost use Rattle.cmm_tree.specs.View.{datum_view, data_item_view};
 ghost use Rattle.cmm_parts.specs.Results.{trees, Gives, many_of};
 ghost use Rattle.cmm_reader.specs.ItemParts.{number_datum, item_part, marked_with};
-ghost use Rattle.cmm_parts.specs.declared.stop.Stop.TheVariants.{OutOfMemory};
+ghost use Rattle.cmm_nodes.specs.declared.stop.Stop.TheVariants.{OutOfMemory};
 
 use bs_words::{List, Name};
 use cmm_grammar::DataWord;
 use cmm_lex::{Keyword, Token, TokenKind, integer_word, string_of};
-use cmm_parts::{Stop, Test, data_keyword, passes, symbol, symbol_of, token};
+use cmm_nodes::Stop;
+use cmm_parts::{Test, data_keyword, passes, symbol, symbol_of, token};
 use cmm_tree::{DataItem, DataList, Datum, Item};
 use std::alloc::Global;
 

@@ -13,7 +13,8 @@ use crate::data::data_list;
 use bs_words::List;
 use cmm_exprs::function_body;
 use cmm_lex::{Keyword, Token, TokenKind};
-use cmm_parts::{Stop, is_open, parameters, symbol};
+use cmm_nodes::Stop;
+use cmm_parts::{is_open, parameters, symbol};
 use cmm_tree::{Function, Item, Param};
 use std::alloc::Global;
 

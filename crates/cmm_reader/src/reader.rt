@@ -13,7 +13,7 @@ use bs_words::List;
 use cmm_data::data_fault;
 use cmm_lex::{Lexed, Token, lex};
 use cmm_limits::{LONGEST_TEXT, limit_fault};
-use cmm_parts::Stop;
+use cmm_nodes::Stop;
 use cmm_tree::File;
 use std::alloc::Global;
 

@@ -2,7 +2,7 @@ use Rattle.std.proofs.Common.{length, map}
 use Rattle.cmm_grammar.specs.Words.{is_close}
 use Rattle.cmm_grammar.specs.Reading.{reading, forms_below}
 use Rattle.cmm_parts.specs.Results.{trees}
-use Rattle.cmm_parts.specs.Nodes.{binding_part}
+use Rattle.cmm_nodes.specs.Nodes.{binding_part}
 use Rattle.cmm_exprs.specs.Results.{binding_rule}
 use Rattle.cmm_parts.proofs.Lists.{Going}
 use Rattle.cmm_exprs.proofs.bindings.binding_list.Given as goal

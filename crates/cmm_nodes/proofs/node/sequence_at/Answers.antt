@@ -1,8 +1,8 @@
 use Rattle.std.proofs.Common.{◌∙◌, arith, sym, ap}
 use Rattle.std.specs.Prelude.{vec_len}
 use Rattle.std.specs.List.{insert}
-use Rattle.cmm_parts.proofs.Rows.{seq_of_more}
-use Rattle.cmm_parts.proofs.node.sequence_at.Goals as goal
+use Rattle.cmm_nodes.proofs.Rows.{seq_of_more}
+use Rattle.cmm_nodes.proofs.node.sequence_at.Goals as goal
 
 pub returns-clause-expr : goal.returns-clause-expr
 returns-clause-expr c =

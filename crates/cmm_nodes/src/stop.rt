@@ -1,6 +1,6 @@
 //! Where reading stops.
 ghost use Rattle.std.specs.Prelude.{◌≡◌};
-ghost use Rattle.cmm_parts.specs.declared.stop.Stop.TheVariants.{OutOfMemory};
+ghost use Rattle.cmm_nodes.specs.declared.stop.Stop.TheVariants.{OutOfMemory};
 
 use std::alloc::{AllocError, AllocFailed};
 use thiserror::Error;

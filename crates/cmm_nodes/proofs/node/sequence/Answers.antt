@@ -3,7 +3,7 @@ use Rattle.cmm_tree.specs.Place.{place_of}
 use Rattle.cmm_tree.specs.View.{expr_view}
 use Rattle.cmm_tree.specs.declared.expr.Expr.{Expr}
 use Rattle.cmm_tree.proofs.Rows.{place_view}
-use Rattle.cmm_parts.proofs.node.sequence.Goals as goal
+use Rattle.cmm_nodes.proofs.node.sequence.Goals as goal
 
 pub returns-clause-expr : goal.returns-clause-expr
 returns-clause-expr c =

@@ -11,7 +11,7 @@ use Rattle.cmm_tree.specs.declared.expr.Binding.{Binding}
 use Rattle.cmm_tree.specs.declared.expr.Form.{Form, Float, Alloc, App, App', Extcall, Exit, Let, Let', Switch, Switch', Catch, Catch', Seq}
 use Rattle.cmm_grammar.specs.Rewriting.{exit_to}
 use Rattle.cmm_grammar.specs.Parts.{expressions, bindings, sequence_at}
-use Rattle.cmm_parts.specs.Nodes.{binding_part}
+use Rattle.cmm_nodes.specs.Nodes.{binding_part}
 
 expressions_are : (es : List Expr) → row_of es ≡ expressions (map expr_view es)
 expressions_are [] = refl

@@ -7,14 +7,13 @@ ghost use Rattle.cmm_tree.specs.Tree.{Let, Assign, Alloc, App, Extcall, Raise, F
 ghost use Rattle.cmm_tree.specs.View.{expr_view, label_view};
 ghost use Rattle.cmm_grammar.specs.Parts.{expressions, bindings};
 ghost use Rattle.cmm_grammar.specs.Grammar.{loaded, stored, bare_catch};
-ghost use Rattle.cmm_parts.specs.Nodes.{binding_part};
+ghost use Rattle.cmm_nodes.specs.Nodes.{binding_part};
 ghost use Rattle.cmm_tree.specs.Rows.{cases_of, handlers_of};
-ghost use Rattle.cmm_parts.specs.declared.stop.Stop.TheVariants.{OutOfMemory};
+ghost use Rattle.cmm_nodes.specs.declared.stop.Stop.TheVariants.{OutOfMemory};
 
 use crate::node::node;
-use crate::parts::PlacedChunk;
 use crate::stop::Stop;
-use bs_words::{Name, Ret};
+use bs_words::{Chunk, Name, Ret};
 use cmm_tree::{Binding, Case, Expr, Form, Handler, Label};
 use std::alloc::Global;
 
@@ -98,6 +97,15 @@ pub fn float_node(at: u32, word_at: u32, operands: Vec<Expr>) -> Expr
     ensures { expr_view result ≡ Float at word_at (expressions (map expr_view operands.items)) }
 {
     node(at, Form::Float { word_at, operands })
+}
+
+/// The chunk of a load or a store.
+#[derive(Clone, Copy)]
+pub struct PlacedChunk {
+    /// `None` is a chunk of floats.
+    pub chunk: Option<Chunk>,
+    /// The place of its first word in bytes; 0 where no word is there, which is `val`.
+    pub at: u32,
 }
 
 /// A load, by its chunk; with a chunk of floats it computes with floats.

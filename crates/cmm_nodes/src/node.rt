@@ -6,10 +6,10 @@ ghost use Rattle.cmm_tree.specs.View.{expr_view, label_view};
 ghost use Rattle.cmm_grammar.specs.Parts.{expressions, sequence_at, sequence};
 ghost use Rattle.cmm_grammar.specs.Grammar.{paired, tripled};
 ghost use Rattle.cmm_grammar.specs.Rewriting.{element, exit_to, turn, catch_one, while_loop};
-ghost use Rattle.cmm_parts.specs.Nodes.{integer_in};
+ghost use Rattle.cmm_nodes.specs.Nodes.{integer_in};
 ghost use Rattle.cmm_tree.specs.Tree.{Operator, Integer, Seq, Float, NoMore, Again};
 ghost use Rattle.bs_words.specs.declared.operators.IntOp.TheVariants.{AddA, Shl};
-ghost use Rattle.cmm_parts.specs.declared.stop.Stop.TheVariants.{OutOfMemory};
+ghost use Rattle.cmm_nodes.specs.declared.stop.Stop.TheVariants.{OutOfMemory};
 
 use crate::build::{catch_node, exit_node, float_node};
 use crate::stop::Stop;
