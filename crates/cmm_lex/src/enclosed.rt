@@ -8,14 +8,16 @@ pub fn behind_string(bytes: &[u8]) -> Option<&[u8]>
     ensures { slice_of result ≡ behind_string bytes.now }
 {
     let mut rest = bytes;
-    loop {
-        rest = match rest {
-            [b'"', behind @ ..] => return Some(behind),
-            [b'\\', _, behind @ ..] => behind,
-            [_, behind @ ..] => behind,
-            [] => return None,
+    while let Some((byte, behind)) = rest.split_first() {
+        if *byte == b'"' {
+            return Some(behind);
+        }
+        rest = match behind.split_first() {
+            Some((_, after)) if *byte == b'\\' => after,
+            _ => behind,
         };
     }
+    None
 }
 
 /// One step inside so many open comments: how many are open after the next byte or sign of a comment, and
