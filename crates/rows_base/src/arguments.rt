@@ -3,8 +3,9 @@
 //! Words are between single spaces, so a word may be empty; a row with nothing has no word. The wanted lines were not
 //! written by this program: a script wrote them from the grammar alone.
 use anyhow::Result;
-use command_line::{Arg, Command, Moves, Stage, WordsError, read_words};
-use std::alloc::Global;
+use bs_words::{List, Name};
+use command_line::{Arg, CheckWords, Command, Moves, RunWords, Stage, WordsError, read_words};
+use std::alloc::{AllocError, Global};
 
 /// What is shown of a row.
 pub(crate) fn said_to(alloc: Global, row: &str) -> Result<Vec<u8>> {
@@ -14,88 +15,124 @@ pub(crate) fn said_to(alloc: Global, row: &str) -> Result<Vec<u8>> {
 }
 
 /// What is said of a row's words.
-fn told(alloc: Global, row: &str) -> Result<String> {
+fn told(alloc: Global, row: &str) -> Result<String, AllocError> {
+    let words = words_of(alloc, row)?;
+    of_words(alloc, words.as_slice())
+}
+
+/// The words of a row.
+fn words_of(alloc: Global, row: &str) -> Result<Vec<String>, AllocError> {
     let mut words = Vec::new(alloc);
     if !row.is_empty() {
         for word in row.split(' ') {
             words.push(String::from_str(alloc, word)?)?;
         }
     }
-    match read_words(alloc, words.as_slice()) {
+    Ok(words)
+}
+
+/// The command that the words are, or which mistake.
+fn of_words(alloc: Global, words: &[String]) -> Result<String, AllocError> {
+    match read_words(alloc, words) {
         Ok(command) => of_command(alloc, &command),
-        Err(WordsError::Words) => Ok(String::from_str(alloc, "U1")?),
-        Err(WordsError::ValueText) => Ok(String::from_str(alloc, "U2")?),
-        Err(WordsError::OutOfMemory) => Ok(String::from_str(alloc, "no memory")?),
+        Err(WordsError::Words) => String::from_str(alloc, "U1"),
+        Err(WordsError::ValueText) => String::from_str(alloc, "U2"),
+        Err(WordsError::OutOfMemory) => String::from_str(alloc, "no memory"),
     }
 }
 
 /// A command with its values.
-fn of_command(alloc: Global, command: &Command) -> Result<String> {
+fn of_command(alloc: Global, command: &Command) -> Result<String, AllocError> {
     match command {
-        Command::Compile { jobs } => Ok(format!(in alloc; "compile jobs {jobs}")?),
-        Command::Run(run) => {
-            let entry = of_name(alloc, run.entry.as_bytes())?;
-            let args = of_items(alloc, run.args.as_slice())?;
-            let answers = of_items(alloc, run.answers.as_slice())?;
-            let moves = of_moves(alloc, run.moves)?;
-            let steps = run.steps;
-            let stack = run.stack;
-            let heap = run.heap;
-            Ok(format!(in alloc;
-                "run {entry} args{args} answers{answers} steps {steps} stack {stack} heap {heap} moves {moves}"
-            )?)
-        }
-        Command::Check(check) => {
-            let entry = of_name(alloc, check.entry.as_bytes())?;
-            let args = of_items(alloc, check.args.as_slice())?;
-            let answers = of_items(alloc, check.answers.as_slice())?;
-            let fuel = check.fuel;
-            Ok(format!(in alloc; "check {entry} args{args} answers{answers} fuel {fuel}")?)
-        }
-        Command::List(stage) => {
-            let place = place_of(*stage);
-            Ok(format!(in alloc; "list stage {place}")?)
-        }
+        Command::Compile { jobs } => format!(in alloc; "compile jobs {jobs}"),
+        Command::Run(run) => of_run(alloc, run),
+        Command::Check(check) => of_check(alloc, check),
+        Command::List(stage) => of_list(alloc, *stage),
         Command::Soak { seed, functions } => {
-            Ok(format!(in alloc; "soak seed {seed} functions {functions}")?)
+            format!(in alloc; "soak seed {seed} functions {functions}")
         }
     }
 }
 
-/// A name, whose bytes are all printed ones.
-fn of_name(alloc: Global, name: &[u8]) -> Result<String> {
+/// A run with its values.
+fn of_run(alloc: Global, run: &RunWords) -> Result<String, AllocError> {
+    let call = of_call(alloc, &run.entry, &run.args, &run.answers)?;
+    let moves = of_moves(alloc, run.moves)?;
+    let steps = run.steps;
+    let stack = run.stack;
+    let heap = run.heap;
+    format!(in alloc; "run {call} steps {steps} stack {stack} heap {heap} moves {moves}")
+}
+
+/// A run of a text with its values.
+fn of_check(alloc: Global, check: &CheckWords) -> Result<String, AllocError> {
+    let call = of_call(alloc, &check.entry, &check.args, &check.answers)?;
+    let fuel = check.fuel;
+    format!(in alloc; "check {call} fuel {fuel}")
+}
+
+/// A listing with its stage.
+fn of_list(alloc: Global, stage: Stage) -> Result<String, AllocError> {
+    let place = place_of(stage);
+    format!(in alloc; "list stage {place}")
+}
+
+/// The name of a function that is called, its arguments, and what external calls give.
+fn of_call(
+    alloc: Global,
+    entry: &Name,
+    args: &List<Arg>,
+    answers: &List<Arg>,
+) -> Result<String, AllocError> {
     let mut text = String::new(alloc);
+    put_name(&mut text, entry.as_bytes())?;
+    put_items(alloc, &mut text, " args", args.as_slice())?;
+    put_items(alloc, &mut text, " answers", answers.as_slice())?;
+    Ok(text)
+}
+
+/// Puts a name, whose bytes are all printed ones, after what is there.
+fn put_name(text: &mut String, name: &[u8]) -> Result<(), AllocError> {
     for byte in name {
         text.push(char::from(*byte))?;
     }
-    Ok(text)
+    Ok(())
 }
 
-/// Items, each after a space: a word as a number without sign, or `@` and a name.
-fn of_items(alloc: Global, items: &[Arg]) -> Result<String> {
-    let mut text = String::new(alloc);
+/// Puts what items are, and each of them, after what is there.
+fn put_items(
+    alloc: Global,
+    text: &mut String,
+    title: &str,
+    items: &[Arg],
+) -> Result<(), AllocError> {
+    text.push_str(title)?;
     for item in items {
-        match item {
-            Arg::Word(word) => {
-                let one = format!(in alloc; " {word}")?;
-                text.push_str(one.as_str())?;
-            }
-            Arg::Symbol(name) => {
-                text.push_str(" @")?;
-                let name = of_name(alloc, name.as_bytes())?;
-                text.push_str(name.as_str())?;
-            }
-        }
+        put_item(alloc, text, item)?;
     }
-    Ok(text)
+    Ok(())
+}
+
+/// Puts an item and a space before it: a word as a number without sign, or `@` and a name.
+fn put_item(alloc: Global, text: &mut String, item: &Arg) -> Result<(), AllocError> {
+    match item {
+        Arg::Word(word) => text.push_str(format!(in alloc; " {word}")?.as_str()),
+        Arg::Symbol(name) => put_symbol(text, name.as_bytes()),
+    }
+}
+
+/// Puts a symbol after what is there.
+fn put_symbol(text: &mut String, name: &[u8]) -> Result<(), AllocError> {
+    text.push_str(" @")?;
+    put_name(text, name)
 }
 
 /// When the mover asks.
-fn of_moves(alloc: Global, moves: Moves) -> Result<String> {
+fn of_moves(alloc: Global, moves: Moves) -> Result<String, AllocError> {
     match moves {
-        Moves::Never => Ok(String::from_str(alloc, "never")?),
-        Moves::Every => Ok(String::from_str(alloc, "every")?),
-        Moves::Seed(seed) => Ok(format!(in alloc; "seed {seed}")?),
+        Moves::Never => String::from_str(alloc, "never"),
+        Moves::Every => String::from_str(alloc, "every"),
+        Moves::Seed(seed) => format!(in alloc; "seed {seed}"),
     }
 }
 

@@ -8,7 +8,8 @@
 use crate::sets::told_of_sets;
 use anyhow::{Result, bail};
 use bs_words::{add, div, mul, mulh, rem, sar, sext, shl, shr, signed, sub};
-use std::alloc::Global;
+use std::alloc::{AllocError, Global};
+use std::num::ParseIntError;
 
 /// What is shown of a row.
 pub(crate) fn said_to(alloc: Global, row: &str) -> Result<Vec<u8>> {
@@ -19,39 +20,92 @@ pub(crate) fn said_to(alloc: Global, row: &str) -> Result<Vec<u8>> {
     Ok(said.into_bytes())
 }
 
+/// An operation that gives a word.
+#[derive(Clone, Copy)]
+enum Operation {
+    Add,
+    Sub,
+    Mul,
+    Mulh,
+    Div,
+    Rem,
+    Shl,
+    Shr,
+    Sar,
+    Sext,
+}
+
 /// What an operation gives, or `no row` where it has no value on these operands.
 fn told_of_words(alloc: Global, line: &str) -> Result<String> {
-    let Some((operation, operands)) = line.split_once(' ') else {
+    let Some((name, operands)) = line.split_once(' ') else {
         bail!("no operands: {line}");
     };
-    let (left, right) = match operands.split_once(' ') {
-        Some((left, right)) => (left.parse::<u64>()?, right.parse::<u64>()?),
-        None => (operands.parse::<u64>()?, 0),
-    };
-    if operation == "signed" {
-        let value = signed(left);
-        return Ok(format!(in alloc; "{value}\n")?);
-    }
-    match given(operation, left, right)? {
-        Some(word) => Ok(format!(in alloc; "{word}\n")?),
-        None => Ok(String::from_str(alloc, "no row\n")?),
+    let (left, right) = operands_of(operands)?;
+    match name {
+        "signed" => Ok(told_of_signed(alloc, signed(left))?),
+        _ => Ok(told_of_word(alloc, given(operation_of(name)?, left, right))?),
     }
 }
 
-/// What an operation gives, if it has a value on these operands. The error is a word that is no operation.
-fn given(operation: &str, a: u64, b: u64) -> Result<Option<u64>> {
+/// One operand or two; the second is 0 where there is one.
+fn operands_of(operands: &str) -> Result<(u64, u64), ParseIntError> {
+    match operands.split_once(' ') {
+        Some((left, right)) => Ok((left.parse::<u64>()?, right.parse::<u64>()?)),
+        None => Ok((operands.parse::<u64>()?, 0)),
+    }
+}
+
+/// The line of a number with its sign.
+fn told_of_signed(alloc: Global, value: i64) -> Result<String, AllocError> {
+    format!(in alloc; "{value}\n")
+}
+
+/// The line of a word, or of none.
+fn told_of_word(alloc: Global, word: Option<u64>) -> Result<String, AllocError> {
+    match word {
+        Some(word) => format!(in alloc; "{word}\n"),
+        None => String::from_str(alloc, "no row\n"),
+    }
+}
+
+/// The operation with a name.
+fn operation_of(name: &str) -> Result<Operation> {
+    match read_operation(name) {
+        Some(operation) => Ok(operation),
+        None => bail!("no operation: {name}"),
+    }
+}
+
+/// The operation with a name, if there is one.
+fn read_operation(name: &str) -> Option<Operation> {
+    match name {
+        "add" => Some(Operation::Add),
+        "sub" => Some(Operation::Sub),
+        "mul" => Some(Operation::Mul),
+        "mulh" => Some(Operation::Mulh),
+        "div" => Some(Operation::Div),
+        "rem" => Some(Operation::Rem),
+        "shl" => Some(Operation::Shl),
+        "shr" => Some(Operation::Shr),
+        "sar" => Some(Operation::Sar),
+        "sext" => Some(Operation::Sext),
+        _ => None,
+    }
+}
+
+/// What an operation gives, if it has a value on these operands.
+fn given(operation: Operation, a: u64, b: u64) -> Option<u64> {
     match operation {
-        "add" => Ok(Some(add(a, b))),
-        "sub" => Ok(Some(sub(a, b))),
-        "mul" => Ok(Some(mul(a, b))),
-        "mulh" => Ok(Some(mulh(a, b))),
-        "div" if b != 0 => Ok(Some(div(a, b))),
-        "rem" if b != 0 => Ok(Some(rem(a, b))),
-        "shl" if b < 64 => Ok(Some(shl(a, b as u32))),
-        "shr" if b < 64 => Ok(Some(shr(a, b as u32))),
-        "sar" if b < 64 => Ok(Some(sar(a, b as u32))),
-        "sext" if 0 < b && b <= 64 => Ok(Some(sext(a, b as u32))),
-        "div" | "rem" | "shl" | "shr" | "sar" | "sext" => Ok(None),
-        _ => bail!("no operation: {operation}"),
+        Operation::Add => Some(add(a, b)),
+        Operation::Sub => Some(sub(a, b)),
+        Operation::Mul => Some(mul(a, b)),
+        Operation::Mulh => Some(mulh(a, b)),
+        Operation::Div if b != 0 => Some(div(a, b)),
+        Operation::Rem if b != 0 => Some(rem(a, b)),
+        Operation::Shl if b < 64 => Some(shl(a, b as u32)),
+        Operation::Shr if b < 64 => Some(shr(a, b as u32)),
+        Operation::Sar if b < 64 => Some(sar(a, b as u32)),
+        Operation::Sext if 0 < b && b <= 64 => Some(sext(a, b as u32)),
+        _ => None,
     }
 }
