@@ -1,14 +1,13 @@
 //! What the instructions of the rows do, in values that take no memory.
 ghost use Rattle.std.specs.Prelude.{◌≤◌};
 
-use anyhow::Result;
 use bs_words::{Chunk, Comp, IntOp, Name, Ret};
 use lin_ir::{Flow, LinOp};
 use mach_ir::{
     Access, Blocks, Callee, Calling, CopyKind, External, Label, Leaving, MachOp, Mark, NewBlock,
     Op, Pure, Right, Seq, Test,
 };
-use std::alloc::Global;
+use std::alloc::{AllocError, Global};
 
 /// What the calls of the rows answer where they answer a value.
 const VALUE: Ret = Ret::Comp(Comp::Val);
@@ -80,15 +79,15 @@ pub(crate) const NEAR: u32 = 4;
 
 pub(crate) const FAR: u32 = 12;
 
-pub(crate) fn name(alloc: Global, name: &str) -> Result<Name> {
+pub(crate) fn name(alloc: Global, name: &str) -> Result<Name, AllocError> {
     Ok(Name::from_vec(name.as_bytes().to_vec(alloc)?))
 }
 
-fn numbers(alloc: Global, numbers: &[u32]) -> Result<Seq<u32>> {
+fn numbers(alloc: Global, numbers: &[u32]) -> Result<Seq<u32>, AllocError> {
     Ok(Seq::from_vec(numbers.to_vec(alloc)?))
 }
 
-fn labels(alloc: Global, numbers: &[u32]) -> Result<Seq<Label>> {
+fn labels(alloc: Global, numbers: &[u32]) -> Result<Seq<Label>, AllocError> {
     let mut labels = Vec::new(alloc);
     for number in numbers {
         labels.push(Label(*number))?;
@@ -96,7 +95,7 @@ fn labels(alloc: Global, numbers: &[u32]) -> Result<Seq<Label>> {
     Ok(Seq::from_vec(labels))
 }
 
-fn symbol(alloc: Global, called: &str) -> Result<Op> {
+fn symbol(alloc: Global, called: &str) -> Result<Op, AllocError> {
     Ok(Op::Pure(Pure::Symbol(name(alloc, called)?)))
 }
 
@@ -110,7 +109,7 @@ fn new_block(cells: u8) -> NewBlock
 }
 
 /// Puts a block after the others. Those that would not fit with them are left out.
-fn add_block(blocks: &mut Blocks, cells: u8) -> Result<()> {
+fn add_block(blocks: &mut Blocks, cells: u8) -> Result<(), AllocError> {
     if blocks.bytes() < 4096 {
         blocks.push(new_block(cells))?;
     }
@@ -118,7 +117,7 @@ fn add_block(blocks: &mut Blocks, cells: u8) -> Result<()> {
 }
 
 /// Blocks of one cell and then of so many each.
-fn alloc_blocks(alloc: Global, others: &[u8]) -> Result<Op> {
+fn alloc_blocks(alloc: Global, others: &[u8]) -> Result<Op, AllocError> {
     let mut blocks = Blocks::one(alloc, new_block(1))?;
     for cells in others {
         add_block(&mut blocks, *cells)?;
@@ -126,19 +125,19 @@ fn alloc_blocks(alloc: Global, others: &[u8]) -> Result<Op> {
     Ok(Op::Access(Access::Alloc(blocks)))
 }
 
-fn call(alloc: Global, callee: &str) -> Result<Op> {
+fn call(alloc: Global, callee: &str) -> Result<Op, AllocError> {
     let callee = Callee::Symbol(name(alloc, callee)?);
     let result = VALUE;
     Ok(Op::Calling(Calling::Call { callee, result }))
 }
 
-fn tail_call(alloc: Global, callee: &str) -> Result<Op> {
+fn tail_call(alloc: Global, callee: &str) -> Result<Op, AllocError> {
     let callee = Callee::Symbol(name(alloc, callee)?);
     let result = VALUE;
     Ok(Op::Calling(Calling::TailCall { callee, result }))
 }
 
-fn external(alloc: Global, called: &str, frame: bool) -> Result<Op> {
+fn external(alloc: Global, called: &str, frame: bool) -> Result<Op, AllocError> {
     let row = External {
         name: name(alloc, called)?,
         params: Seq::new(alloc),
@@ -158,7 +157,7 @@ const TAIL_CALL_REGISTER: Calling = Calling::TailCall {
 };
 
 impl Form {
-    fn op(self, alloc: Global) -> Result<Op> {
+    fn op(self, alloc: Global) -> Result<Op, AllocError> {
         match self {
             Form::Copy(kind) => Ok(Op::Pure(Pure::Copy(kind))),
             Form::Constant(word) => Ok(Op::Pure(Pure::Constant(word))),
@@ -179,7 +178,7 @@ impl Form {
 }
 
 impl MarkForm {
-    fn mark(self, alloc: Global) -> Result<Mark> {
+    fn mark(self, alloc: Global) -> Result<Mark, AllocError> {
         match self {
             MarkForm::Exit { label, tries } => Ok(Mark::Exit {
                 label: Label(label),
@@ -218,7 +217,7 @@ impl MarkForm {
 }
 
 impl FlowForm {
-    fn flow(self, alloc: Global) -> Result<Flow> {
+    fn flow(self, alloc: Global) -> Result<Flow, AllocError> {
         match self {
             FlowForm::Label(label) => Ok(Flow::Label(Label(label))),
             FlowForm::Jump(label) => Ok(Flow::Jump(Label(label))),
@@ -236,7 +235,7 @@ impl FlowForm {
 }
 
 impl MachForm {
-    pub(crate) fn op(self, alloc: Global) -> Result<MachOp> {
+    pub(crate) fn op(self, alloc: Global) -> Result<MachOp, AllocError> {
         match self {
             MachForm::Op(form) => Ok(MachOp::Op(form.op(alloc)?)),
             MachForm::Mark(form) => Ok(MachOp::Mark(form.mark(alloc)?)),
@@ -245,7 +244,7 @@ impl MachForm {
 }
 
 impl LinForm {
-    pub(crate) fn op(self, alloc: Global) -> Result<LinOp> {
+    pub(crate) fn op(self, alloc: Global) -> Result<LinOp, AllocError> {
         match self {
             LinForm::Op(form) => Ok(LinOp::Op(form.op(alloc)?)),
             LinForm::Flow(form) => Ok(LinOp::Flow(form.flow(alloc)?)),

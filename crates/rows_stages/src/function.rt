@@ -1,20 +1,19 @@
 //! Functions of both languages, put together row by row.
 use crate::form::{LinForm, MachForm, name};
 use crate::registers::placed;
-use anyhow::Result;
-use bs_words::{List, Ret};
+use bs_words::{List, Name, Ret};
 use lin_ir::{Lin, Line, Spot};
 use mach_ir::{Instr, Mach, Reg, Seq};
-use std::alloc::Global;
+use std::alloc::{AllocError, Global};
 
 /// An instruction: what it does, its operands and its results.
 pub(crate) type Row<F> = (F, &'static [Reg], &'static [Reg]);
 
-fn regs(alloc: Global, regs: &[Reg]) -> Result<Seq<Reg>> {
+fn regs(alloc: Global, regs: &[Reg]) -> Result<Seq<Reg>, AllocError> {
     Ok(Seq::from_vec(regs.to_vec(alloc)?))
 }
 
-fn spots(alloc: Global, regs: &[Reg]) -> Result<Seq<Spot>> {
+fn spots(alloc: Global, regs: &[Reg]) -> Result<Seq<Spot>, AllocError> {
     let mut spots = Vec::new(alloc);
     for reg in regs {
         spots.push(placed(*reg))?;
@@ -22,7 +21,7 @@ fn spots(alloc: Global, regs: &[Reg]) -> Result<Seq<Spot>> {
     Ok(Seq::from_vec(spots))
 }
 
-fn instr(alloc: Global, row: Row<MachForm>) -> Result<Instr> {
+fn instr(alloc: Global, row: Row<MachForm>) -> Result<Instr, AllocError> {
     let (form, args, results) = row;
     let args = regs(alloc, args)?;
     let results = regs(alloc, results)?;
@@ -30,7 +29,7 @@ fn instr(alloc: Global, row: Row<MachForm>) -> Result<Instr> {
     Ok(Instr { op, args, results })
 }
 
-fn line(alloc: Global, form: LinForm, args: &[Reg], results: &[Reg]) -> Result<Line> {
+fn line(alloc: Global, form: LinForm, args: &[Reg], results: &[Reg]) -> Result<Line, AllocError> {
     let args = spots(alloc, args)?;
     let results = spots(alloc, results)?;
     let op = form.op(alloc)?;
@@ -53,23 +52,37 @@ impl MachCode {
     }
 
     /// Puts an instruction at the end.
-    pub(crate) fn put(&mut self, row: Row<MachForm>) -> Result<()> {
-        self.instrs.push(instr(self.alloc, row)?)?;
+    pub(crate) fn put(&mut self, row: Row<MachForm>) -> Result<(), AllocError> {
+        let instr = instr(self.alloc, row)?;
+        self.instrs.push(instr)?;
         Ok(())
     }
 
-    /// The text of the function with this code.
-    pub(crate) fn text(self, called: &str) -> Result<List<u8>> {
-        let MachCode { alloc, instrs } = self;
-        let function = Mach {
-            name: name(alloc, called)?,
-            params: Seq::new(alloc),
+    /// Puts instructions at the end.
+    pub(crate) fn put_all(&mut self, rows: &[Row<MachForm>]) -> Result<(), AllocError> {
+        for row in rows {
+            self.put(*row)?;
+        }
+        Ok(())
+    }
+
+    /// The function with this code.
+    fn function(self, name: Name) -> Mach {
+        Mach {
+            name,
+            params: Seq::new(self.alloc),
             result: Ret::Unit,
             labels: 10,
-            colours: Seq::new(alloc),
-            code: Seq::from_vec(instrs),
-        };
-        Ok(mach_ir::text(alloc, &function)?)
+            colours: Seq::new(self.alloc),
+            code: Seq::from_vec(self.instrs),
+        }
+    }
+
+    /// The text of the function with this code.
+    pub(crate) fn text(self, called: &str) -> Result<List<u8>, AllocError> {
+        let alloc = self.alloc;
+        let name = name(alloc, called)?;
+        mach_ir::text(alloc, &self.function(name))
     }
 }
 
@@ -89,21 +102,32 @@ impl LinCode {
     }
 
     /// Puts an instruction at the end, its registers placed.
-    pub(crate) fn put(&mut self, form: LinForm, args: &[Reg], results: &[Reg]) -> Result<()> {
-        self.lines.push(line(self.alloc, form, args, results)?)?;
+    pub(crate) fn put(
+        &mut self,
+        form: LinForm,
+        args: &[Reg],
+        results: &[Reg],
+    ) -> Result<(), AllocError> {
+        let line = line(self.alloc, form, args, results)?;
+        self.lines.push(line)?;
         Ok(())
     }
 
-    /// The text of the function with this code.
-    pub(crate) fn text(self, called: &str) -> Result<List<u8>> {
-        let LinCode { alloc, lines } = self;
-        let function = Lin {
-            name: name(alloc, called)?,
-            params: Seq::new(alloc),
+    /// The function with this code.
+    fn function(self, name: Name) -> Lin {
+        Lin {
+            name,
+            params: Seq::new(self.alloc),
             result: Ret::Unit,
             slots: 14,
-            code: Seq::from_vec(lines),
-        };
-        Ok(lin_ir::text(alloc, &function)?)
+            code: Seq::from_vec(self.lines),
+        }
+    }
+
+    /// The text of the function with this code.
+    pub(crate) fn text(self, called: &str) -> Result<List<u8>, AllocError> {
+        let alloc = self.alloc;
+        let name = name(alloc, called)?;
+        lin_ir::text(alloc, &self.function(name))
     }
 }

@@ -2,12 +2,11 @@
 use crate::form::{FAR, FlowForm, Form, LinForm, MachForm, MarkForm, NEAR};
 use crate::function::{LinCode, MachCode, Row};
 use crate::registers::{A, B, C, FIXED, SPILLED, machine};
-use anyhow::Result;
 use bs_words::{Chunk, CmpOp, IntOp, List};
 use mach_ir::{CopyKind, Leaving, Right, Test};
-use std::alloc::Global;
+use std::alloc::{AllocError, Global};
 
-pub(crate) const COMPARISONS: [CmpOp; 6] = [
+pub(crate) static COMPARISONS: [CmpOp; 6] = [
     CmpOp::Eq,
     CmpOp::Ne,
     CmpOp::Lt,
@@ -17,7 +16,7 @@ pub(crate) const COMPARISONS: [CmpOp; 6] = [
 ];
 
 /// The operators, in the order of their words in the rule of the texts, and the comparisons.
-const OPERATORS: [IntOp; 26] = [
+static OPERATORS: [IntOp; 26] = [
     IntOp::Add,
     IntOp::AddV,
     IntOp::AddA,
@@ -46,7 +45,7 @@ const OPERATORS: [IntOp; 26] = [
     IntOp::CmpU(CmpOp::Ge),
 ];
 
-const CHUNKS: [Chunk; 8] = [
+static CHUNKS: [Chunk; 8] = [
     Chunk::U8,
     Chunk::I8,
     Chunk::U16,
@@ -64,7 +63,7 @@ const MINUS_EIGHT: u64 = u64::MAX - 7;
 
 /// What comes before the operators. The constants are from the least to the greatest by their
 /// signed readings.
-const FIRST: [Row<Form>; 9] = [
+static FIRST: [Row<Form>; 9] = [
     (Form::Copy(CopyKind::Move), &[B], &[SPILLED]),
     (Form::Copy(CopyKind::Spill), &[B], &[SPILLED]),
     (Form::Copy(CopyKind::Reload), &[B], &[SPILLED]),
@@ -77,7 +76,7 @@ const FIRST: [Row<Form>; 9] = [
 ];
 
 /// What comes after the loads and stores.
-const LAST: [Row<Form>; 14] = [
+static LAST: [Row<Form>; 14] = [
     (Form::Alloc(&[]), &[], &[C]),
     (Form::Call("camlMain__f"), &[A, B], &[SPILLED]),
     (Form::Call("camlMain__g"), &[], &[]),
@@ -103,7 +102,7 @@ const LAST: [Row<Form>; 14] = [
 ];
 
 /// What Mach has at the end: blocks of 1, 2 and 3 cells, and an exit.
-const MACH_LAST: [Row<MachForm>; 2] = [
+static MACH_LAST: [Row<MachForm>; 2] = [
     (MachForm::Op(Form::Alloc(&[2, 3])), &[], &[A, B, C]),
     (
         MachForm::Mark(MarkForm::Exit { label: 7, tries: 0 }),
@@ -112,7 +111,7 @@ const MACH_LAST: [Row<MachForm>; 2] = [
     ),
 ];
 
-const BEFORE_BRANCHES: [Row<FlowForm>; 5] = [
+static BEFORE_BRANCHES: [Row<FlowForm>; 5] = [
     (FlowForm::Label(NEAR), &[], &[]),
     (FlowForm::Jump(NEAR), &[], &[]),
     (FlowForm::Exit(FAR), &[], &[]),
@@ -120,7 +119,7 @@ const BEFORE_BRANCHES: [Row<FlowForm>; 5] = [
     (FlowForm::Branch(Test::Fails), &[A], &[]),
 ];
 
-const AFTER_BRANCHES: [Row<FlowForm>; 5] = [
+static AFTER_BRANCHES: [Row<FlowForm>; 5] = [
     (FlowForm::Switch(&[NEAR, FAR, NEAR]), &[A], &[]),
     (FlowForm::PushTrap, &[], &[]),
     (FlowForm::PopTrap, &[], &[]),
@@ -164,49 +163,73 @@ fn branch_rows(compare: CmpOp) -> [Row<FlowForm>; 4] {
 }
 
 /// The operations that both languages have.
-fn operations(alloc: Global) -> Result<Vec<Row<Form>>> {
-    let mut rows = FIRST.to_vec(alloc)?;
-    for op in OPERATORS {
-        rows.extend_from_slice(&operator_rows(op))?;
-    }
-    for chunk in CHUNKS {
-        rows.extend_from_slice(&chunk_rows(chunk))?;
-    }
-    rows.extend_from_slice(&LAST)?;
-    Ok(rows)
+#[derive(Drop)]
+struct Operations {
+    rows: Vec<Row<Form>>,
 }
 
-/// The lines of Linear about control.
-fn flows(alloc: Global) -> Result<Vec<Row<FlowForm>>> {
-    let mut rows = BEFORE_BRANCHES.to_vec(alloc)?;
-    for compare in COMPARISONS {
-        rows.extend_from_slice(&branch_rows(compare))?;
+impl Operations {
+    fn new(alloc: Global) -> Result<Self, AllocError> {
+        let rows = FIRST.to_vec(alloc)?;
+        Ok(Operations { rows })
     }
-    rows.extend_from_slice(&AFTER_BRANCHES)?;
-    Ok(rows)
+
+    fn add(&mut self, rows: &[Row<Form>]) -> Result<(), AllocError> {
+        self.rows.extend_from_slice(rows)
+    }
+
+    fn add_operators(&mut self) -> Result<(), AllocError> {
+        for op in &OPERATORS {
+            self.add(&operator_rows(*op))?;
+        }
+        Ok(())
+    }
+
+    fn add_chunks(&mut self) -> Result<(), AllocError> {
+        for chunk in &CHUNKS {
+            self.add(&chunk_rows(*chunk))?;
+        }
+        Ok(())
+    }
+
+    fn add_all(&mut self) -> Result<(), AllocError> {
+        self.add_operators()?;
+        self.add_chunks()?;
+        self.add(&LAST)
+    }
+
+    /// All of them, in the order of their lines.
+    fn all(alloc: Global) -> Result<Self, AllocError> {
+        let mut operations = Operations::new(alloc)?;
+        operations.add_all()?;
+        Ok(operations)
+    }
+}
+
+fn put_mach_operations(alloc: Global, code: &mut MachCode) -> Result<(), AllocError> {
+    for (form, args, results) in Operations::all(alloc)?.rows.as_slice() {
+        code.put((MachForm::Op(*form), *args, *results))?;
+    }
+    Ok(())
 }
 
 /// A Mach function of every operation, and an exit.
-pub(crate) fn mach_text(alloc: Global) -> Result<List<u8>> {
+pub(crate) fn mach_text(alloc: Global) -> Result<List<u8>, AllocError> {
     let mut code = MachCode::new(alloc);
-    for (form, args, results) in operations(alloc)? {
-        code.put((MachForm::Op(form), args, results))?;
-    }
-    for row in MACH_LAST {
-        code.put(row)?;
-    }
+    put_mach_operations(alloc, &mut code)?;
+    code.put_all(&MACH_LAST)?;
     code.text("operations")
 }
 
-fn put_operations(alloc: Global, code: &mut LinCode) -> Result<()> {
-    for (form, args, results) in operations(alloc)? {
-        code.put(LinForm::Op(form), args, results)?;
+fn put_operations(alloc: Global, code: &mut LinCode) -> Result<(), AllocError> {
+    for (form, args, results) in Operations::all(alloc)?.rows.as_slice() {
+        code.put(LinForm::Op(*form), *args, *results)?;
     }
     Ok(())
 }
 
 /// A move from every register of the machine.
-fn put_registers(code: &mut LinCode) -> Result<()> {
+fn put_registers(code: &mut LinCode) -> Result<(), AllocError> {
     for number in 0..32u8 {
         let copy = LinForm::Op(Form::Copy(CopyKind::Move));
         code.put(copy, &[machine(number)], &[SPILLED])?;
@@ -214,19 +237,33 @@ fn put_registers(code: &mut LinCode) -> Result<()> {
     Ok(())
 }
 
-fn put_flows(alloc: Global, code: &mut LinCode) -> Result<()> {
-    for (form, args, results) in flows(alloc)? {
-        code.put(LinForm::Flow(form), args, results)?;
+fn put_flow_rows(code: &mut LinCode, rows: &[Row<FlowForm>]) -> Result<(), AllocError> {
+    for (form, args, results) in rows {
+        code.put(LinForm::Flow(*form), *args, *results)?;
     }
     Ok(())
 }
 
+fn put_branches(code: &mut LinCode) -> Result<(), AllocError> {
+    for compare in &COMPARISONS {
+        put_flow_rows(code, &branch_rows(*compare))?;
+    }
+    Ok(())
+}
+
+/// The lines of Linear about control.
+fn put_flows(code: &mut LinCode) -> Result<(), AllocError> {
+    put_flow_rows(code, &BEFORE_BRANCHES)?;
+    put_branches(code)?;
+    put_flow_rows(code, &AFTER_BRANCHES)
+}
+
 /// A Linear function of every operation, of every register of the machine, and of what is Linear's
 /// own.
-pub(crate) fn lin_text(alloc: Global) -> Result<List<u8>> {
+pub(crate) fn lin_text(alloc: Global) -> Result<List<u8>, AllocError> {
     let mut code = LinCode::new(alloc);
     put_operations(alloc, &mut code)?;
     put_registers(&mut code)?;
-    put_flows(alloc, &mut code)?;
+    put_flows(&mut code)?;
     code.text("lines")
 }
