@@ -149,7 +149,7 @@ const BLOCKS: Form = Form {
 };
 
 /// The marks of Mach.
-pub(crate) const MARKS: [(&str, Form); 11] = [
+pub(crate) static MARKS: [(&str, Form); 11] = [
     ("exit", LABELS),
     ("if", TEST),
     ("else", LABELS),
@@ -164,7 +164,7 @@ pub(crate) const MARKS: [(&str, Form); 11] = [
 ];
 
 /// What leads elsewhere in Linear.
-pub(crate) const FLOWS: [(&str, Form); 8] = [
+pub(crate) static FLOWS: [(&str, Form); 8] = [
     ("label", LABEL),
     ("jump", LABEL),
     ("exit", LABEL),
@@ -176,7 +176,7 @@ pub(crate) const FLOWS: [(&str, Form); 8] = [
 ];
 
 /// The operations of both that have names of their own.
-const OPERATIONS: [(&str, Form); 15] = [
+static OPERATIONS: [(&str, Form); 15] = [
     ("move", NOTHING),
     ("spill", NOTHING),
     ("reload", NOTHING),

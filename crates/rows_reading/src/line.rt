@@ -6,7 +6,7 @@
 ghost use Rattle.std.specs.Prelude.{◌≤◌, IfSome};
 
 use crate::forms::{FLOWS, Form, MARKS, form_of};
-use crate::words::{chunk, given, number, operator, register, right, test};
+use crate::words::{chunk, entry, given, number, operator, register, right, test};
 use anyhow::{Result, bail};
 use bs_words::{Name, Ret};
 use lin_ir::{Flow, LinOp, Line, Spot};
@@ -14,7 +14,26 @@ use mach_ir::{
     Access, Blocks, Callee, Calling, CopyKind, External, Instr, Label, Leaving, MachOp, Mark,
     NewBlock, Op, Pure, Reg, Right, Seq, Test,
 };
-use std::alloc::Global;
+use std::alloc::{AllocError, Global};
+
+/// A call of what a word names or of a register, perhaps in the tail, or of a function outside.
+#[derive(Clone, Copy)]
+enum Call {
+    Symbol,
+    Register,
+    TailSymbol,
+    TailRegister,
+    External { frame: bool },
+}
+
+static CALLS: [(&str, Call); 6] = [
+    ("call", Call::Symbol),
+    ("callreg", Call::Register),
+    ("tail", Call::TailSymbol),
+    ("tailreg", Call::TailRegister),
+    ("extern", Call::External { frame: false }),
+    ("frame", Call::External { frame: true }),
+];
 
 /// A line taken apart.
 #[derive(Drop)]
@@ -31,7 +50,7 @@ pub struct Parts<'a> {
 /// # Errors
 ///
 /// Want of memory alone.
-pub fn words_of<'a>(alloc: Global, line: &'a str) -> Result<Vec<&'a str>> {
+pub fn words_of<'a>(alloc: Global, line: &'a str) -> Result<Vec<&'a str>, AllocError> {
     let mut words = Vec::new(alloc);
     for word in line.split(' ') {
         if !word.is_empty() {
@@ -41,6 +60,13 @@ pub fn words_of<'a>(alloc: Global, line: &'a str) -> Result<Vec<&'a str>> {
     Ok(words)
 }
 
+fn register_of(word: &str) -> Result<Reg> {
+    match register(word) {
+        Some(reg) => Ok(reg),
+        None => bail!("no register: {word}"),
+    }
+}
+
 /// The registers whose words the text has.
 ///
 /// # Errors
@@ -48,10 +74,9 @@ pub fn words_of<'a>(alloc: Global, line: &'a str) -> Result<Vec<&'a str>> {
 /// A word that is no register, or want of memory.
 pub fn registers(alloc: Global, text: &str) -> Result<Vec<Reg>> {
     let mut regs = Vec::new(alloc);
-    for word in words_of(alloc, text)? {
-        match register(word) {
-            Some(reg) => regs.push(reg)?,
-            None => bail!("no register: {word}"),
+    for word in text.split(' ') {
+        if !word.is_empty() {
+            regs.push(register_of(word)?)?;
         }
     }
     Ok(regs)
@@ -63,32 +88,49 @@ pub fn registers(alloc: Global, text: &str) -> Result<Vec<Reg>> {
 ///
 /// A word among the results that is no register, or want of memory.
 pub fn apart<'a>(alloc: Global, line: &'a str) -> Result<Parts<'a>> {
-    let (results, body) = match line.split_once(" = ") {
-        Some((before, body)) => (registers(alloc, before)?, body),
-        None => (Vec::new(alloc), line),
+    let (before, body) = match line.split_once(" = ") {
+        Some(parts) => parts,
+        None => ("", line),
     };
     let (name, rest) = match body.split_once(" ") {
-        Some(split) => split,
+        Some(parts) => parts,
         None => (body, ""),
     };
-    let mut words = Vec::new(alloc);
-    let mut args = Vec::new(alloc);
-    for word in words_of(alloc, rest)? {
-        match register(word) {
-            Some(reg) => args.push(reg)?,
-            None => words.push(word)?,
-        }
-    }
-    Ok(Parts {
-        alloc,
-        name,
-        words,
-        args,
-        results,
-    })
+    let mut parts = Parts::new(alloc, name, registers(alloc, before)?);
+    parts.add_words(rest)?;
+    Ok(parts)
 }
 
 impl<'a> Parts<'a> {
+    /// A name and results; the words are not read yet.
+    fn new(alloc: Global, name: &'a str, results: Vec<Reg>) -> Self {
+        Parts {
+            alloc,
+            name,
+            words: Vec::new(alloc),
+            args: Vec::new(alloc),
+            results,
+        }
+    }
+
+    /// Adds a word, to the operands where it is a register.
+    fn add(&mut self, word: &'a str) -> Result<(), AllocError> {
+        match register(word) {
+            Some(reg) => self.args.push(reg)?,
+            None => self.words.push(word)?,
+        }
+        Ok(())
+    }
+
+    fn add_words(&mut self, text: &'a str) -> Result<(), AllocError> {
+        for word in text.split(' ') {
+            if !word.is_empty() {
+                self.add(word)?;
+            }
+        }
+        Ok(())
+    }
+
     /// The number that is word `index`, or 0.
     fn number(&self, index: usize) -> u32 {
         match self.words.get(index) {
@@ -113,7 +155,7 @@ impl<'a> Parts<'a> {
         right(self.words.as_slice())
     }
 
-    fn called(&self) -> Result<Name> {
+    fn called(&self) -> Result<Name, AllocError> {
         Ok(Name::from_vec(self.word(0).as_bytes().to_vec(self.alloc)?))
     }
 
@@ -133,25 +175,25 @@ impl<'a> Parts<'a> {
     }
 
     /// The indexes of a case, which come after its labels.
-    fn indexes(&self) -> Result<Seq<u32>> {
+    fn indexes(&self) -> Result<Seq<u32>, AllocError> {
         let mut indexes = Vec::new(self.alloc);
-        for word in self.words.as_slice().iter().skip(2) {
-            indexes.push(word.parse::<u32>().unwrap_or(0))?;
+        for index in 2..self.words.len() {
+            indexes.push(self.number(index))?;
         }
         Ok(Seq::from_vec(indexes))
     }
 
     /// The labels whose numbers the words are.
-    fn labels(&self) -> Result<Seq<Label>> {
+    fn labels(&self) -> Result<Seq<Label>, AllocError> {
         let mut labels = Vec::new(self.alloc);
-        for word in self.words.as_slice() {
-            labels.push(Label(word.parse::<u32>().unwrap_or(0)))?;
+        for index in 0..self.words.len() {
+            labels.push(self.label(index))?;
         }
         Ok(Seq::from_vec(labels))
     }
 
     /// Each word is a header and a number of cells: `2048:2`.
-    fn blocks(&self) -> Result<Option<Blocks>> {
+    fn blocks(&self) -> Result<Option<Blocks>, AllocError> {
         let mut blocks: Option<Blocks> = None;
         for word in self.words.as_slice() {
             let Some(block) = new_block(word) else {
@@ -171,7 +213,7 @@ impl<'a> Parts<'a> {
         Ok(blocks)
     }
 
-    fn external(&self, frame: bool) -> Result<Calling> {
+    fn external(&self, frame: bool) -> Result<Calling, AllocError> {
         let row = External {
             name: self.called()?,
             params: Seq::new(self.alloc),
@@ -180,63 +222,78 @@ impl<'a> Parts<'a> {
         Ok(Calling::External { row, frame })
     }
 
-    fn calling(&self) -> Result<Option<Calling>> {
+    /// A call of a function that is named.
+    fn call(&self) -> Result<Calling, AllocError> {
+        let callee = Callee::Symbol(self.called()?);
         let result = self.result();
-        match self.name {
-            "call" => {
-                let callee = Callee::Symbol(self.called()?);
-                Ok(Some(Calling::Call { callee, result }))
-            }
-            "callreg" => {
-                let callee = Callee::Register;
-                Ok(Some(Calling::Call { callee, result }))
-            }
-            "tail" => {
-                let callee = Callee::Symbol(self.called()?);
-                Ok(Some(Calling::TailCall { callee, result }))
-            }
-            "tailreg" => {
-                let callee = Callee::Register;
-                Ok(Some(Calling::TailCall { callee, result }))
-            }
-            "extern" => Ok(Some(self.external(false)?)),
-            "frame" => Ok(Some(self.external(true)?)),
-            _ => Ok(None),
+        Ok(Calling::Call { callee, result })
+    }
+
+    /// A tail call of a function that is named.
+    fn tail_call(&self) -> Result<Calling, AllocError> {
+        let callee = Callee::Symbol(self.called()?);
+        let result = self.result();
+        Ok(Calling::TailCall { callee, result })
+    }
+
+    fn call_register(&self) -> Calling {
+        let callee = Callee::Register;
+        let result = self.result();
+        Calling::Call { callee, result }
+    }
+
+    fn tail_call_register(&self) -> Calling {
+        let callee = Callee::Register;
+        let result = self.result();
+        Calling::TailCall { callee, result }
+    }
+
+    fn calling(&self, kind: Call) -> Result<Calling, AllocError> {
+        match kind {
+            Call::Symbol => self.call(),
+            Call::Register => Ok(self.call_register()),
+            Call::TailSymbol => self.tail_call(),
+            Call::TailRegister => Ok(self.tail_call_register()),
+            Call::External { frame } => self.external(frame),
         }
     }
 
-    fn pure(&self) -> Result<Option<Pure>> {
+    /// The operations of registers whose words need no memory.
+    fn plain(&self) -> Option<Pure> {
         match self.name {
-            "move" => Ok(Some(Pure::Copy(CopyKind::Move))),
-            "spill" => Ok(Some(Pure::Copy(CopyKind::Spill))),
-            "reload" => Ok(Some(Pure::Copy(CopyKind::Reload))),
-            "const" => match number(self.word(0)) {
-                Some(word) => Ok(Some(Pure::Constant(word))),
-                None => Ok(None),
-            },
-            "symbol" => Ok(Some(Pure::Symbol(self.called()?))),
-            name => match operator(name) {
-                Some(op) => Ok(Some(Pure::Operator(op, self.right()))),
-                None => Ok(None),
-            },
+            "move" => Some(Pure::Copy(CopyKind::Move)),
+            "spill" => Some(Pure::Copy(CopyKind::Spill)),
+            "reload" => Some(Pure::Copy(CopyKind::Reload)),
+            "const" => Some(Pure::Constant(number(self.word(0))?)),
+            name => Some(Pure::Operator(operator(name)?, self.right())),
         }
     }
 
-    fn access(&self) -> Result<Option<Access>> {
-        if self.name == "alloc" {
-            return Ok(self.blocks()?.map(Access::Alloc));
+    fn pure(&self) -> Result<Option<Pure>, AllocError> {
+        if self.name == "symbol" {
+            Ok(Some(Pure::Symbol(self.called()?)))
+        } else {
+            Ok(self.plain())
         }
-        let Some((name, wide)) = self.name.split_once(":") else {
-            return Ok(None);
-        };
-        let Some(chunk) = chunk(wide) else {
-            return Ok(None);
-        };
+    }
+
+    /// A load or a store.
+    fn memory(&self) -> Option<Access> {
+        let (name, wide) = self.name.split_once(":")?;
+        let chunk = chunk(wide)?;
         let offset = number(self.word(0)).unwrap_or(0);
         match name {
-            "load" => Ok(Some(Access::Load { chunk, offset })),
-            "store" => Ok(Some(Access::Store { chunk, offset })),
-            _ => Ok(None),
+            "load" => Some(Access::Load { chunk, offset }),
+            "store" => Some(Access::Store { chunk, offset }),
+            _ => None,
+        }
+    }
+
+    fn access(&self) -> Result<Option<Access>, AllocError> {
+        if self.name == "alloc" {
+            Ok(self.blocks()?.map(Access::Alloc))
+        } else {
+            Ok(self.memory())
         }
     }
 
@@ -249,12 +306,12 @@ impl<'a> Parts<'a> {
         }
     }
 
-    fn op(&self) -> Result<Option<Op>> {
+    fn op(&self) -> Result<Option<Op>, AllocError> {
         if let Some(leaving) = self.leaving() {
             return Ok(Some(Op::Leaving(leaving)));
         }
-        if let Some(calling) = self.calling()? {
-            return Ok(Some(Op::Calling(calling)));
+        if let Some(kind) = entry(&CALLS, self.name) {
+            return Ok(Some(Op::Calling(self.calling(kind)?)));
         }
         if let Some(access) = self.access()? {
             return Ok(Some(Op::Access(access)));
@@ -266,58 +323,105 @@ impl<'a> Parts<'a> {
         test(self.word(0), self.right())
     }
 
-    /// Which mark of Mach it is; its labels come before all else, but for the word of a test.
-    fn mark(&self) -> Result<Option<Mark>> {
+    fn case(&self) -> Result<Mark, AllocError> {
+        Ok(Mark::Case {
+            indexes: self.indexes()?,
+            label: self.label(0),
+            end: self.label(1),
+        })
+    }
+
+    /// The marks whose words are a test or two numbers at the most.
+    fn plain_mark(&self) -> Option<Mark> {
         let (label, end) = (self.label(0), self.label(1));
         match self.name {
-            "exit" => Ok(Some(Mark::Exit {
+            "exit" => Some(Mark::Exit {
                 label,
                 tries: self.number(1),
-            })),
-            "if" => Ok(
-                self.test().map(|test| Mark::If {
-                    test,
-                    otherwise: end,
-                }),
-            ),
-            "else" => Ok(Some(Mark::Else { label, end })),
-            "switch" => Ok(Some(Mark::Switch(self.labels()?))),
-            "case" => Ok(Some(Mark::Case {
-                indexes: self.indexes()?,
-                label,
-                end,
-            })),
-            "catch" => Ok(Some(Mark::Catch)),
-            "with" => Ok(Some(Mark::With { label, end })),
-            "try" => Ok(Some(Mark::Try { handler: label })),
-            "leave" => Ok(Some(Mark::Leave {
+            }),
+            "if" => Some(Mark::If {
+                test: self.test()?,
+                otherwise: end,
+            }),
+            "else" => Some(Mark::Else { label, end }),
+            "catch" => Some(Mark::Catch),
+            "with" => Some(Mark::With { label, end }),
+            "try" => Some(Mark::Try { handler: label }),
+            "leave" => Some(Mark::Leave {
                 handler: label,
                 end,
-            })),
-            "handler" => Ok(Some(Mark::Handler { label })),
-            "end" => Ok(Some(Mark::End { label })),
-            _ => Ok(None),
+            }),
+            "handler" => Some(Mark::Handler { label }),
+            "end" => Some(Mark::End { label }),
+            _ => None,
         }
     }
 
-    fn flow(&self) -> Result<Option<Flow>> {
+    /// Which mark of Mach it is; its labels come before all else, but for the word of a test.
+    fn mark(&self) -> Result<Option<Mark>, AllocError> {
+        match self.name {
+            "switch" => Ok(Some(Mark::Switch(self.labels()?))),
+            "case" => Ok(Some(self.case()?)),
+            _ => Ok(self.plain_mark()),
+        }
+    }
+
+    /// How control goes in Linear, but for a switch.
+    fn plain_flow(&self) -> Option<Flow> {
         let label = self.label(0);
         match self.name {
-            "label" => Ok(Some(Flow::Label(label))),
-            "jump" => Ok(Some(Flow::Jump(label))),
-            "exit" => Ok(Some(Flow::Exit(label))),
-            "branch" => Ok(
-                self.test().map(|test| Flow::Branch {
-                    test,
-                    label: self.label(1),
-                }),
-            ),
-            "switch" => Ok(Some(Flow::Switch(self.labels()?))),
-            "push" => Ok(Some(Flow::PushTrap(label))),
-            "pop" => Ok(Some(Flow::PopTrap)),
-            "enter" => Ok(Some(Flow::EnterTrap)),
-            _ => Ok(None),
+            "label" => Some(Flow::Label(label)),
+            "jump" => Some(Flow::Jump(label)),
+            "exit" => Some(Flow::Exit(label)),
+            "branch" => Some(Flow::Branch {
+                test: self.test()?,
+                label: self.label(1),
+            }),
+            "push" => Some(Flow::PushTrap(label)),
+            "pop" => Some(Flow::PopTrap),
+            "enter" => Some(Flow::EnterTrap),
+            _ => None,
         }
+    }
+
+    fn flow(&self) -> Result<Option<Flow>, AllocError> {
+        if self.name == "switch" {
+            Ok(Some(Flow::Switch(self.labels()?)))
+        } else {
+            Ok(self.plain_flow())
+        }
+    }
+
+    /// What an instruction of Mach does.
+    fn mach_op(&self) -> Result<Option<MachOp>, AllocError> {
+        match self.mark()? {
+            Some(mark) => Ok(Some(MachOp::Mark(mark))),
+            None => Ok(self.op()?.map(MachOp::Op)),
+        }
+    }
+
+    /// What a line of Linear does.
+    fn lin_op(&self) -> Result<Option<LinOp>, AllocError> {
+        match self.flow()? {
+            Some(flow) => Ok(Some(LinOp::Flow(flow))),
+            None => Ok(self.op()?.map(LinOp::Op)),
+        }
+    }
+
+    /// The instruction of Mach that does this.
+    fn instr_of(self, op: MachOp) -> Instr {
+        Instr {
+            op,
+            args: Seq::from_vec(self.args),
+            results: Seq::from_vec(self.results),
+        }
+    }
+
+    /// The line of Linear that does this.
+    fn line_of(&self, op: LinOp) -> Result<Line, AllocError> {
+        let args = spots(self.alloc, self.args.as_slice())?;
+        let results = spots(self.alloc, self.results.as_slice())?;
+        Ok(Line { op, args, results })
     }
 
     /// The instruction of Mach, if it is one.
@@ -325,22 +429,14 @@ impl<'a> Parts<'a> {
     /// # Errors
     ///
     /// Want of memory alone.
-    pub fn instr(self) -> Result<Option<Instr>> {
+    pub fn instr(self) -> Result<Option<Instr>, AllocError> {
         if !self.is_whole(&MARKS) {
             return Ok(None);
         }
-        let op = match self.mark()? {
-            Some(mark) => MachOp::Mark(mark),
-            None => match self.op()? {
-                Some(op) => MachOp::Op(op),
-                None => return Ok(None),
-            },
-        };
-        Ok(Some(Instr {
-            op,
-            args: Seq::from_vec(self.args),
-            results: Seq::from_vec(self.results),
-        }))
+        match self.mach_op()? {
+            Some(op) => Ok(Some(self.instr_of(op))),
+            None => Ok(None),
+        }
     }
 
     /// The line of Linear, if it is one.
@@ -348,22 +444,14 @@ impl<'a> Parts<'a> {
     /// # Errors
     ///
     /// Want of memory alone.
-    pub fn line(self) -> Result<Option<Line>> {
+    pub fn line(self) -> Result<Option<Line>, AllocError> {
         if !self.is_whole(&FLOWS) {
             return Ok(None);
         }
-        let op = match self.flow()? {
-            Some(flow) => LinOp::Flow(flow),
-            None => match self.op()? {
-                Some(op) => LinOp::Op(op),
-                None => return Ok(None),
-            },
-        };
-        Ok(Some(Line {
-            op,
-            args: spots(self.alloc, self.args.as_slice())?,
-            results: spots(self.alloc, self.results.as_slice())?,
-        }))
+        match self.lin_op()? {
+            Some(op) => Ok(Some(self.line_of(op)?)),
+            None => Ok(None),
+        }
     }
 }
 
@@ -381,7 +469,7 @@ fn new_block(word: &str) -> Option<NewBlock>
 /// # Errors
 ///
 /// Want of memory alone.
-pub fn spots(alloc: Global, regs: &[Reg]) -> Result<Seq<Spot>> {
+pub fn spots(alloc: Global, regs: &[Reg]) -> Result<Seq<Spot>, AllocError> {
     let mut spots = Vec::new(alloc);
     for reg in regs {
         spots.push(Spot {

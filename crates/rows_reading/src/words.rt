@@ -7,7 +7,7 @@
 use bs_words::{Chunk, CmpOp, Comp, IntOp, Loc, Ret, Value};
 use mach_ir::{Reg, Right, Test};
 
-const OPERATORS: [(&str, IntOp); 14] = [
+static OPERATORS: [(&str, IntOp); 14] = [
     ("+", IntOp::Add),
     ("+v", IntOp::AddV),
     ("+a", IntOp::AddA),
@@ -24,7 +24,7 @@ const OPERATORS: [(&str, IntOp); 14] = [
     (">>s", IntOp::Sar),
 ];
 
-const COMPARISONS: [(&str, CmpOp); 6] = [
+static COMPARISONS: [(&str, CmpOp); 6] = [
     ("==", CmpOp::Eq),
     ("!=", CmpOp::Ne),
     ("<", CmpOp::Lt),
@@ -33,7 +33,7 @@ const COMPARISONS: [(&str, CmpOp); 6] = [
     (">=", CmpOp::Ge),
 ];
 
-const CHUNKS: [(&str, Chunk); 8] = [
+static CHUNKS: [(&str, Chunk); 8] = [
     ("u8", Chunk::U8),
     ("i8", Chunk::I8),
     ("u16", Chunk::U16),
@@ -44,7 +44,7 @@ const CHUNKS: [(&str, Chunk); 8] = [
     ("val", Chunk::Val),
 ];
 
-const RESULTS: [(&str, Ret); 4] = [
+static RESULTS: [(&str, Ret); 4] = [
     ("int", Ret::Comp(Comp::Int)),
     ("val", Ret::Comp(Comp::Val)),
     ("addr", Ret::Comp(Comp::Addr)),
@@ -77,23 +77,19 @@ pub fn chunk(word: &str) -> Option<Chunk> {
     entry(&CHUNKS, word)
 }
 
+fn comparison(word: &str, right: Right) -> Option<Test> {
+    match word.strip_prefix("u") {
+        Some(compare) => Some(Test::Unsigned(entry(&COMPARISONS, compare)?, right)),
+        None => Some(Test::Signed(entry(&COMPARISONS, word)?, right)),
+    }
+}
+
 /// A test, whose right operand is a constant or the last register.
 pub fn test(word: &str, right: Right) -> Option<Test> {
-    if word == "holds" {
-        return Some(Test::Holds);
-    }
-    if word == "fails" {
-        return Some(Test::Fails);
-    }
-    match word.strip_prefix("u") {
-        Some(compare) => match entry(&COMPARISONS, compare) {
-            Some(compare) => Some(Test::Unsigned(compare, right)),
-            None => None,
-        },
-        None => match entry(&COMPARISONS, word) {
-            Some(compare) => Some(Test::Signed(compare, right)),
-            None => None,
-        },
+    match word {
+        "holds" => Some(Test::Holds),
+        "fails" => Some(Test::Fails),
+        _ => comparison(word, right),
     }
 }
 
@@ -110,20 +106,26 @@ pub fn given(word: &str) -> Option<Ret> {
     entry(&RESULTS, word)
 }
 
+/// A block's serial, with an offset after `+`.
+fn block(word: &str) -> Option<Value> {
+    let (serial, offset) = match word.split_once("+") {
+        Some(parts) => parts,
+        None => (word, "0"),
+    };
+    let serial = number(serial)?;
+    let offset = number(offset)?;
+    Some(Value::Block { serial, offset })
+}
+
 /// A word; `b` and a block's serial, with an offset after `+`; or `f` and a function's number.
 pub fn value(word: &str) -> Option<Value> {
     if let Some(function) = word.strip_prefix("f") {
         return Some(Value::Function(function.parse::<u32>().ok()?));
     }
-    let Some(block) = word.strip_prefix("b") else {
-        return Some(Value::Word(number(word)?));
-    };
-    let (serial, offset) = match block.split_once("+") {
-        Some((serial, offset)) => (serial, number(offset)?),
-        None => (block, 0),
-    };
-    let serial = number(serial)?;
-    Some(Value::Block { serial, offset })
+    match word.strip_prefix("b") {
+        Some(rest) => block(rest),
+        None => Some(Value::Word(number(word)?)),
+    }
 }
 
 fn typed(word: &str) -> Option<(Comp, &str)> {
@@ -146,28 +148,46 @@ fn loc(word: &str) -> Option<Loc> {
     }
 }
 
-/// A register, or no register.
-pub fn register(word: &str) -> Option<Reg> {
-    let (comp, rest) = typed(word)?;
-    let (rest, origin) = match rest.split_once("^") {
-        Some((rest, origin)) => (rest, Some(origin.parse::<u32>().ok()?)),
-        None => (rest, None),
-    };
-    let (number, loc) = match rest.split_once("@") {
-        Some((number, place)) => (number, loc(place)?),
-        None => (rest, Loc::Unset),
-    };
-    let number = if number.is_empty() && loc != Loc::Unset {
-        0
+/// The number of a register at a place, which may be left out.
+fn number_at_place(word: &str) -> Option<u32> {
+    if word.is_empty() {
+        Some(0)
     } else {
-        number.parse::<u32>().ok()?
-    };
+        word.parse::<u32>().ok()
+    }
+}
+
+/// The number of a register and its place.
+fn numbered(word: &str) -> Option<(u32, Loc)> {
+    match word.split_once("@") {
+        Some((number, place)) => Some((number_at_place(number)?, loc(place)?)),
+        None => Some((word.parse::<u32>().ok()?, Loc::Unset)),
+    }
+}
+
+/// A register that is its own origin.
+fn origin_register(word: &str) -> Option<Reg> {
+    let (comp, rest) = typed(word)?;
+    let (number, loc) = numbered(rest)?;
+    let origin = number;
     Some(Reg {
         number,
         comp,
         loc,
-        origin: origin.unwrap_or(number),
+        origin,
     })
+}
+
+/// A register, or no register.
+pub fn register(word: &str) -> Option<Reg> {
+    match word.split_once("^") {
+        Some((word, origin)) => {
+            let mut reg = origin_register(word)?;
+            reg.origin = origin.parse::<u32>().ok()?;
+            Some(reg)
+        }
+        None => origin_register(word),
+    }
 }
 
 /// The constant after `#` among the words, as the right operand; else the last register.
