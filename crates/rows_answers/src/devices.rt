@@ -29,46 +29,85 @@ pub fn said_to<R: Threads + Sync, T: Top>(
     table: &mut Table<'_, R, T>,
     row: &str,
 ) -> Result<Vec<u8>, AllocError> {
-    let alloc = table.alloc();
     let Some((words, input)) = row.split_once(" | ") else {
-        return b"no bar\n".to_vec(alloc);
+        return b"no bar\n".to_vec(table.alloc());
     };
-    let mut said = words.as_bytes().to_vec(alloc)?;
-    said.extend_from_slice(b": ")?;
-    if let Some(words) = words.strip_prefix("once ") {
-        let answer = table.answer_to(words, input)?;
-        said.extend_from_slice(told(alloc, &answer, &answer)?.as_slice())?;
-        return Ok(said);
+    match words.strip_prefix("once ") {
+        Some(command) => once(table, words, command, input),
+        None => with_trials(table, words, input),
     }
+}
+
+/// The line of a command that is not tried with trouble.
+fn once<R: Threads + Sync, T: Top>(
+    table: &mut Table<'_, R, T>,
+    words: &str,
+    command: &str,
+    input: &str,
+) -> Result<Vec<u8>, AllocError> {
+    let answer = table.answer_to(command, input)?;
+    without(table.alloc(), words, &answer)
+}
+
+/// The line of a command, and those of its trials.
+fn with_trials<R: Threads + Sync, T: Top>(
+    table: &mut Table<'_, R, T>,
+    words: &str,
+    input: &str,
+) -> Result<Vec<u8>, AllocError> {
     let whole = table.answer_to(words, input)?;
-    said.extend_from_slice(told(alloc, &whole, &whole)?.as_slice())?;
+    let mut said = without(table.alloc(), words, &whole)?;
     for trouble in TROUBLES {
-        said.extend_from_slice(tried(table, words, trouble, &whole)?.as_slice())?;
+        put_trials(table, &mut said, words, trouble, &whole)?;
     }
     Ok(said)
 }
 
-/// The lines of the trials of a trouble, up to the first that changes nothing.
+/// The line of what is answered without trouble.
+fn without(alloc: Global, words: &str, whole: &Answer) -> Result<Vec<u8>, AllocError> {
+    let mut said = format!(in alloc; "{words}: ")?.into_bytes();
+    put_answer(alloc, &mut said, whole, whole)?;
+    Ok(said)
+}
+
+/// Puts the lines of the trials of a trouble, up to the first that changes nothing, after what is there.
+fn put_trials<R: Threads + Sync, T: Top>(
+    table: &mut Table<'_, R, T>,
+    said: &mut Vec<u8>,
+    words: &str,
+    trouble: &str,
+    whole: &Answer,
+) -> Result<(), AllocError> {
+    for number in 0..TRIALS {
+        let answer = tried(table, words, trouble, number)?;
+        put_head(table.alloc(), said, trouble, number)?;
+        if is_same(&answer, whole) {
+            return said.extend_from_slice(b"as without\n");
+        }
+        put_answer(table.alloc(), said, &answer, whole)?;
+    }
+    Ok(())
+}
+
+/// What is answered to a trial.
 fn tried<R: Threads + Sync, T: Top>(
     table: &mut Table<'_, R, T>,
     words: &str,
     trouble: &str,
-    whole: &Answer,
-) -> Result<Vec<u8>, AllocError> {
-    let alloc = table.alloc();
-    let mut lines = Vec::new(alloc);
-    for number in 0..TRIALS {
-        let line = format!(in alloc; "{trouble}={number} {words}")?;
-        let answer = table.answer_to(line.as_str(), "same")?;
-        let head = format!(in alloc; "  {trouble}={number}: ")?;
-        lines.extend_from_slice(head.as_bytes())?;
-        if is_same(&answer, whole) {
-            lines.extend_from_slice(b"as without\n")?;
-            return Ok(lines);
-        }
-        lines.extend_from_slice(told(alloc, &answer, whole)?.as_slice())?;
-    }
-    Ok(lines)
+    number: u64,
+) -> Result<Answer, AllocError> {
+    let line = format!(in table.alloc(); "{trouble}={number} {words}")?;
+    table.answer_to(line.as_str(), "same")
+}
+
+/// Puts what a line has before the answer to a trial after what is there.
+fn put_head(
+    alloc: Global,
+    said: &mut Vec<u8>,
+    trouble: &str,
+    number: u64,
+) -> Result<(), AllocError> {
+    said.extend_from_slice(format!(in alloc; "  {trouble}={number}: ")?.as_bytes())
 }
 
 /// Whether the answers are the same.
@@ -78,19 +117,28 @@ fn is_same(answer: &Answer, whole: &Answer) -> bool {
         && answer.err.as_slice() == whole.err.as_slice()
 }
 
-/// The line of an answer, where `whole` is the one without trouble.
-fn told(alloc: Global, answer: &Answer, whole: &Answer) -> Result<Vec<u8>, AllocError> {
+/// Puts the line of an answer, where `whole` is the one without trouble, after what is there.
+fn put_answer(
+    alloc: Global,
+    said: &mut Vec<u8>,
+    answer: &Answer,
+    whole: &Answer,
+) -> Result<(), AllocError> {
     let status = answer.status;
     let held = answer.out.as_slice().len();
-    let head = format!(in alloc; "status {status}, out {held}")?;
-    let mut line = head.into_bytes();
-    if !whole.out.as_slice().starts_with(answer.out.as_slice()) {
-        line.extend_from_slice(b" not the front")?;
+    let is_front = whole.out.as_slice().starts_with(answer.out.as_slice());
+    let front = if is_front { "" } else { " not the front" };
+    let head = format!(in alloc; "status {status}, out {held}{front}, err ")?;
+    said.extend_from_slice(head.as_bytes())?;
+    put_err(said, answer.err.as_slice())
+}
+
+/// Puts what went to err after what is there, and two dots where that is no whole line.
+fn put_err(said: &mut Vec<u8>, err: &[u8]) -> Result<(), AllocError> {
+    said.extend_from_slice(err)?;
+    if said.ends_with(b"\n") {
+        Ok(())
+    } else {
+        said.extend_from_slice(b"..\n")
     }
-    line.extend_from_slice(b", err ")?;
-    line.extend_from_slice(answer.err.as_slice())?;
-    if !line.ends_with(b"\n") {
-        line.extend_from_slice(b"..\n")?;
-    }
-    Ok(line)
 }

@@ -18,19 +18,25 @@ pub fn said_to<R: Threads + Sync, T: Top>(
     table: &mut Table<'_, R, T>,
     row: &str,
 ) -> Result<Vec<u8>> {
-    let alloc = table.alloc();
     let Some((form, rest)) = row.split_once(' ') else {
-        return Ok(b"no number\n".to_vec(alloc)?);
+        return Ok(b"no number\n".to_vec(table.alloc())?);
     };
     let Some((number, words)) = rest.split_once(' ') else {
-        return Ok(b"no command\n".to_vec(alloc)?);
+        return Ok(b"no command\n".to_vec(table.alloc())?);
     };
-    let number = number.parse::<u32>()?;
+    said_of(table, form, number.parse::<u32>()?, words)
+}
+
+/// What is said of the words of a command, over the text of a form.
+fn said_of<R: Threads + Sync, T: Top>(
+    table: &mut Table<'_, R, T>,
+    form: &str,
+    number: u32,
+    words: &str,
+) -> Result<Vec<u8>> {
     let answer = answered(table, form, number, words)?;
-    let head = format!(in alloc; "{form} {number}, ")?;
-    let mut said = head.into_bytes();
-    said.extend_from_slice(told(alloc, words == "compile", &answer)?.as_slice())?;
-    Ok(said)
+    let head = head_of(table.alloc(), form, number, answer.status)?;
+    Ok(told(table.alloc(), head, words == "compile", &answer)?)
 }
 
 /// What the program answers to the words, over the text of a form.
@@ -40,26 +46,45 @@ fn answered<R: Threads + Sync, T: Top>(
     number: u32,
     words: &str,
 ) -> Result<Answer> {
-    let alloc = table.alloc();
-    let is_run = words.starts_with("run ");
-    let head = if is_run { "image " } else { "" };
-    let mut input = head.as_bytes().to_vec(alloc)?;
-    input.extend_from_slice(text_of(alloc, form, number)?.as_slice())?;
+    let input = input_of(table.alloc(), form, number, words.starts_with("run "))?;
     Ok(table.answer_to(words, str::from_utf8(input.as_slice())?)?)
 }
 
-/// The lines of an answer.
-fn told(alloc: Global, is_image: bool, answer: &Answer) -> Result<Vec<u8>, AllocError> {
-    let status = answer.status;
-    let head = format!(in alloc; "status {status}\n")?;
-    let mut lines = head.into_bytes();
-    if is_image && status == 0 {
-        let bytes = answer.out.as_slice().len();
-        let line = format!(in alloc; "{bytes} bytes\n")?;
-        lines.extend_from_slice(line.as_bytes())?;
+/// What the program reads: the text of a form, or the word that has its image read.
+fn input_of(alloc: Global, form: &str, number: u32, is_run: bool) -> Result<Vec<u8>, AllocError> {
+    let head = if is_run { "image " } else { "" };
+    let mut input = head.as_bytes().to_vec(alloc)?;
+    put_text(alloc, &mut input, form, number)?;
+    Ok(input)
+}
+
+/// Puts the text of a form after what is there.
+fn put_text(alloc: Global, input: &mut Vec<u8>, form: &str, number: u32) -> Result<(), AllocError> {
+    input.extend_from_slice(text_of(alloc, form, number)?.as_slice())
+}
+
+/// The first line of an answer.
+fn head_of(alloc: Global, form: &str, number: u32, status: u8) -> Result<Vec<u8>, AllocError> {
+    Ok(format!(in alloc; "{form} {number}, status {status}\n")?.into_bytes())
+}
+
+/// The lines of an answer, of which the first is there.
+fn told(
+    alloc: Global,
+    mut lines: Vec<u8>,
+    is_image: bool,
+    answer: &Answer,
+) -> Result<Vec<u8>, AllocError> {
+    if is_image && answer.status == 0 {
+        put_size(alloc, &mut lines, answer.out.as_slice().len())?;
     } else {
         lines.extend_from_slice(answer.out.as_slice())?;
     }
     lines.extend_from_slice(answer.err.as_slice())?;
     Ok(lines)
+}
+
+/// Puts the line of an image of so many bytes after what is there.
+fn put_size(alloc: Global, lines: &mut Vec<u8>, bytes: usize) -> Result<(), AllocError> {
+    lines.extend_from_slice(format!(in alloc; "{bytes} bytes\n")?.as_bytes())
 }

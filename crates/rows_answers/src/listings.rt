@@ -9,7 +9,8 @@
 //! the first that external calls keep), and the order of moves, are not part of it.
 use crate::shown::shown_of;
 use anyhow::Result;
-use rows_lines::{Table, Top};
+use rows_lines::{Answer, Table, Top};
+use std::alloc::{AllocError, Global};
 use std::thread::Threads;
 
 /// What is shown of the text that a row asks for, under the stage and the word that says what is shown.
@@ -21,20 +22,43 @@ pub fn said_to<R: Threads + Sync, T: Top>(
     table: &mut Table<'_, R, T>,
     row: &str,
 ) -> Result<Vec<u8>> {
-    let alloc = table.alloc();
     let Some((words, text)) = row.split_once(" | ") else {
-        return Ok(b"no bar\n".to_vec(alloc)?);
+        return Ok(b"no bar\n".to_vec(table.alloc())?);
     };
     let Some((stage, part)) = words.split_once(' ') else {
-        return Ok(b"no part\n".to_vec(alloc)?);
+        return Ok(b"no part\n".to_vec(table.alloc())?);
     };
-    let command = format!(in alloc; "list {stage}")?;
-    let answer = table.answer_to(command.as_str(), text)?;
-    let status = answer.status;
-    let head = format!(in alloc; "{stage} {part}: status {status}\n")?;
-    let mut said = head.into_bytes();
+    let answer = answered(table, stage, text)?;
     let listed = str::from_utf8(answer.out.as_slice())?;
-    said.extend_from_slice(shown_of(alloc, part, listed)?.as_slice())?;
+    Ok(told(table.alloc(), stage, part, listed, &answer)?)
+}
+
+/// What the program answers to a listing of the text at a stage.
+fn answered<R: Threads + Sync, T: Top>(
+    table: &mut Table<'_, R, T>,
+    stage: &str,
+    text: &str,
+) -> Result<Answer, AllocError> {
+    let command = format!(in table.alloc(); "list {stage}")?;
+    table.answer_to(command.as_str(), text)
+}
+
+/// The lines of an answer, of whose text `listed` a part is shown.
+fn told(
+    alloc: Global,
+    stage: &str,
+    part: &str,
+    listed: &str,
+    answer: &Answer,
+) -> Result<Vec<u8>, AllocError> {
+    let status = answer.status;
+    let mut said = format!(in alloc; "{stage} {part}: status {status}\n")?.into_bytes();
+    put_part(alloc, &mut said, part, listed)?;
     said.extend_from_slice(answer.err.as_slice())?;
     Ok(said)
+}
+
+/// Puts what is shown of a text after what is there.
+fn put_part(alloc: Global, said: &mut Vec<u8>, part: &str, listed: &str) -> Result<(), AllocError> {
+    said.extend_from_slice(shown_of(alloc, part, listed)?.as_slice())
 }

@@ -5,10 +5,7 @@ use std::alloc::{AllocError, Global};
 pub(crate) fn shown_of(alloc: Global, part: &str, text: &str) -> Result<Vec<u8>, AllocError> {
     match part {
         "whole" => text.as_bytes().to_vec(alloc),
-        "first" => match text.split_once('\n') {
-            Some((line, _)) => whole_line(alloc, line),
-            None => b"nothing\n".to_vec(alloc),
-        },
+        "first" => first_of(alloc, text),
         "top" => top_of(alloc, text),
         "slots" => slots_of(alloc, text),
         "sizes" => sizes_of(alloc, text),
@@ -16,10 +13,13 @@ pub(crate) fn shown_of(alloc: Global, part: &str, text: &str) -> Result<Vec<u8>,
     }
 }
 
-fn whole_line(alloc: Global, line: &str) -> Result<Vec<u8>, AllocError> {
-    let mut whole = line.as_bytes().to_vec(alloc)?;
-    whole.push(b'\n')?;
-    Ok(whole)
+/// The first line of the text.
+fn first_of(alloc: Global, text: &str) -> Result<Vec<u8>, AllocError> {
+    let line = match text.split_once('\n') {
+        Some((line, _)) => line,
+        None => "nothing",
+    };
+    Ok(format!(in alloc; "{line}\n")?.into_bytes())
 }
 
 /// The first instruction of the text, which is its second line, without the names of its registers.
@@ -52,8 +52,7 @@ fn sizes_of(alloc: Global, text: &str) -> Result<Vec<u8>, AllocError> {
     let mut lines = Vec::new(alloc);
     for line in text.split_terminator('\n') {
         if let Some((_, rest)) = line.split_once(' ') {
-            lines.extend_from_slice(rest.as_bytes())?;
-            lines.push(b'\n')?;
+            put_both(&mut lines, rest.as_bytes(), b"\n")?;
         }
     }
     Ok(lines)
@@ -91,21 +90,29 @@ fn is_label(word: &str) -> bool {
 /// Puts the words of a line, each register and label without its name.
 fn put_nameless(lines: &mut Vec<u8>, line: &str) -> Result<(), AllocError> {
     for word in line.trim_start().split(' ') {
-        match word.split_once(':') {
-            Some((_, kind)) => {
-                lines.extend_from_slice(b" _:")?;
-                lines.extend_from_slice(kind.as_bytes())?;
-            }
-            None if is_label(word) => {
-                let label: &[u8] = if word.ends_with(",") { b" L_," } else { b" L_" };
-                lines.extend_from_slice(label)?;
-            }
-            None => {
-                lines.push(b' ')?;
-                lines.extend_from_slice(word.as_bytes())?;
-            }
-        }
+        put_word(lines, word)?;
     }
-    lines.push(b'\n')?;
-    Ok(())
+    lines.extend_from_slice(b"\n")
+}
+
+/// Puts a space and a word, a register or label without its name.
+fn put_word(lines: &mut Vec<u8>, word: &str) -> Result<(), AllocError> {
+    match word.split_once(':') {
+        Some((_, kind)) => put_both(lines, b" _:", kind.as_bytes()),
+        None if is_label(word) => put_label(lines, word.ends_with(",")),
+        None => put_both(lines, b" ", word.as_bytes()),
+    }
+}
+
+fn put_label(lines: &mut Vec<u8>, has_comma: bool) -> Result<(), AllocError> {
+    if has_comma {
+        lines.extend_from_slice(b" L_,")
+    } else {
+        lines.extend_from_slice(b" L_")
+    }
+}
+
+fn put_both(lines: &mut Vec<u8>, first: &[u8], second: &[u8]) -> Result<(), AllocError> {
+    lines.extend_from_slice(first)?;
+    lines.extend_from_slice(second)
 }
