@@ -8,10 +8,34 @@ use mach_ir::{Instr, Mach, Reg, Seq};
 use rows_machines::{lin_machine, mach_machine};
 use rows_reading::{apart, registers, spots};
 use rows_worlds::World;
-use std::alloc::Global;
+use std::alloc::{AllocError, Global};
 
 /// The most steps of a run.
 const FUEL: u32 = 1_000;
+
+/// The instruction of Mach that a text is.
+fn instr(alloc: Global, text: &str) -> Result<Instr> {
+    match apart(alloc, text)?.instr()? {
+        Some(instr) => Ok(instr),
+        None => bail!("no instruction: {text}"),
+    }
+}
+
+/// The line of Linear that a text is.
+fn line(alloc: Global, text: &str) -> Result<Line> {
+    match apart(alloc, text)?.line()? {
+        Some(line) => Ok(line),
+        None => bail!("no instruction: {text}"),
+    }
+}
+
+fn locs(alloc: Global, regs: &[Reg]) -> Result<Vec<Loc>, AllocError> {
+    let mut locs = Vec::new(alloc);
+    for reg in regs {
+        locs.push(reg.loc)?;
+    }
+    Ok(locs)
+}
 
 /// The function that is read.
 #[derive(Drop)]
@@ -42,29 +66,35 @@ impl Function {
 
     /// A function without instructions: its name, its parameters, and its colours after a semicolon.
     pub fn begin(alloc: Global, is_mach: bool, head: &str) -> Result<Self> {
+        let mut function = Function::new(alloc);
+        function.is_mach = is_mach;
+        function.set_head(alloc, head)?;
+        Ok(function)
+    }
+
+    fn set_head(&mut self, alloc: Global, head: &str) -> Result<()> {
         let (name, regs) = match head.split_once(" ") {
             Some(parts) => parts,
             None => (head, ""),
         };
+        self.name = String::from_str(alloc, name)?;
+        self.set_registers(alloc, regs)
+    }
+
+    fn set_registers(&mut self, alloc: Global, regs: &str) -> Result<()> {
         let (params, colours) = match regs.split_once(";") {
             Some(parts) => parts,
             None => (regs, ""),
         };
-        let mut function = Function::new(alloc);
-        function.is_mach = is_mach;
-        function.name = String::from_str(alloc, name)?;
-        function.params = registers(alloc, params)?;
-        function.colours = registers(alloc, colours)?;
-        Ok(function)
+        self.params = registers(alloc, params)?;
+        self.colours = registers(alloc, colours)?;
+        Ok(())
     }
 
     /// Adds what the next frame point of a Linear function names.
     pub fn add_names(&mut self, alloc: Global, text: &str) -> Result<()> {
-        let mut locs = Vec::new(alloc);
-        for reg in registers(alloc, text)?.as_slice() {
-            locs.push(reg.loc)?;
-        }
-        self.named.push(locs)?;
+        let regs = registers(alloc, text)?;
+        self.named.push(locs(alloc, regs.as_slice())?)?;
         Ok(())
     }
 
@@ -78,18 +108,14 @@ impl Function {
     }
 
     fn add_instr(&mut self, alloc: Global, text: &str) -> Result<()> {
-        match apart(alloc, text)?.instr()? {
-            Some(instr) => self.instrs.push(instr)?,
-            None => bail!("no instruction: {text}"),
-        }
+        let instr = instr(alloc, text)?;
+        self.instrs.push(instr)?;
         Ok(())
     }
 
     fn add_line(&mut self, alloc: Global, text: &str) -> Result<()> {
-        match apart(alloc, text)?.line()? {
-            Some(line) => self.lines.push(line)?,
-            None => bail!("no instruction: {text}"),
-        }
+        let line = line(alloc, text)?;
+        self.lines.push(line)?;
         Ok(())
     }
 
@@ -129,15 +155,23 @@ impl Function {
 
     fn run_mach(&self, world: World, args: &[Value], said: &mut String) -> Result<()> {
         let function = self.mach(world.alloc)?;
-        let mut machine = mach_machine::Machine::new(&function, world)?;
-        let end = machine.run(args, FUEL)?;
-        put_outcome(&machine.world, end, said)
+        run_mach(&function, world, args, said)
     }
 
     fn run_lin(&self, world: World, args: &[Value], said: &mut String) -> Result<()> {
         let function = self.lin(world.alloc)?;
-        let mut machine = lin_machine::Machine::new(&function, self.named.as_slice(), world);
-        let end = machine.run(args, FUEL)?;
-        put_outcome(&machine.world, end, said)
+        let machine = lin_machine::Machine::new(&function, self.named.as_slice(), world);
+        run_lin(machine, args, said)
     }
+}
+
+fn run_mach(function: &Mach, world: World, args: &[Value], said: &mut String) -> Result<()> {
+    let mut machine = mach_machine::Machine::new(function, world)?;
+    let end = machine.run(args, FUEL)?;
+    put_outcome(&machine.world, end, said)
+}
+
+fn run_lin(mut machine: lin_machine::Machine, args: &[Value], said: &mut String) -> Result<()> {
+    let end = machine.run(args, FUEL)?;
+    put_outcome(&machine.world, end, said)
 }

@@ -1,7 +1,7 @@
 //! The rows, and what is shown of each.
 
 use crate::function::Function;
-use crate::outcome::put_value;
+use crate::outcome::put_values;
 use anyhow::{Result, bail};
 use bs_words::Value;
 use cmm_front::front;
@@ -10,7 +10,6 @@ use cmm_walks::Checked;
 use rows_reading::{value, words_of};
 use rows_worlds::{Doing, World};
 use std::alloc::Global;
-use std::fmt::Write;
 
 /// The value that a word is.
 fn value_of(word: &str) -> Result<Value> {
@@ -49,6 +48,13 @@ fn doings(alloc: Global, text: &str) -> Result<Vec<Doing>> {
     Ok(doings)
 }
 
+fn world<'a>(alloc: Global, file: &'a File, doings: Vec<Doing>) -> Result<World<'a>> {
+    match World::of(alloc, file, doings)? {
+        Some(world) => Ok(world),
+        None => bail!("the text has a fault in its data, or too many items"),
+    }
+}
+
 /// The rows of the table so far: the text, once it is read, and the function that is put together.
 #[derive(Drop)]
 pub struct Meanings {
@@ -75,9 +81,19 @@ impl Meanings {
     pub fn said_to(&mut self, row: &str) -> Result<Vec<u8>> {
         let row = row.trim();
         if self.text.is_none() {
-            self.text = Some(front(self.alloc, row.as_bytes())?);
-            return Ok(Vec::new(self.alloc));
+            self.read_text(row)
+        } else {
+            self.said_in_text(row)
         }
+    }
+
+    fn read_text(&mut self, row: &str) -> Result<Vec<u8>> {
+        self.text = Some(front(self.alloc, row.as_bytes())?);
+        Ok(Vec::new(self.alloc))
+    }
+
+    /// What is shown of a row after the text.
+    fn said_in_text(&mut self, row: &str) -> Result<Vec<u8>> {
         match row.split_once(" ") {
             Some(("run", text)) => self.run(text),
             _ if row == "run" => self.run(""),
@@ -115,21 +131,41 @@ impl Meanings {
 
     /// A run where these functions are called.
     fn run_in(&self, file: &File, text: &str) -> Result<Vec<u8>> {
-        let (args, doings) = match text.split_once("|") {
-            Some((args, calls)) => (args, doings(self.alloc, calls)?),
-            None => (text, Vec::new(self.alloc)),
+        let (args, calls) = match text.split_once("|") {
+            Some((args, calls)) => (args, Some(calls)),
+            None => (text, None),
         };
+        let doings = self.doings(calls)?;
         let args = arguments(self.alloc, args)?;
+        let world = world(self.alloc, file, doings)?;
+        self.said_of(world, args.as_slice())
+    }
+
+    /// What calls do, if any do something.
+    fn doings(&self, calls: Option<&str>) -> Result<Vec<Doing>> {
+        match calls {
+            Some(calls) => doings(self.alloc, calls),
+            None => Ok(Vec::new(self.alloc)),
+        }
+    }
+
+    /// What is shown of a run in a world.
+    fn said_of(&self, world: World, args: &[Value]) -> Result<Vec<u8>> {
         let mut said = String::new(self.alloc);
-        write!(said, "{}", self.function.name)?;
-        for arg in args.as_slice() {
-            put_value(&mut said, *arg)?;
-        }
+        self.put_run(&mut said, world, args)?;
+        Ok(said.into_bytes())
+    }
+
+    fn put_run(&self, said: &mut String, world: World, args: &[Value]) -> Result<()> {
+        self.put_call(said, args)?;
+        self.function.run(world, args, said)
+    }
+
+    /// The name of the function and its arguments.
+    fn put_call(&self, said: &mut String, args: &[Value]) -> Result<()> {
+        said.push_str(self.function.name.as_str())?;
+        put_values(said, args)?;
         said.push_str(":")?;
-        match World::of(self.alloc, file, doings)? {
-            Some(world) => self.function.run(world, args.as_slice(), &mut said)?,
-            None => bail!("the text has a fault in its data, or too many items"),
-        }
-        Ok(said.as_str().as_bytes().to_vec(self.alloc)?)
+        Ok(())
     }
 }
