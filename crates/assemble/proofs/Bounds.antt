@@ -4,9 +4,10 @@ use Rattle.std.specs.Prelude.{sum_by}
 use Rattle.std.specs.List.{AllByRecursion}
 use Rattle.std.specs.Option.{IfSome}
 use Rattle.std.proofs.lemmas.List.Sums.{sum_by-cons, prefix_len-le-length}
-use Rattle.assemble.specs.Places.{forms_in, size_of}
+use Rattle.function_places.specs.Places.{forms_in, size_of}
 use Rattle.assemble.specs.Source.{IsSource, tree_of, entries_of, laid_of}
 use Rattle.assemble.specs.declared.source.Source.{Source}
+use Rattle.function_places.proofs.Bounds.{all_most}
 use Rattle.bs_words.specs.External.{External}
 use Rattle.bs_words.specs.declared.values.Value.{Value}
 use Rattle.bs_words.specs.declared.values.Value.TheVariants.{Word, Block, Function}
@@ -19,8 +20,6 @@ use Rattle.image_rules.proofs.Limits.{are_short}
 use Rattle.image_rules.proofs.Placed.{Lie, items_lie, end_of_lists-above}
 use Rattle.image_rules.proofs.Whole.{all_length, length_of_data}
 use Rattle.layout_rules.specs.declared.form.Form.{Form}
-use Rattle.layout_rules.specs.declared.form.Form.TheVariants.{Near, Middle, Far}
-use Rattle.layout_rules.specs.Conditions.{weight, weight_of}
 use Rattle.layout_rules.specs.Externals.{number_of}
 use Rattle.layout_rules.specs.Forms.{words_of, total_words, is_label, label_from, place_or_entry, place_of}
 use Rattle.layout_rules.specs.Laid.{entries_from, code_from, address_of_value, AreAllForms}
@@ -28,55 +27,9 @@ use Rattle.layout_rules.specs.TooLarge.{first_too_large}
 use Rattle.layout_rules.proofs.Functions.{forms_length}
 use Rattle.layout_rules.proofs.Rules.{all_words}
 use Rattle.rv_pieces.specs.declared.piece.Piece.{Piece}
-use Rattle.rv_pieces.specs.declared.piece.Piece.TheVariants.{Known, Label, Branch, Jump, Row, LabelAddress, Call, TailCall, SymbolAddress, ExternalNumber, Descriptor}
 use Rattle.rv_pieces.specs.declared.piece.Pieces.{Pieces}
 
--- ---- words
-
-piece_most : (p : Piece) (f : Form) → words_of p f ≤ 3
-piece_most (Known i) f = omega arith
-piece_most (Label l) f = omega arith
-piece_most (Branch c a b l) Near = omega arith
-piece_most (Branch c a b l) Middle = omega arith
-piece_most (Branch c a b l) Far = omega arith
-piece_most (Jump l) Near = omega arith
-piece_most (Jump l) Middle = omega arith
-piece_most (Jump l) Far = omega arith
-piece_most (Row l) f = omega arith
-piece_most (LabelAddress r l) f = omega arith
-piece_most (Call name) f = omega arith
-piece_most (TailCall name) f = omega arith
-piece_most (SymbolAddress r name) f = omega arith
-piece_most (ExternalNumber r row) f = omega arith
-piece_most (Descriptor d) f = omega arith
-
-pub words_most : (ps : List Piece) (fs : List Form) → total_words ps fs ≤ 3 * length ps
-words_most [] fs = omega arith
-words_most (p ∷ ps) [] = omega arith
-words_most (p ∷ ps) (f ∷ fs) = omega (arith, piece_most p f, words_most ps fs)
-
-weight_some : (p : Piece) → 1 ≤ weight p
-weight_some (Known i) = omega arith
-weight_some (Label l) = omega arith
-weight_some (Branch c a b l) = omega arith
-weight_some (Jump l) = omega arith
-weight_some (Row l) = omega arith
-weight_some (LabelAddress r l) = omega arith
-weight_some (Call name) = omega arith
-weight_some (TailCall name) = omega arith
-weight_some (SymbolAddress r name) = omega arith
-weight_some (ExternalNumber r row) = omega arith
-weight_some (Descriptor d) = omega arith
-
-pub length_most : (ps : List Piece) → length ps ≤ weight_of ps
-length_most [] = omega arith
-length_most (p ∷ ps) = omega (arith, sum_by-cons weight p ps, weight_some p, length_most ps)
-
-pub all_most : (ps : List Pieces) (forms : List (List Form)) → all_words ps forms ≤ 3 * sum_by size_of ps
-all_most [] forms = omega arith
-all_most (p ∷ ps) [] = omega arith
-all_most (p ∷ ps) (f ∷ forms) =
-    omega (arith, sum_by-cons size_of p ps, words_most p.code f, length_most p.code, all_most ps forms)
+-- ---- weights
 
 pub each_most : (ps : List Pieces) (i : ℕ) (p : Pieces) → i < length ps → p ≡ get_or ps i p → size_of p ≤ sum_by size_of ps
 each_most [] i p h is = absurd (omega (arith, h))

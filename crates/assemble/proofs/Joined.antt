@@ -3,7 +3,7 @@ use Rattle.std.proofs.Common.{◌≡◌, ℕ, suc, ◌+◌, List, [], ◌∷◌,
 use Rattle.std.specs.Prelude.{slice_get}
 use Rattle.std.specs.List.{flat_map}
 use Rattle.assemble.specs.Code.{IsCode, IsCodeAt}
-use Rattle.assemble.specs.Places.{forms_in}
+use Rattle.function_places.specs.Places.{forms_in}
 use Rattle.assemble.specs.Source.{IsSource, tree_of, entries_of}
 use Rattle.assemble.specs.declared.code.Code.{Code}
 use Rattle.assemble.specs.declared.source.Source.{Source}

@@ -3,8 +3,9 @@ use Rattle.std.proofs.Common.{◌≡◌, ℕ, ◌+◌, ◌-◌, ◌*◌, ◌^◌
 use Rattle.std.specs.Prelude.{sum_by}
 use Rattle.std.specs.List.{flat_map, AllByRecursion}
 use Rattle.std.proofs.lemmas.List.{length-map}
-use Rattle.assemble.specs.Places.{forms_in}
-use Rattle.assemble.specs.Sizes.{item_size, symbol_size, call_size, pieces_size}
+use Rattle.function_places.specs.Places.{forms_in}
+use Rattle.assemble.specs.Sizes.{item_size, symbol_size, call_size}
+use Rattle.function_places.specs.Sizes.{pieces_size}
 use Rattle.assemble.specs.Source.{IsSource, tree_of, entries_of, laid_of}
 use Rattle.assemble.specs.declared.source.Source.{Source}
 use Rattle.assemble.proofs.Bounds.{end_is}

@@ -1,11 +1,13 @@
 -- The bytes of tables, by the sizes of their rows.
-use Rattle.std.proofs.Common.{◌≡◌, ℕ, ◌+◌, ◌*◌, ◌<◌, ◌≤◌, List, [], ◌∷◌, ◌++◌, length, map, get_or, drop, refl, ap, length-append, arith}
+use Rattle.std.proofs.Common.{◌≡◌, ℕ, ◌+◌, ◌*◌, ◌≤◌, List, [], ◌∷◌, ◌++◌, length, map, refl, ap, length-append, arith}
 use Rattle.std.specs.Prelude.{sum_by}
 use Rattle.std.specs.List.{flat_map, AllByRecursion}
-use Rattle.std.proofs.lemmas.List.{drop_all, length-map}
+use Rattle.std.proofs.lemmas.List.{length-map}
 use Rattle.std.proofs.lemmas.List.Sums.{sum_by-cons, sum_by-append}
-use Rattle.assemble.specs.Places.{size_of}
-use Rattle.assemble.specs.Sizes.{item_size, symbol_size, call_size, piece_size, pieces_size}
+use Rattle.function_places.specs.Places.{size_of}
+use Rattle.assemble.specs.Sizes.{item_size, symbol_size, call_size}
+use Rattle.function_places.specs.Sizes.{piece_size, pieces_size}
+use Rattle.function_places.proofs.Bounds.{code_most}
 use Rattle.bs_words.specs.Contents.{contents}
 use Rattle.bs_words.specs.External.{External}
 use Rattle.bs_words.specs.Symbol.{IsSymbol}
@@ -21,7 +23,7 @@ use Rattle.image_form.specs.Tables.{Func, Sym, Desc, ext}
 use Rattle.image_form.specs.declared.image.ExtRow.{ExtRow}
 use Rattle.image_form.proofs.Lengths.{length-le32, name_length, params_length}
 use Rattle.layout_rules.specs.declared.form.Form.{Form}
-use Rattle.layout_rules.specs.Conditions.{IsRowLaid, weight, weight_of}
+use Rattle.layout_rules.specs.Conditions.{IsRowLaid}
 use Rattle.layout_rules.specs.Forms.{words_of, total_words, place_of}
 use Rattle.layout_rules.specs.Laid.{row_at, rows_from, sym_of, desc_at, descs_in, descs_from, AreAllForms}
 use Rattle.layout_rules.proofs.Functions.{forms_length}
@@ -30,19 +32,6 @@ use Rattle.rv_layout.proofs.Steps.{descs_step}
 use Rattle.rv_pieces.specs.declared.piece.Piece.{Piece}
 use Rattle.rv_pieces.specs.declared.piece.Piece.TheVariants.{Known, Label, Branch, Jump, Row, LabelAddress, Call, TailCall, SymbolAddress, ExternalNumber, Descriptor}
 use Rattle.rv_pieces.specs.declared.piece.Pieces.{Pieces}
-use Rattle.bs_words.proofs.Lists.{drop_step}
-
--- ---- a sum that is made one after the other
-
-pub sum_step : {A : Type 0} (size : A → ℕ) (xs : List A) (i : ℕ) (x : A) (sum total : ℕ) → i < length xs → x ≡ get_or xs i x → sum + sum_by size (drop i xs) ≡ total →
-    sum + size x + sum_by size (drop (i + 1) xs) ≡ total
-sum_step size xs i x sum total h is so_far =
-    omega (arith, so_far, ap (sum_by size) (drop_step xs i x h is), sum_by-cons size x (drop (i + 1) xs))
-
-pub sum_done : {A : Type 0} (size : A → ℕ) (xs : List A) (i sum total : ℕ) → length xs ≤ i → sum + sum_by size (drop i xs) ≡ total → sum ≡ total
-sum_done size xs i sum total h so_far =
-    let none : sum_by size (drop i xs) ≡ 0 = ap (sum_by size) (drop_all i xs h) in
-    omega (arith, so_far, none)
 
 -- ---- a table
 
@@ -212,23 +201,6 @@ descs_are at (p ∷ ps) (f ∷ forms) are =
       sum_by-cons pieces_size p ps,
       descs_are next ps forms are.1,
     )
-
-piece_most : (p : Piece) → piece_size p ≤ 12 * weight p
-piece_most (Known i) = omega arith
-piece_most (Label l) = omega arith
-piece_most (Branch c a b l) = omega arith
-piece_most (Jump l) = omega arith
-piece_most (Row l) = omega arith
-piece_most (LabelAddress r l) = omega arith
-piece_most (Call name) = omega arith
-piece_most (TailCall name) = omega arith
-piece_most (SymbolAddress r name) = omega arith
-piece_most (ExternalNumber r row) = omega arith
-piece_most (Descriptor d) = omega arith
-
-pub code_most : (ps : List Piece) → sum_by piece_size ps ≤ 12 * weight_of ps
-code_most [] = omega arith
-code_most (p ∷ ps) = omega (arith, sum_by-cons piece_size p ps, sum_by-cons weight p ps, piece_most p, code_most ps)
 
 pub pieces_most : (ps : List Pieces) → sum_by pieces_size ps ≤ 12 * sum_by size_of ps
 pieces_most [] = omega arith

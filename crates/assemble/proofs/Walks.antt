@@ -1,12 +1,13 @@
 -- One function after the other: its place, its words and its row.
 use Rattle.std.proofs.Common.{◌≡◌, ℕ, zero, suc, ◌+◌, ◌*◌, ◌^◌, ◌<◌, ◌≤◌, List, [], ◌∷◌, ◌++◌, length, map, get_or, drop, None, refl, sym, ap, ap₂, ◌∙◌, subst, append_assoc, arith}
 use Rattle.std.proofs.lemmas.List.{length-map}
-use Rattle.assemble.specs.Places.{forms_in, size_of, IsLaid}
+use Rattle.function_places.specs.Places.{forms_in, size_of, IsLaid}
 use Rattle.assemble.specs.Source.{IsSource, tree_of, entries_of, laid_of, names_by}
-use Rattle.assemble.specs.declared.places.Laid.{Laid}
+use Rattle.function_places.specs.declared.places.Laid.{Laid}
 use Rattle.assemble.specs.declared.source.Source.{Source}
 use Rattle.assemble.proofs.Bounds.{each_most, zip_length, zip_same, end_is, end_short}
-use Rattle.assemble.proofs.Steps.{own_forms, here, laid_at, all_at, form_at}
+use Rattle.assemble.proofs.Steps.{here, laid_at, all_at, form_at}
+use Rattle.function_places.proofs.Starts.{own_forms}
 use Rattle.cmm_tree.specs.Tree.{FunctionTree, functions_among}
 use Rattle.cmm_tree.specs.View.{function_view, item_view}
 use Rattle.cmm_tree.specs.declared.file.DataList.{DataList}

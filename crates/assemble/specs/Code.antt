@@ -1,6 +1,6 @@
 -- The code of one function.
 use Rattle.std.specs.Prelude.{◌≡◌, ℕ, List, Some, map, slice_get, slice_index}
-use Rattle.assemble.specs.Places.{forms_in}
+use Rattle.function_places.specs.Places.{forms_in}
 use Rattle.assemble.specs.Source.{tree_of, entries_of}
 use Rattle.assemble.specs.declared.code.Code.{Code}
 use Rattle.assemble.specs.declared.source.Source.{Source}

@@ -1,4 +1,3 @@
-pub mod Places
 pub mod Source
 pub mod Sizes
 pub mod Code

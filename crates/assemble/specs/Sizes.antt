@@ -1,14 +1,11 @@
 -- The bytes of the rows of an image.
-use Rattle.std.specs.Prelude.{ℕ, ◌+◌, ◌*◌, length, sum_by}
-use Rattle.assemble.specs.declared.places.Laid.{Laid}
+use Rattle.std.specs.Prelude.{ℕ, ◌+◌, length}
 use Rattle.bs_words.specs.Contents.{contents}
 use Rattle.cmm_data.specs.declared.data_map.DataSymbol.{DataSymbol}
 use Rattle.cmm_tree.specs.declared.file.Item.{Item}
 use Rattle.cmm_tree.specs.declared.file.Item.TheVariants as item
+use Rattle.function_places.specs.declared.places.Laid.{Laid}
 use Rattle.image_form.specs.declared.image.ExtRow.{ExtRow}
-use Rattle.rv_pieces.specs.declared.piece.Piece.{Piece}
-use Rattle.rv_pieces.specs.declared.piece.Piece.TheVariants.{Descriptor}
-use Rattle.rv_pieces.specs.declared.piece.Pieces.{Pieces}
 
 -- of a function: its name after 2 bytes, its types after 1, three numbers of 4, and its result
 abbrev pub item_size : Item → ℕ
@@ -20,14 +17,6 @@ symbol_size s = 6 + length s.name
 
 abbrev pub call_size : ExtRow → ℕ
 call_size e = 4 + length e.name + length (contents e.params)
-
--- of a descriptor: three numbers, and its entries
-abbrev pub piece_size : Piece → ℕ
-piece_size (Descriptor d) = 12 + 4 * length d.entries
-piece_size _ = 0
-
-abbrev pub pieces_size : Pieces → ℕ
-pieces_size p = sum_by piece_size p.code
 
 -- of all descriptors of a function
 abbrev pub descs_size : Laid → ℕ

@@ -1,6 +1,6 @@
 -- What an image is made of.
 use Rattle.std.specs.Prelude.{◌≡◌, ℕ, ◌+◌, List}
-use Rattle.assemble.specs.Places.{ArePlaces, forms_in}
+use Rattle.function_places.specs.Places.{ArePlaces, forms_in}
 use Rattle.assemble.specs.declared.source.Source.{Source}
 use Rattle.bs_words.specs.Contents.{contents}
 use Rattle.cmm_data.specs.Map.{IsMapOf}

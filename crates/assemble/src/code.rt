@@ -2,9 +2,9 @@
 ghost use Rattle.std.specs.Prelude.{◌≡◌, ◌+◌, ◌<◌, ◌≤◌, ◌^◌, ◌++◌, None, length, map, IfOk, OnOk};
 ghost use Rattle.std.specs.List.{flat_map};
 ghost use Rattle.assemble.specs.Code.{IsCodeAt};
-ghost use Rattle.assemble.specs.Places.{size_of};
 ghost use Rattle.assemble.specs.Source.{IsSource, laid_of, tree_of, entries_of};
 ghost use Rattle.fork_join.specs.Calls.{AreGiven};
+ghost use Rattle.function_places.specs.Places.{size_of};
 ghost use Rattle.image_form.specs.Image.{stub};
 ghost use Rattle.image_form.specs.Tables.{desc};
 ghost use Rattle.layout_rules.specs.Conditions.{IsFunctionLaid};

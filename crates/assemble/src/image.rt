@@ -13,13 +13,13 @@ ghost use Rattle.layout_rules.specs.Laid.{IsLaidOut};
 ghost use Rattle.layout_rules.specs.TooLarge.{first_too_large};
 
 use crate::code::all_code;
-use crate::places::{Places, work_of};
 use crate::source::Source;
 use bs_fault::BuildError;
 use bs_words::List;
 use cmm_data::{DataMap, SymbolTable};
 use cmm_types::Typed;
 use external_rows::external_rows;
+use function_places::{Places, work_of};
 use image_form::{ExtRow, Image};
 use rv_layout::too_large;
 use rv_pieces::Pieces;

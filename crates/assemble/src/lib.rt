@@ -1,7 +1,7 @@
 //! The image of a file, of the pieces of its functions.
 //!
-//! First the forms of all branches are found, and with them where each function begins and how large each
-//! section becomes. Only where every section keeps its limit are the words of code made, once each name
+//! First the forms of all branches are found, and with them where each function begins
+//! (`function_places`), and how large each section becomes. Only where every section keeps its limit are the words of code made, once each name
 //! stands for an address.
 #![tactic(auto)]
 
@@ -9,7 +9,6 @@ mod code;
 mod data;
 mod image;
 mod names;
-mod places;
 mod rows;
 mod sizes;
 mod source;

@@ -1,21 +1,21 @@
 //! The rows of functions.
 ghost use Rattle.std.specs.Prelude.{◌≡◌, ◌+◌, ◌*◌, ◌<◌, ◌^◌, None, map, IfOk};
-ghost use Rattle.assemble.specs.Places.{IsLaid};
 ghost use Rattle.assemble.specs.Source.{IsSource, laid_of};
 ghost use Rattle.bs_words.specs.Contents.{contents};
 ghost use Rattle.cmm_tree.specs.View.{function_view, params_view};
 ghost use Rattle.cmm_tree.specs.Tree.{comps_of};
 ghost use Rattle.cmm_types.specs.Typing.{IsFunctionAnnotated};
+ghost use Rattle.function_places.specs.Places.{IsLaid};
 ghost use Rattle.image_form.specs.Tables.{func};
 ghost use Rattle.layout_rules.specs.Forms.{total_words as words_in};
 ghost use Rattle.layout_rules.specs.Laid.{row_at};
 ghost use Rattle.layout_rules.specs.TooLarge.{first_too_large};
 
-use crate::places::Laid;
 use crate::source::Source;
 use bs_words::{Comp, List, Name};
 use cmm_tree::{Function, Item, Param};
 use cmm_types::result_of;
+use function_places::Laid;
 use image_form::FuncRow;
 use image_form::limits::STUB_WORDS;
 use rv_pieces::Pieces;

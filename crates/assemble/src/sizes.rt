@@ -1,18 +1,17 @@
 //! How large the sections of an image become, before any of it is made.
 ghost use Rattle.std.specs.Prelude.{◌≡◌, ◌<◌, ◌^◌, map, sum_by};
-ghost use Rattle.assemble.specs.Sizes.{item_size, symbol_size, call_size, piece_size, descs_size};
+ghost use Rattle.assemble.specs.Sizes.{item_size, symbol_size, call_size, descs_size};
 ghost use Rattle.assemble.specs.Source.{IsSource, laid_of, tree_of};
 ghost use Rattle.image_form.specs.Tables.{ext};
 ghost use Rattle.layout_rules.specs.Externals.{externals};
 ghost use Rattle.rv_layout.specs.Sizes.{AreSizesOf};
 
-use crate::places::Laid;
 use crate::source::Source;
 use cmm_data::DataSymbol;
 use cmm_tree::Item;
+use function_places::Laid;
 use image_form::ExtRow;
 use rv_layout::Sizes;
-use rv_pieces::Piece;
 
 /// The bytes of the number of a table's rows.
 const COUNT: u64 = 4;
@@ -61,38 +60,6 @@ fn calls_size(calls: &[ExtRow]) -> u64
     let mut size: u64 = 0;
     for call in calls {
         size += 4 + call.name.as_bytes().len() as u64 + call.params.len() as u64;
-    }
-    size
-}
-
-/// The bytes of the descriptor that a piece is, if it is one.
-fn piece_size(piece: &Piece) -> u64
-    requires { piece_size piece.now < 2 ^ 60 }
-    ensures { result ≡ piece_size piece.now }
-{
-    match piece {
-        Piece::Descriptor(descr) => 12 + 4 * descr.entries.len() as u64,
-        Piece::Known(_)
-        | Piece::Label(_)
-        | Piece::Branch { .. }
-        | Piece::Jump(_)
-        | Piece::Row(_)
-        | Piece::LabelAddress { .. }
-        | Piece::Call(_)
-        | Piece::TailCall(_)
-        | Piece::SymbolAddress { .. }
-        | Piece::ExternalNumber { .. } => 0,
-    }
-}
-
-/// The bytes of the descriptors of a function.
-pub fn code_size(code: &[Piece]) -> u64
-    requires { sum_by piece_size code.now < 2 ^ 60 }
-    ensures { result ≡ sum_by piece_size code.now }
-{
-    let mut size: u64 = 0;
-    for piece in code {
-        size += piece_size(piece);
     }
     size
 }

@@ -3,11 +3,11 @@ ghost use Rattle.std.specs.Prelude.{◌≡◌, ◌<◌, ◌^◌, Some};
 ghost use Rattle.assemble.specs.Source.{IsSource, entries_of};
 ghost use Rattle.layout_rules.specs.Laid.{address_of_value, address_of_place};
 
-use crate::places::Places;
 use bs_words::Value;
 use cmm_data::{DataMap, SymbolTable};
 use cmm_tree::File;
 use external_rows::ExternalRows;
+use function_places::Places;
 use rv_machine::CODE_START;
 use rv_pieces::Pieces;
 

@@ -5,13 +5,12 @@ use Rattle.bs_fault.specs.declared.large.Large.{Large}
 use Rattle.cmm_front.specs.FileOf.{IsFileOf, HasFault}
 use Rattle.cmm_tree.specs.Tree.{FileTree}
 use Rattle.command_line.specs.Command.{CheckTree}
-use Rattle.text_commands.proofs.Called.{named_none, call_unfit}
-use Rattle.text_commands.specs.Arguments.{NamesNone, HasUnfit}
-use Rattle.text_commands.specs.Check.{IsCheckOf, HasNoEntry, IsUnfitFor, IsTooLargeToCheck}
-use Rattle.cmmc_core.specs.Compile.{Reads}
+use Rattle.commands.proofs.Known.{named_none, call_unfit}
+use Rattle.commands.specs.Known.{NamesNone, HasUnfit, IsCheckOf, HasNoEntry, IsUnfitFor, IsTooLargeToCheck}
+use Rattle.commands.specs.Compile.{Reads}
 use Rattle.cmmc_core.specs.Complete.{Is, IsCalled, CheckComplete}
-use Rattle.cmmc_core.specs.Effects.{Side}
-use Rattle.cmmc_core.specs.Ends.{fault, no_entry, unfit, too_large}
+use Rattle.commands.specs.Effects.{Side}
+use Rattle.commands.specs.Ends.{fault, no_entry, unfit, too_large}
 use Rattle.cmmc_core.proofs.CommandEnd.{CheckEnd, answered, unanswered, OrNoMemory}
 use Rattle.cmmc_core.proofs.ImageEnds.{ImageEnd, no_memory, output, passed, unasked, image-complete}
 use Rattle.cmmc_core.proofs.TextKnown.{Fits, IsPassed, no_fault, no_file, read_same, file_has}

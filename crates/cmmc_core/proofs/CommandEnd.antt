@@ -9,15 +9,13 @@ use Rattle.command_line.specs.Command.{IsCommand, CommandTree, CompileCommand, R
 use Rattle.command_line.specs.Words.{WellFormed}
 use Rattle.image_form.specs.Tables.{Tables}
 use Rattle.stages.specs.declared.stage.Stage.{Stage}
-use Rattle.text_commands.specs.Check.{IsCheckOf}
-use Rattle.text_commands.specs.Compile.{IsImageOf, IsTooLarge}
-use Rattle.text_commands.specs.Listing.{IsListingOf}
-use Rattle.cmmc_core.specs.Compile.{Reads}
+use Rattle.commands.specs.Known.{IsCheckOf, IsImageOf, IsTooLarge, IsListingOf}
+use Rattle.commands.specs.Compile.{Reads}
 use Rattle.cmmc_core.specs.Complete.{HasNotRisen, Is, HasOutput}
-use Rattle.cmmc_core.specs.Effects.{Effects, Side, Rose}
-use Rattle.cmmc_core.specs.Ends.{Output, spelling, outcome, checked, listed, soaked, HasInput, Cause, CheckCause, ListCause, no_command, no_value, read_fault, fault, too_large, no_image, no_entry, unfit, unchecked, unlisted, unsoaked, no_memory, Ends, written, refused, out_fault, err_fault}
-use Rattle.cmmc_core.specs.Run.{IsOutcomeOf, ReadsNoImage, NamesNoEntry, GivesUnfit}
-use Rattle.cmmc_core.specs.Soak.{soak_text, IsSoakOf}
+use Rattle.commands.specs.Effects.{Effects, Side, Rose}
+use Rattle.commands.specs.Ends.{Output, spelling, outcome, checked, listed, soaked, HasInput, Cause, CheckCause, ListCause, no_command, no_value, read_fault, fault, too_large, no_image, no_entry, unfit, unchecked, unlisted, unsoaked, no_memory, Ends, written, refused, out_fault, err_fault}
+use Rattle.commands.specs.Run.{IsOutcomeOf, ReadsNoImage, NamesNoEntry, GivesUnfit}
+use Rattle.commands.specs.Soak.{soak_text, IsSoakOf}
 
 -- the output was written, or its write failed
 abbrev pub IsWritten : Side → ℕ → Type 0

@@ -3,8 +3,8 @@ use Rattle.std.proofs.Common.{ℕ, List}
 use Rattle.command_line.proofs.Unique.{command_within}
 use Rattle.command_line.specs.Command.{IsCommand, CommandTree, CompileCommand, RunCommand, CheckCommand, ListCommand, SoakCommand}
 use Rattle.cmmc_core.specs.Complete.{HasNotRisen, Complete}
-use Rattle.cmmc_core.specs.Effects.{Effects}
-use Rattle.cmmc_core.specs.Ends.{HasInput, Ends}
+use Rattle.commands.specs.Effects.{Effects}
+use Rattle.commands.specs.Ends.{HasInput, Ends}
 use Rattle.cmmc_core.proofs.CommandEnd.{CommandEnd, OrNoMemory, told, command_end, no_command_end, no_value_end}
 use Rattle.cmmc_core.proofs.CompileEnds.{compile-complete}
 use Rattle.cmmc_core.proofs.RunEnds.{run-complete}

@@ -5,7 +5,7 @@ use Rattle.cmm_front.specs.FileOf.{IsFileOf}
 use Rattle.cmm_tree.specs.Tree.{FileTree}
 use Rattle.correctness.specs.Bounds.{IsRoomy}
 use Rattle.cmmc_core.specs.Complete.{Is, HasOutput, ImageComplete}
-use Rattle.cmmc_core.specs.Effects.{Side}
+use Rattle.commands.specs.Effects.{Side}
 use Rattle.cmmc_core.proofs.CommandEnd.{IsWritten, has_output, no_output}
 use Rattle.cmmc_core.proofs.TextKnown.{Fits, Passes, IsPassed, not_both}
 

@@ -1,2 +1,2 @@
 -- Laws of crates below, named again for the crates above.
-pub use Rattle.text_commands.proofs.Known.{few_functions}
+pub use Rattle.commands.proofs.Known.{few_functions}

@@ -1,21 +1,10 @@
-mod Answers
-mod Checking
 mod CheckEnds
 mod CommandEnd
 mod CompileEnds
 mod Complete
-mod Drawn
-mod Ending
 mod ImageEnds
-mod LastLine
 mod ListEnds
-mod Listing
-mod Reading
-mod Refused
 mod RunEnds
-mod Running
 mod SoakEnds
-mod Soaking
-mod Spelled
 mod TextKnown
 pub mod Known

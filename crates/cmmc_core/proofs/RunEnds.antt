@@ -4,10 +4,10 @@ use Rattle.command_line.specs.Command.{RunTree}
 use Rattle.image_form.specs.Tables.{Tables, Func}
 use Rattle.rv_machine.specs.Loading.{func_named, words_of_args}
 use Rattle.cmmc_core.specs.Complete.{Is, HasOutput, RunComplete}
-use Rattle.cmmc_core.specs.Effects.{Side, IsRead}
-use Rattle.cmmc_core.specs.Run.{IsSpelling, ReadsImage, words_of_answers, longest_image}
+use Rattle.commands.specs.Effects.{Side, IsRead}
+use Rattle.commands.specs.Run.{IsSpelling, ReadsImage, words_of_answers, longest_image}
 use Rattle.cmmc_core.proofs.CommandEnd.{RunEnd, ran, imageless, unnamed, unsuited, OrNoMemory, has_output, no_output}
-use Rattle.cmmc_core.proofs.Spelled.{one_image, spelling_short}
+use Rattle.commands.proofs.Spelled.{one_image, spelling_short}
 use Rattle.cmmc_core.proofs.TextKnown.{some_none, of_read, before_read}
 
 -- ---- two spellings of the same bytes

@@ -4,10 +4,10 @@ use Rattle.cmm_front.proofs.OneFile.{one_file}
 use Rattle.cmm_front.specs.FileOf.{IsFileOf}
 use Rattle.cmm_tree.specs.Tree.{FileTree}
 use Rattle.cmmc_core.specs.Complete.{HasOutput, Every, SoakComplete}
-use Rattle.cmmc_core.specs.Effects.{Side}
-use Rattle.cmmc_core.specs.Soak.{soak_text}
+use Rattle.commands.specs.Effects.{Side}
+use Rattle.commands.specs.Soak.{soak_text}
 use Rattle.cmmc_core.proofs.CommandEnd.{SoakEnd, reported, unreported, OrNoMemory, has_output, no_output}
-use Rattle.cmmc_core.proofs.Drawn.{drawn_bytes}
+use Rattle.commands.proofs.Drawn.{drawn_bytes}
 use Rattle.cmmc_core.proofs.CompileEnds.{large_of}
 use Rattle.cmmc_core.proofs.ImageEnds.{ImageEnd, no_memory, output, passed, image-complete}
 use Rattle.cmmc_core.proofs.TextKnown.{Fits, IsPassed}

@@ -11,11 +11,11 @@ use Rattle.cmm_tree.specs.Tree.{FileTree}
 use Rattle.correctness.specs.Bounds.{IsRoomy}
 use Rattle.image_form.specs.Tables.{Tables}
 use Rattle.layout_rules.specs.TooLarge.{first_too_large}
-use Rattle.text_commands.specs.Made.{IsMadeFor}
-use Rattle.text_commands.proofs.Known.{bytes_of, made_for_once}
-use Rattle.cmmc_core.specs.Compile.{Reads}
-use Rattle.cmmc_core.specs.Effects.{Side, IsRead}
-use Rattle.cmmc_core.proofs.Reading.{all, too_long, IsRead-known}
+use Rattle.commands.specs.Known.{IsMadeFor}
+use Rattle.commands.proofs.Known.{bytes_of, made_for_once}
+use Rattle.commands.specs.Compile.{Reads}
+use Rattle.commands.specs.Effects.{Side, IsRead}
+use Rattle.commands.proofs.Reading.{all, too_long, IsRead-known}
 
 -- ---- images of files
 

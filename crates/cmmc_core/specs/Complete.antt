@@ -11,13 +11,12 @@ use Rattle.correctness.specs.Bounds.{IsRoomy}
 use Rattle.stages.specs.Image.{IsOfImage}
 use Rattle.image_form.specs.Tables.{Tables, Func}
 use Rattle.layout_rules.specs.TooLarge.{first_too_large}
-use Rattle.text_commands.specs.Made.{IsMadeFor}
+use Rattle.commands.specs.Known.{IsMadeFor, NamesNone, HasUnfit, IsCall}
 use Rattle.rv_machine.specs.Loading.{func_named, words_of_args}
 use Rattle.stages.specs.declared.stage.Stage.{Stage}
-use Rattle.text_commands.specs.Arguments.{NamesNone, HasUnfit, IsCall}
-use Rattle.cmmc_core.specs.Effects.{Effects, Side, Rose}
-use Rattle.cmmc_core.specs.Run.{IsSpelling, words_of_answers}
-use Rattle.cmmc_core.specs.Soak.{soak_text}
+use Rattle.commands.specs.Effects.{Effects, Side, Rose}
+use Rattle.commands.specs.Run.{IsSpelling, words_of_answers}
+use Rattle.commands.specs.Soak.{soak_text}
 
 -- Its count of faults did not rise in the call, and is not the greatest there is: so no read of it
 -- failed, and no write to it.

@@ -1,8 +1,1 @@
-pub mod Lines
-pub mod Effects
-pub mod Compile
-pub mod Run
-pub mod Soak
-pub mod Ends
 pub mod Complete
-pub mod Refusal

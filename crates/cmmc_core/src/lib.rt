@@ -1,15 +1,6 @@
 //! The program: a call over a source and two sinks, which `main` makes with the real ones.
 #![tactic(auto)]
 
-mod check;
-mod compile;
-mod kept;
-mod last;
-mod line;
-mod list;
-mod run;
-mod soak;
-mod text;
 mod top;
 
 ghost use Rattle.std.specs.Prelude.{◌≡◌, ◌<◌, ℕ, List, All};
@@ -17,7 +8,7 @@ ghost use Rattle.bs_fault.specs.declared.fault.Fault.{Fault};
 ghost use Rattle.cmm_front.specs.FileOf.{IsFileOf, HasFault};
 ghost use Rattle.cmm_tree.specs.Tree.{FileTree};
 
-pub use text_commands::{CallRefusal, Gate, OpenGate, call_of, report_of_run};
+pub use commands::{CallRefusal, Gate, OpenGate, call_of, report_of_run};
 pub use top::cmmc;
 
 /// Law: a text has one file at most, one fault at most that is reported, and not both.

@@ -1,22 +1,20 @@
 //! The top call.
 ghost use Rattle.command_line.specs.View.{texts};
 ghost use Rattle.cmmc_core.specs.Complete.{Complete};
-ghost use Rattle.cmmc_core.specs.Effects.{side, effects};
-ghost use Rattle.cmmc_core.specs.Ends.{Ends};
+ghost use Rattle.commands.specs.Effects.{side, effects};
+ghost use Rattle.commands.specs.Ends.{Ends};
 
-use crate::check::check;
-use crate::compile::{Refusal, compile_source};
-use crate::line::{
-    NO_MEMORY, READ_FAULT, USAGE, WRITE_FAULT, WRITTEN, tell, tell_image, tell_refusal,
-};
-use crate::list::list;
-use crate::run::{RunRefusal, run_source};
-use crate::soak::soak;
 use bs_io::{Sink, Source, write_all};
 use command_line::{Command, WordsError, read_words};
+use commands::check::check;
+use commands::list::list;
+use commands::soak::soak;
+use commands::{
+    Gate, NO_MEMORY, READ_FAULT, Refusal, RunRefusal, USAGE, WRITE_FAULT, WRITTEN, compile_source,
+    run_source, tell, tell_image, tell_refusal,
+};
 use std::alloc::Global;
 use std::thread::Threads;
-use text_commands::Gate;
 
 /// Does what the words say, and answers the status with which the program ends.
 ///

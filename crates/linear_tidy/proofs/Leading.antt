@@ -17,7 +17,7 @@ use Rattle.lin_flow.specs.Labels.{place_in, AreLabelsOf}
 use Rattle.lin_flow.specs.declared.labels.Labels.{Labels}
 use Rattle.tidy_rules.specs.Redirecting.{is_label, first_goes, leads_to, leaves_to, next_label, followed, last_label, last_exit}
 use Rattle.tidy_rules.proofs.Following.{line, label_is}
-use Rattle.linear_tidy.proofs.Between.{drop_line}
+use Rattle.unused_lines.proofs.Between.{drop_line}
 use Rattle.linear_tidy.specs.Targets.{first_line, target_in, exit_in, AreTargets}
 use Rattle.linear_tidy.specs.declared.redirecting.Targets.{Targets}
 

@@ -21,8 +21,8 @@ use Rattle.tidy_rules.proofs.Leaving.{rest, self_goes, target_rest, handler_rest
 use Rattle.tidy_rules.proofs.Shape.{landing_stays}
 use Rattle.tidy_rules.specs.Regular.{IsReadBehind}
 use Rattle.tidy_rules.proofs.Redirecting.{label_unwritten}
-use Rattle.linear_tidy.specs.Forms.{IsNoSelfMove}
-use Rattle.linear_tidy.proofs.Useful.{only_on}
+use Rattle.unused_lines.specs.Forms.{IsNoSelfMove}
+use Rattle.unused_lines.proofs.Useful.{only_on}
 
 self_calm : {i : Line} {from to : Spot} → IsSelfMove i from to → may_raise i.op ≡ false
 self_calm (is_self_move same) = refl

@@ -23,7 +23,7 @@ use Rattle.tidy_rules.specs.Turning.{Head, Turn, branch_line, turned_line, turne
 use Rattle.tidy_rules.specs.Redirecting.{exits_to}
 use Rattle.tidy_rules.proofs.Following.{exit_is}
 use Rattle.bs_words.proofs.Lists.{head_same, tail_same}
-use Rattle.linear_tidy.proofs.Between.{drop_line}
+use Rattle.unused_lines.proofs.Between.{drop_line}
 use Rattle.linear_tidy.specs.Loops.{turn_view, turns_in, is_opened, opened_in, first_of, others_of, turned_by, turns_of, AreChanges}
 use Rattle.linear_tidy.specs.declared.turning.Changes.{Changes}
 

@@ -3,18 +3,14 @@
 //! lead, and the test of a loop is repeated at its end. OCaml does some of this as it linearises
 //! (`asmcomp/linearize.ml`: `get_label`, `local_exit`, and code after a jump is dropped).
 //!
-//! What is reached and what is read is searched over the walks of the function. A line that goes may
-//! leave others without use, so the search is repeated until no line goes.
+//! A line that goes may leave others without use, so the search for such lines (`unused_lines`) is
+//! repeated until no line goes.
 #![tactic(auto)]
 
-mod forms;
-mod leaving;
 mod redirecting;
 mod room;
 mod tidying;
 mod turning;
-mod use_of_lines;
-mod vals;
 
 pub use room::has_room;
 pub use tidying::tidy;

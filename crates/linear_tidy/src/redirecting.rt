@@ -6,12 +6,12 @@ ghost use Rattle.lin_flow.specs.Labels.{AreLabelsOf};
 ghost use Rattle.tidy_rules.specs.Redirecting.{goes_by, redirected, redirect, leads_to, leaves_to, last_label, last_exit, redirected_all};
 ghost use Rattle.linear_tidy.specs.Targets.{first_line, target_in, exit_in, AreTargets};
 
-use crate::forms::{exit_of, is_label, jump_of};
 use lin_flow::Labels;
 use lin_ir::{Flow, Lin, LinOp, Line};
 use mach_ir::{Label, Seq};
 use std::alloc::{AllocError, Global};
 use std::collections::BTreeMap;
+use unused_lines::forms::{exit_of, is_label, jump_of};
 
 /// The first line from the place on that is no label.
 fn first_line(code: &[Line], place: usize) -> Option<&Line>

@@ -4,12 +4,11 @@ ghost use Rattle.lin_laws.specs.Graph.{AreNumbered};
 ghost use Rattle.tidy_rules.specs.Tidied.{IsTidied};
 ghost use Rattle.linear_tidy.specs.Sizes.{HasRoom};
 
-use crate::leaving::{leave_out, no_move_goes, none_set};
 use crate::redirecting::redirect_jumps;
 use crate::turning::turn_loops;
-use crate::use_of_lines::{useless_lines, useless_lines_left};
 use lin_ir::Lin;
 use std::alloc::{AllocError, Global};
+use unused_lines::{leave_out, no_move_goes, none_set, useless_lines, useless_lines_left};
 
 /// The function made tidy: its jumps go at once where others lead, a branch is repeated right after
 /// each exit that leads to it, each line that is left is reached by some walk, each move of a location

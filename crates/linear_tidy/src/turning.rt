@@ -10,13 +10,13 @@ ghost use Rattle.tidy_rules.specs.Turning.{is_on, line_turn, branch_line, tested
 ghost use Rattle.linear_tidy.specs.Sizes.{HasLabels};
 ghost use Rattle.linear_tidy.specs.Loops.{head_view, turn_view, turns_in, is_opened, opened_in, first_of, others_of, turned_by, AreChanges};
 
-use crate::forms::{exit_of, goes_away, own_label};
 use lin_flow::Labels;
 use lin_ir::{Flow, Lin, LinOp, Line, Spot};
 use linearise::{bare, opposite_test};
 use mach_ir::{Label, Seq, Test};
 use std::alloc::{AllocError, Global};
 use std::collections::BTreeSet;
+use unused_lines::forms::{exit_of, goes_away, own_label};
 
 /// What is free above these labels and that of one more line.
 fn free_above(free: usize, op: &LinOp) -> usize

@@ -1,5 +1,5 @@
 use Rattle.std.proofs.Common.{◌++◌, ap, ◌∙◌}
-use Rattle.assemble.specs.Places.{forms_in}
+use Rattle.function_places.specs.Places.{forms_in}
 use Rattle.assemble.proofs.Joined.{codes_given, words_joined, descs_joined}
 use Rattle.image_form.specs.Image.{stub, stub_words}
 use Rattle.assemble.proofs.code.all_code.Goals as goal

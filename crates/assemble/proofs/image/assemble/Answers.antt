@@ -1,6 +1,6 @@
 use Rattle.std.proofs.Common.{◌≡◌, ◌<◌, length, Some, Err, Result, sym, ap, ◌∙◌, subst, arith}
 use Rattle.std.specs.Prelude.{◌^◌}
-use Rattle.assemble.specs.Places.{forms_in}
+use Rattle.function_places.specs.Places.{forms_in}
 use Rattle.bs_fault.specs.declared.build.BuildError.{BuildError}
 use Rattle.bs_fault.specs.declared.build.BuildError.TheVariants as error
 use Rattle.bs_fault.specs.declared.large.Large.{Large}

@@ -1,5 +1,5 @@
 use Rattle.assemble.specs.Sizes.{call_size}
-use Rattle.assemble.proofs.Totals.{sum_done}
+use Rattle.function_places.proofs.Sums.{sum_done}
 use Rattle.assemble.proofs.sizes.calls_size.Goals as goal
 
 pub returns : goal.returns

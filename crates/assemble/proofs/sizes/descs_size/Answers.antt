@@ -1,6 +1,6 @@
 use Rattle.std.proofs.Common.{arith}
 use Rattle.assemble.specs.Sizes.{descs_size}
-use Rattle.assemble.proofs.Totals.{sum_step, sum_done}
+use Rattle.function_places.proofs.Sums.{sum_step, sum_done}
 use Rattle.assemble.proofs.sizes.descs_size.Goals as goal
 
 pub overflow_add-size : goal.overflow_add-size

@@ -1,6 +1,6 @@
 use Rattle.std.proofs.Common.{arith}
 use Rattle.assemble.specs.Sizes.{item_size}
-use Rattle.assemble.proofs.Totals.{sum_step, sum_done}
+use Rattle.function_places.proofs.Sums.{sum_step, sum_done}
 use Rattle.assemble.proofs.sizes.items_size.Goals as goal
 
 pub item_size-size-requires : goal.item_size-size-requires

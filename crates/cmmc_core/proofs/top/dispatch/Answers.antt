@@ -1,7 +1,7 @@
 use Rattle.std.proofs.Common.{Err, ap}
 use Rattle.bs_words.specs.Contents.{contents}
-use Rattle.cmmc_core.specs.Ends.{no_command, no_value, read_fault, no_image, no_entry, unfit, no_memory}
-use Rattle.cmmc_core.proofs.Ending.{Keeps-same, GotPart-part, Ends-told, Ends-told-or, Ends-refused, Ends-written, Ends-cut, Ends-run, Ends-run-cut}
+use Rattle.commands.specs.Ends.{no_command, no_value, read_fault, no_image, no_entry, unfit, no_memory}
+use Rattle.commands.proofs.Ending.{Keeps-same, GotPart-part, Ends-told, Ends-told-or, Ends-refused, Ends-written, Ends-cut, Ends-run, Ends-run-cut}
 use Rattle.cmmc_core.proofs.top.dispatch.Goals as goal
 
 -- ---- compile

@@ -1,7 +1,7 @@
 use Rattle.std.proofs.Common.{◌≡◌, false, length, sym, ap, ◌∙◌, subst, arith}
 use Rattle.std.proofs.lemmas.Bool.{true≢false}
 use Rattle.std.specs.List.{All}
-use Rattle.linear_tidy.proofs.Flagged.{first_numbered, first_round, next_numbered, next_countable, next_reached, next_read, no_move_by, next_round, last_round, fewer_left, left_by}
+use Rattle.linear_tidy.proofs.Rounds.{first_numbered, first_round, next_numbered, next_countable, next_reached, next_read, no_move_by, next_round, last_round, fewer_left, left_by}
 use Rattle.linear_tidy.proofs.Sizes.{labels_then, turned_countable}
 use Rattle.linear_tidy.proofs.tidying.tidy.Goals as goal
 

@@ -1,5 +1,5 @@
 use Rattle.std.proofs.Common.{length}
-use Rattle.linear_tidy.proofs.Flagged.{Round}
+use Rattle.linear_tidy.proofs.Rounds.{Round}
 use Rattle.linear_tidy.proofs.tidying.tidy.Given as goal
 
 abbrev pub invariant-loop-alloc : goal.invariant-loop-alloc

@@ -3,7 +3,7 @@ use Rattle.std.specs.Option.{option_map}
 use Rattle.lin_ir.specs.declared.lin.Line.{Line}
 use Rattle.tidy_rules.specs.Turning.{label_on, head_by, head_at}
 use Rattle.linear_tidy.specs.Loops.{head_view}
-use Rattle.linear_tidy.proofs.Between.{drop_line}
+use Rattle.unused_lines.proofs.Between.{drop_line}
 use Rattle.linear_tidy.proofs.Loops.{if_ok, after_room}
 use Rattle.linear_tidy.proofs.turning.head_at.Goals as goal
 

@@ -1,5 +1,5 @@
 use Rattle.std.proofs.Common.{◌≡◌, ◌<◌, ◌++◌, length, map, get_or, sym, ap, ap₂, ◌∙◌, arith}
-use Rattle.assemble.specs.Places.{forms_in}
+use Rattle.function_places.specs.Places.{forms_in}
 use Rattle.assemble.specs.Source.{tree_of, entries_of}
 use Rattle.assemble.proofs.Steps.{read_at, same_at, form_at}
 use Rattle.assemble.proofs.Walks.{forms_long, entries_long, function_there}

@@ -1,5 +1,6 @@
 use Rattle.std.proofs.Common.{◌≡◌, ◌++◌, length, sym, ap, ◌∙◌, subst, OnOk, arith}
-use Rattle.assemble.proofs.Bounds.{length_most, place_within, end_most, end_short}
+use Rattle.assemble.proofs.Bounds.{place_within, end_most, end_short}
+use Rattle.function_places.proofs.Bounds.{length_most}
 use Rattle.assemble.proofs.Walks.{words_placed, all_lead}
 use Rattle.layout_rules.specs.Conditions.{AllLead}
 use Rattle.layout_rules.specs.Forms.{total_words, place_or_entry}

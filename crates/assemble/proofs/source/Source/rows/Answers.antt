@@ -1,6 +1,6 @@
 use Rattle.std.proofs.Common.{◌≡◌, ◌+◌, ◌<◌, ◌++◌, ◌∷◌, [], length, map, drop, refl, sym, ap, ap₂, ◌∙◌, subst, arith}
 use Rattle.std.proofs.lemmas.List.{map-append}
-use Rattle.assemble.specs.Places.{forms_in, IsLaid}
+use Rattle.function_places.specs.Places.{forms_in, IsLaid}
 use Rattle.assemble.specs.Source.{laid_of}
 use Rattle.assemble.proofs.Bounds.{end_most}
 use Rattle.assemble.proofs.Walks.{forms_long, function_at, rows_more, function_here, data_here, typed_next}

@@ -1,5 +1,5 @@
 use Rattle.std.proofs.Common.{◌≡◌, ◌+◌, ◌++◌, length, map, drop}
-use Rattle.assemble.specs.Places.{forms_in}
+use Rattle.function_places.specs.Places.{forms_in}
 use Rattle.assemble.specs.Source.{laid_of}
 use Rattle.bs_words.specs.Contents.{contents}
 use Rattle.cmm_tree.specs.Tree.{functions_among}

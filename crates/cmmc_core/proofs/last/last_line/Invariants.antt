@@ -1,8 +1,0 @@
-use Rattle.cmmc_core.proofs.LastLine.{IsWithinLine}
-use Rattle.cmmc_core.proofs.last.last_line.Given as goal
-
-abbrev pub invariant-loop-start : goal.invariant-loop-start
-invariant-loop-start l = IsWithinLine l.text l.start
-
-abbrev pub decreases-loop-start : goal.decreases-loop-start
-decreases-loop-start l = l.start

@@ -1,0 +1,4 @@
+pub mod SelfMoves
+pub mod Between
+pub mod Useful
+pub mod Flagged
