@@ -43,7 +43,8 @@ impl<'a> Machine<'a> {
         mut values: Vec<Value>,
     ) -> Result<Now<'a>, AllocError>
         requires { IsAround around.now }
-        ensures meaning { IfOk result (λ now. stands around.now self.new now ≡ goes_on around.now self.old
+        ensures meaning { IfOk result (λ now. stands around.now self.new now ≡
+            goes_on around.now self.old
             (λ h w. operated_by (around_view around.now) form.entry.now tail callee
             (reverse values.items) h w)) }
         ensures falls { IfOk result (λ now. Falls 3 self.old self.new now) }
@@ -129,7 +130,8 @@ impl<'a> Machine<'a> {
         written: Ret,
     ) -> Result<Now<'a>, AllocError>
         requires { IsAround around.now }
-        ensures meaning { IfOk result (λ now. stands around.now self.new now ≡ goes_on around.now self.old
+        ensures meaning { IfOk result (λ now. stands around.now self.new now ≡
+            goes_on around.now self.old
             (λ h w. applied (around_view around.now) callee arguments.items written tail h w)) }
         ensures falls { IfOk result (λ now. Falls 3 self.old self.new now) }
     {
@@ -240,7 +242,8 @@ impl<'a> Machine<'a> {
         written: Ret,
     ) -> Result<Now<'a>, AllocError>
         requires { IsAround around.now }
-        ensures meaning { IfOk result (λ now. stands around.now self.new now ≡ goes_on around.now self.old
+        ensures meaning { IfOk result (λ now. stands around.now self.new now ≡
+            goes_on around.now self.old
             (λ h w. returned written h (answered_as frame
             (around_view around.now).end written (call_seen
             (layout_view around.now.layout.now) name.entry.now arguments.now) w.answers w))) }

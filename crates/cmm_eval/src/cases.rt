@@ -28,7 +28,8 @@ impl<'a> Machine<'a> {
         values: Vec<Value>,
     ) -> Result<Now<'a>, AllocError>
         requires { IsAround around.now }
-        ensures meaning { IfOk result (λ now. stands around.now self.new now ≡ goes_on around.now self.old
+        ensures meaning { IfOk result (λ now. stands around.now self.new now ≡
+            goes_on around.now self.old
             (λ h w. fills (around_view around.now) frame.entry (Exits
             (label_view label.entry.now) values.items h w))) }
         ensures falls { IfOk result (λ now. Falls 3 self.old self.new now) }

@@ -30,7 +30,8 @@ impl<'a> Machine<'a> {
         value: Option<Value>,
     ) -> Result<Now<'a>, AllocError>
         requires { IsAround around.now }
-        ensures meaning { IfOk result (λ now. stands around.now self.new now ≡ goes_on around.now self.old
+        ensures meaning { IfOk result (λ now. stands around.now self.new now ≡
+            goes_on around.now self.old
             (λ h w. fills (around_view around.now) frame.entry (Gives value h w))) }
         ensures falls { IfOk result (λ now. Falls 3 self.old self.new now) }
     {
@@ -68,7 +69,8 @@ impl<'a> Machine<'a> {
     ) -> Result<Now<'a>, AllocError>
         requires around { IsAround around.now }
         requires wants { WantsValue frame.step }
-        ensures meaning { IfOk result (λ now. stands around.now self.new now ≡ goes_on around.now self.old
+        ensures meaning { IfOk result (λ now. stands around.now self.new now ≡
+            goes_on around.now self.old
             (λ h w. fills (around_view around.now) frame.entry (Gives (Some value) h w))) }
         ensures falls { IfOk result (λ now. Falls 3 self.old self.new now) }
     {
@@ -120,7 +122,8 @@ impl<'a> Machine<'a> {
         value: Value,
     ) -> Result<Now<'a>, AllocError>
         requires { IsAround around.now }
-        ensures meaning { IfOk result (λ now. stands around.now self.new now ≡ goes_on around.now self.old
+        ensures meaning { IfOk result (λ now. stands around.now self.new now ≡
+            goes_on around.now self.old
             (λ h w. taken_by (around_view around.now) form.entry.now tail value h w)) }
         ensures falls { IfOk result (λ now. Falls 3 self.old self.new now) }
     {
@@ -251,7 +254,8 @@ impl<'a> Machine<'a> {
         value: Value,
     ) -> Result<Now<'a>, AllocError>
         requires { IsAround around.now }
-        ensures meaning { IfOk result (λ now. stands around.now self.new now ≡ goes_on around.now self.old
+        ensures meaning { IfOk result (λ now. stands around.now self.new now ≡
+            goes_on around.now self.old
             (λ h w. first_bound (around_view around.now) bindings.entry.now value h w)) }
         ensures falls { IfOk result (λ now. Falls 3 self.old self.new now) }
     {

@@ -63,7 +63,8 @@ impl<'a> Machine<'a> {
         tail: bool,
     ) -> Result<Now<'a>, AllocError>
         requires { group_of form.now ≡ Group.One }
-        ensures meaning { IfOk result (λ now. stands around.now self.new now ≡ goes_on around.now self.old
+        ensures meaning { IfOk result (λ now. stands around.now self.new now ≡
+            goes_on around.now self.old
             (λ h w. inside (around_view around.now) form.entry.now tail h w)) }
         ensures falls { IfOk result (λ now. Falls 3 self.old self.new now) }
     {
@@ -81,7 +82,8 @@ impl<'a> Machine<'a> {
         tail: bool,
     ) -> Result<Now<'a>, AllocError>
         requires { group_of form.now ≡ Group.Two }
-        ensures meaning { IfOk result (λ now. stands around.now self.new now ≡ goes_on around.now self.old
+        ensures meaning { IfOk result (λ now. stands around.now self.new now ≡
+            goes_on around.now self.old
             (λ h w. inside (around_view around.now) form.entry.now tail h w)) }
         ensures falls { IfOk result (λ now. Falls 3 self.old self.new now) }
     {

@@ -68,7 +68,8 @@ impl<'a> Machine<'a> {
         tail: bool,
     ) -> Result<Now<'a>, AllocError>
         requires { IsAround around.now }
-        ensures meaning { IfOk result (λ now. stands around.now self.new now ≡ goes_on around.now self.old
+        ensures meaning { IfOk result (λ now. stands around.now self.new now ≡
+            goes_on around.now self.old
             (λ h w. expression (around_view around.now) expr.entry.now tail h w)) }
         ensures falls { IfOk result (λ now. Falls 0 self.old self.new now) }
     {
@@ -113,7 +114,8 @@ impl<'a> Machine<'a> {
     ) -> Result<Now<'a>, AllocError>
         requires around { IsAround around.now }
         requires taken { self.old.world.left + 1 < 2 ^ 64 }
-        ensures meaning { IfOk result (λ now. stands around.now self.new now ≡ goes_on around.now self.old
+        ensures meaning { IfOk result (λ now. stands around.now self.new now ≡
+            goes_on around.now self.old
             (λ h w. inside (around_view around.now) form.entry.now tail h w)) }
         ensures falls { IfOk result (λ now. Falls 4 self.old self.new now) }
     {
@@ -143,7 +145,8 @@ impl<'a> Machine<'a> {
     ) -> Result<Now<'a>, AllocError>
         requires around { IsAround around.now }
         requires ended { HasEnded ended }
-        ensures meaning { IfOk result (λ now. stands around.now self.new now ≡ goes_on around.now self.old
+        ensures meaning { IfOk result (λ now. stands around.now self.new now ≡
+            goes_on around.now self.old
             (λ h w. fills (around_view around.now) frame.entry (standing
             (around_view around.now) ended.entry h w))) }
         ensures falls { IfOk result (λ now. Falls 3 self.old self.new now) }

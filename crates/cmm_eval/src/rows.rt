@@ -163,7 +163,8 @@ impl<'a> Machine<'a> {
         mut values: Vec<Option<Value>>,
     ) -> Result<Now<'a>, AllocError>
         requires { IsAround around.now }
-        ensures meaning { IfOk result (λ now. stands around.now self.new now ≡ goes_on around.now self.old
+        ensures meaning { IfOk result (λ now. stands around.now self.new now ≡
+            goes_on around.now self.old
             (λ h w. waits_for (around_view around.now) form.entry.now tail
             (reverse operands.entry.now) (reverse values.items) h w)) }
         ensures falls { IfOk result (λ now. Falls 3 self.old self.new now) }
@@ -192,7 +193,8 @@ impl<'a> Machine<'a> {
         waited: Vec<Option<Value>>,
     ) -> Result<Now<'a>, AllocError>
         requires { IsAround around.now }
-        ensures meaning { IfOk result (λ now. stands around.now self.new now ≡ goes_on around.now self.old
+        ensures meaning { IfOk result (λ now. stands around.now self.new now ≡
+            goes_on around.now self.old
             (λ h w. after_waiting (around_view around.now) form.entry.now tail waited.items h
             w)) }
         ensures falls { IfOk result (λ now. Falls 3 self.old self.new now) }
@@ -223,7 +225,8 @@ impl<'a> Machine<'a> {
         row: Row<'a>,
     ) -> Result<Now<'a>, AllocError>
         requires { IsAround around.now }
-        ensures meaning { IfOk result (λ now. stands around.now self.new now ≡ goes_on around.now self.old
+        ensures meaning { IfOk result (λ now. stands around.now self.new now ≡
+            goes_on around.now self.old
             (λ h w. row_fills (around_view around.now) form.entry.now tail callee row.entry h w)) }
         ensures falls { IfOk result (λ now. Falls 3 self.old self.new now) }
     {

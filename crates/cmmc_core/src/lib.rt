@@ -15,8 +15,8 @@ pub use top::cmmc;
 pub fn one_file_or_one_fault()
     ensures files { (text : List ℕ) → All (λ b. b < 256) text → (file other : FileTree) →
         IsFileOf text file → IsFileOf text other → file ≡ other }
-    ensures faults { (text : List ℕ) → All (λ b. b < 256) text → (told other : Fault) →
-        HasFault text told → HasFault text other → told ≡ other }
+    ensures faults { (text : List ℕ) → All (λ b. b < 256) text → (fault other : Fault) →
+        HasFault text fault → HasFault text other → fault ≡ other }
     ensures apart { (text : List ℕ) → All (λ b. b < 256) text → (file : FileTree) →
-        (told : Fault) → IsFileOf text file → HasFault text told → ⊥ }
+        (fault : Fault) → IsFileOf text file → HasFault text fault → ⊥ }
 {}

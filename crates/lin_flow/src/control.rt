@@ -1,6 +1,5 @@
 //! Where control goes from a line.
 ghost use Rattle.std.specs.Prelude.{◌≡◌, ◌<◌, ◌^◌, ℕ, suc, map, IfOk};
-ghost use Rattle.mach_ir.specs.Acts.{At};
 ghost use Rattle.mach_ir.specs.Labels.{place_to};
 ghost use Rattle.lin_ir.specs.Walks.{targets};
 ghost use Rattle.lin_ir.specs.Walks as walks;
@@ -9,7 +8,7 @@ ghost use Rattle.lin_flow.specs.Labels.{place_in};
 use crate::labels::Labels;
 use dataflow::{one_place, two_places};
 use lin_ir::{Flow, LinOp};
-use mach_ir::{Label, places_after_op};
+use mach_ir::places_after_op;
 use std::alloc::{AllocError, Global};
 
 /// Whether it leads to the innermost handler too: a call, a frame call, a raise or a bound test.
@@ -20,17 +19,6 @@ pub fn may_raise(op: &LinOp) -> bool
         LinOp::Op(op) => op.may_raise(),
         LinOp::Flow(_) => false,
     }
-}
-
-fn places_of_labels(alloc: Global, labels: &Labels, among: &[Label]) -> Result<Vec<u32>, AllocError>
-    ensures { IfOk result (λ places. (p : ℕ) →
-        places.items ≡ map (place_to (place_in labels.now) p) (map At among.now)) }
-{
-    let mut places = Vec::with_capacity(alloc, among.len())?;
-    for label in among {
-        places.push(labels.place_of(*label))?;
-    }
-    Ok(places)
 }
 
 fn places_after_flow(
@@ -49,7 +37,7 @@ fn places_after_flow(
         Flow::Exit(label) => one_place(alloc, labels.place_of(*label)),
         Flow::Branch { test: _, label } => { two_places(alloc, place + 1, labels.place_of(*label)) }
         Flow::Switch(among) => {
-            let places = places_of_labels(alloc, labels, among.as_slice())?;
+            let places = labels.places_of(alloc, among.as_slice())?;
             Ok(places)
         }
         Flow::PushTrap(_) => one_place(alloc, place + 1),

@@ -1,7 +1,8 @@
 //! The places of labels.
-ghost use Rattle.std.specs.Prelude.{◌≡◌, ◌<◌, ℕ, ◌^◌, cond, length, IfOk};
+ghost use Rattle.std.specs.Prelude.{◌≡◌, ◌<◌, ℕ, ◌^◌, cond, length, map, IfOk};
 ghost use Rattle.lin_ir.specs.Meaning.{has_label};
-ghost use Rattle.mach_ir.specs.Labels.{is_that_label};
+ghost use Rattle.mach_ir.specs.Acts.{At};
+ghost use Rattle.mach_ir.specs.Labels.{is_that_label, place_to};
 ghost use Rattle.lin_flow.specs.Labels.{place_in, AreLabelsOf};
 
 use lin_ir::{Flow, Lin, LinOp};
@@ -76,5 +77,13 @@ impl Labels {
         ensures { result ≡ place_in self.now label }
     {
         self.places.place_of(label)
+    }
+
+    /// The places after these labels, in their order. The only error is want of memory.
+    pub fn places_of(&self, alloc: Global, among: &[Label]) -> Result<Vec<u32>, AllocError>
+        ensures { IfOk result (λ places. (p : ℕ) →
+            places.items ≡ map (place_to (place_in self.now) p) (map At among.now)) }
+    {
+        self.places.places_of(alloc, among)
     }
 }

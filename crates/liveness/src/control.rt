@@ -1,6 +1,5 @@
 //! Where control goes from an instruction.
 ghost use Rattle.std.specs.Prelude.{◌≡◌, ◌<◌, ◌^◌, ℕ, suc, map, IfOk};
-ghost use Rattle.mach_ir.specs.Acts.{At};
 ghost use Rattle.mach_ir.specs.Labels.{place_to};
 ghost use Rattle.mach_ir.specs.Meaning.{tries_past};
 ghost use Rattle.mach_ir.specs.Walks.{targets};
@@ -23,17 +22,6 @@ fn may_raise(op: &MachOp) -> bool
     }
 }
 
-fn places_of_labels(alloc: Global, labels: &Labels, among: &[Label]) -> Result<Vec<u32>, AllocError>
-    ensures { IfOk result (λ places. (p : ℕ) →
-        places.items ≡ map (place_to (place_in labels.now) p) (map At among.now)) }
-{
-    let mut places = Vec::with_capacity(alloc, among.len())?;
-    for label in among {
-        places.push(labels.place_of(*label))?;
-    }
-    Ok(places)
-}
-
 fn places_after_mark(
     alloc: Global,
     labels: &Labels,
@@ -53,7 +41,7 @@ fn places_after_mark(
         ),
         Mark::Else { label: _, end } => one_place(alloc, labels.place_of(*end)),
         Mark::Switch(among) => {
-            let places = places_of_labels(alloc, labels, among.as_slice())?;
+            let places = labels.places_of(alloc, among.as_slice())?;
             Ok(places)
         }
         Mark::Case {

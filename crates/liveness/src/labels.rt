@@ -1,7 +1,8 @@
 //! The places of labels and of handlers.
-ghost use Rattle.std.specs.Prelude.{◌≡◌, ◌<◌, ℕ, ◌^◌, suc, cond, length, IfOk};
+ghost use Rattle.std.specs.Prelude.{◌≡◌, ◌<◌, ℕ, ◌^◌, suc, cond, length, map, IfOk};
 ghost use Rattle.mach_ir.specs.Meaning.{has_label, is_handler_of};
-ghost use Rattle.mach_ir.specs.Labels.{is_that_label};
+ghost use Rattle.mach_ir.specs.Acts.{At};
+ghost use Rattle.mach_ir.specs.Labels.{is_that_label, place_to};
 ghost use Rattle.liveness.specs.Labels.{place_in, handler_in, AreLabelsOf};
 
 use mach_ir::{Label, LabelPlaces, Mach, MachOp, Mark};
@@ -92,6 +93,14 @@ impl Labels {
         ensures { result ≡ place_in self.now label }
     {
         self.places.place_of(label)
+    }
+
+    /// The places after these labels, in their order. The only error is want of memory.
+    pub fn places_of(&self, alloc: Global, among: &[Label]) -> Result<Vec<u32>, AllocError>
+        ensures { IfOk result (λ places. (p : ℕ) →
+            places.items ≡ map (place_to (place_in self.now) p) (map At among.now)) }
+    {
+        self.places.places_of(alloc, among)
     }
 
     /// The place of the handler.

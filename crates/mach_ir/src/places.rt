@@ -1,6 +1,7 @@
 //! Places of labels.
-ghost use Rattle.std.specs.Prelude.{◌≡◌, ℕ, cond, nat_eq, IfOk};
-ghost use Rattle.mach_ir.specs.Labels.{place_in};
+ghost use Rattle.std.specs.Prelude.{◌≡◌, ℕ, cond, map, nat_eq, IfOk};
+ghost use Rattle.mach_ir.specs.Acts.{At};
+ghost use Rattle.mach_ir.specs.Labels.{place_in, place_to};
 
 use crate::label::Label;
 use std::alloc::{AllocError, Global};
@@ -41,5 +42,18 @@ impl LabelPlaces {
             None => self.end,
             Some(place) => *place,
         }
+    }
+
+    /// The places of these labels, in their order, wherever they are asked for. The only error is want
+    /// of memory.
+    pub fn places_of(&self, alloc: Global, among: &[Label]) -> Result<Vec<u32>, AllocError>
+        ensures { IfOk result (λ places. (p : ℕ) →
+            places.items ≡ map (place_to (place_in self.now) p) (map At among.now)) }
+    {
+        let mut places = Vec::with_capacity(alloc, among.len())?;
+        for label in among {
+            places.push(self.place_of(*label))?;
+        }
+        Ok(places)
     }
 }

@@ -28,7 +28,7 @@ enum Answer {
     Member(Option<u32>),
 }
 
-/// The two sets of a line, and what was told of them.
+/// The two sets of a line, and what is to be shown of them.
 #[derive(Drop)]
 struct Sets {
     a: Bits,
@@ -37,7 +37,7 @@ struct Sets {
 }
 
 impl Sets {
-    /// Two empty sets of numbers below a size, of which nothing was told.
+    /// Two empty sets of numbers below a size, of which nothing is to be shown.
     fn new(alloc: Global, size: u32) -> Result<Sets, AllocError> {
         let a = Bits::new(alloc, size)?;
         let b = Bits::new(alloc, size)?;
@@ -45,13 +45,13 @@ impl Sets {
         Ok(Sets { a, b, told })
     }
 
-    /// Does what a word asks, and tells the answer.
+    /// Does what a word asks, and notes the answer.
     fn take(&mut self, alloc: Global, word: &str) -> Result<()> {
         let answer = self.answer(step_of(word)?);
         Ok(put_answer(alloc, &mut self.told, answer)?)
     }
 
-    /// All that was told, as one line.
+    /// All that is to be shown, as one line.
     fn into_line(self) -> Result<String, AllocError> {
         let Sets { mut told, .. } = self;
         told.push('\n')?;

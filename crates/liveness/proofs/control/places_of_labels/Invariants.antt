@@ -1,8 +1,0 @@
-use Rattle.std.proofs.Common.{◌≡◌, ℕ, map, take}
-use Rattle.mach_ir.specs.Acts.{At}
-use Rattle.mach_ir.specs.Labels.{place_to}
-use Rattle.liveness.specs.Labels.{place_in}
-use Rattle.liveness.proofs.control.places_of_labels.Given as goal
-
-abbrev pub invariant-loop-label : goal.invariant-loop-label
-invariant-loop-label l = (p : ℕ) → l.places.items ≡ map (place_to (place_in l.labels) p) (map At (take l.label-index l.among))
