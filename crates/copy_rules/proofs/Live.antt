@@ -43,7 +43,7 @@ module _ (m : Mach) (plan : ℕ → Reg → Reg) (formed : WellFormed m)
   read_here {i} {next} ending r c =
       let s = stands_of ending in read_at m plan reads i next s (form_of i (contains_of s)) r c
 
-  -- the move that made a copy stands in the second
+  -- the move that made a copy is in the second too
   move_there : {rest : List Instr} (c s : Reg) → Standing m plan rest c s → Contains q.code (move s c)
   move_there {rest} c s w =
       let t = w.copies in

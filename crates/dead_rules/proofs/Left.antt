@@ -1,4 +1,4 @@
--- What is left of code where some of what may go has gone: where each instruction of it stood, and that what is live and
+-- What is left of code where some of what may go has gone: where each instruction of it was, and that what is live and
 -- reached in it was so before.
 use Rattle.std.proofs.Common.{◌≡◌, ℕ, Bool, true, false, ⊎_elim, List, [], ◌∷◌, ◌++◌, length, refl, sym, ap, ◌∙◌, subst}
 use Rattle.std.specs.List.{Contains}
@@ -22,7 +22,7 @@ module _ (drops : ℕ → Bool) where
   abbrev pub f : ℕ → Instr → List Instr
   f = without drops
 
-  -- ---- where an instruction that is left stood
+  -- ---- where an instruction that is left was
 
   pub record IsMain (j : Instr) (zs code : List Instr) : Type 0 where
     pub next : List Instr

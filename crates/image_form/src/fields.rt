@@ -45,7 +45,8 @@ pub(crate) fn u16_from(bytes: &[u8]) -> Result<(u16, &[u8]), Stop>
     Ok((u16::from_le_bytes([front[0], front[1]]), rest))
 }
 
-/// A number of 32 bits.
+/// A number of 32 bits, the low byte first. The error is how many bytes there are, where they are fewer than
+/// four.
 #[tactic(auto, unfolding(crate::specs::Fields::number_at))]
 pub fn u32_from(bytes: &[u8]) -> Result<(u32, &[u8]), Stop>
     ensures { Gives (λ x. (x.0, x.1.now)) result (number_at w32 bytes.now) }
@@ -58,7 +59,8 @@ pub fn u32_from(bytes: &[u8]) -> Result<(u32, &[u8]), Stop>
     Ok((number, rest))
 }
 
-/// A size, a number of entries or an entry of a descriptor: 16 bits in version 1, and 32 in version 2.
+/// A size, a number of entries or an entry of a descriptor: 16 bits in version 1, and 32 in version 2, the low
+/// byte first. The error is how many bytes there are, where they are too few.
 #[tactic(auto, unfolding(crate::specs::Fields::wide_at))]
 pub fn wide_from(version: u32, bytes: &[u8]) -> Result<(u32, &[u8]), Stop>
     ensures { Gives (λ x. (x.0, x.1.now)) result (wide_at version bytes.now) }
@@ -83,7 +85,8 @@ fn text_from(bytes: &[u8]) -> Result<(&[u8], &[u8]), Stop>
     Ok(rest.split_at(len))
 }
 
-/// A name after its length.
+/// A name after its length in bytes, which has 16 bits. The error is how many bytes of the body are left from the field on
+/// that is cut short, or from the length on where the bytes are not those of a symbol.
 #[tactic(auto, unfolding(crate::specs::Fields::name_at, crate::specs::Fields::kept))]
 pub fn name_from(bytes: &[u8]) -> Result<(&[u8], &[u8]), Stop>
     ensures gives { Gives (λ x. (x.0.now, x.1.now)) result (name_at bytes.now) }
@@ -96,7 +99,8 @@ pub fn name_from(bytes: &[u8]) -> Result<(&[u8], &[u8]), Stop>
     Ok((name, rest))
 }
 
-/// A name that did not come before. It is then among those that did.
+/// A name that did not come before. It is then among those that did. The errors are those of a name, a name that
+/// did come before, with the bytes that are left from its length on, and want of memory.
 #[tactic(auto, unfolding(crate::specs::Fields::new_name_at, crate::specs::Fields::kept))]
 pub fn new_name_from<'a>(
     alloc: Global,
@@ -166,7 +170,8 @@ fn ext_result_of(byte: u8) -> Option<Ret>
     }
 }
 
-/// The result of a function.
+/// The result of a function, a byte: 0 `int`, 1 `val`, 3 `unit`. The error is how many bytes of the body are left from it
+/// on, where it is another or there is none.
 #[tactic(auto, unfolding(crate::specs::Fields::type_at))]
 pub fn result_from(bytes: &[u8]) -> Result<(Ret, &[u8]), Stop>
     ensures { Gives (λ x. (x.0, x.1.now)) result (type_at result_of bytes.now) }
@@ -178,7 +183,8 @@ pub fn result_from(bytes: &[u8]) -> Result<(Ret, &[u8]), Stop>
     }
 }
 
-/// The result of an external call.
+/// The result of an external call, a byte: that of a function, or 2 `addr`. The error is how many bytes of the body are
+/// left from it on, where it is another or there is none.
 #[tactic(auto, unfolding(crate::specs::Fields::type_at))]
 pub fn ext_result_from(bytes: &[u8]) -> Result<(Ret, &[u8]), Stop>
     ensures { Gives (λ x. (x.0, x.1.now)) result (type_at ext_result_of bytes.now) }
@@ -205,7 +211,8 @@ fn comps_from(alloc: Global, most: u8, count: u8, bytes: &[u8]) -> Result<(Vec<C
     Ok((comps, rest))
 }
 
-/// The number of types, at most 16, and the types up to that byte.
+/// The number of types, at most 16, and the types, a byte each: 0 `int`, 1 `val`, 2 `addr`, none above `most`. The error is
+/// how many bytes of the body are left from the first byte on that is another or missing, or want of memory.
 #[tactic(auto, unfolding(crate::specs::Fields::params_at, crate::specs::Fields::kept))]
 pub fn params_from(alloc: Global, most: u8, bytes: &[u8]) -> Result<(Vec<Comp>, &[u8]), Stop>
     ensures gives { Gives (λ x. (x.0.items, x.1.now)) result (params_at most bytes.now) }

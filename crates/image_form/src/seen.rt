@@ -21,7 +21,7 @@ impl Seen {
         }
     }
 
-    /// Adds the text, and answers whether it was new.
+    /// Adds the text, and answers whether it was new. The only error is want of memory.
     pub fn insert(&mut self, text: Vec<u8>) -> Result<bool, AllocError>
         ensures new { IfOk result (λ added.
             (texts : List (List ℕ))

@@ -22,7 +22,7 @@ use Rattle.mach_ir.specs.declared.reg.Reg.{Reg}
 use Rattle.mach_ir.specs.declared.mach.Instr.{Instr}
 use Rattle.mach_ir.specs.declared.mach.Mach.{Mach}
 
--- ---- what may stand in a straight run
+-- ---- what may be in a straight run
 
 no_mark : (g : MachOp) → is_straight g ≡ true → (f : Mark) → g ≡ mach.Mark f → ⊥
 no_mark g s f e = both_ways false refl (sym (ap is_straight e) ∙ s)
@@ -69,7 +69,7 @@ module _ (m : Mach) (code : List Instr) where
   abbrev pub q : Mach
   q = record m { code = code }
 
-  -- An instruction of it may stand in a straight run, or could in the first: after it are the tries, labels and handlers
+  -- An instruction of it may be in a straight run, or could in the first: after it are the tries, labels and handlers
   -- that were.
   pub data ComesFrom (i : Instr) (zs : List Instr) : Type 0 where
     is_new : is_straight i.op ≡ true → ComesFrom i zs

@@ -39,7 +39,7 @@ handler_crooked : (l : ℕ) (g : MachOp) → is_handler_of l g ≡ true → is_s
 handler_crooked l (mach.Op g) e = absurd (both_ways false refl e)
 handler_crooked l (mach.Mark g) e = refl
 
--- nothing that may stand in a straight run destroys a register, and only an allocation is a frame point
+-- nothing that may be in a straight run destroys a register, and only an allocation is a frame point
 pub straight_destroys : (g : MachOp) → is_straight g ≡ true → destroyed_by g ≡ Nothing
 straight_destroys (mach.Op (op.Pure f)) e = refl
 straight_destroys (mach.Op (op.Access f)) e = refl
@@ -108,7 +108,7 @@ since made x j r s = by (last_of made x s.others j s.run s.within)
         x_in : Contains s.run x
         x_in = subst (λ zs. Contains zs x) (sym e) (in_append ys x [])
 
--- this code begins with what may stand in a straight run
+-- this code begins with what may be in a straight run
 pub data StartsStraight : List Instr → Type 0 where
   starts_straight : {i : Instr} {next : List Instr} → is_straight i.op ≡ true → StartsStraight (i ∷ next)
 

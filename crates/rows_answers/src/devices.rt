@@ -24,7 +24,7 @@ const TROUBLES: [&str; 5] = [
 /// The most trials of one trouble.
 const TRIALS: u64 = 256;
 
-/// The lines of a command.
+/// The lines of a command. The only error is want of memory.
 pub fn said_to<R: Threads + Sync, T: Top>(
     table: &mut Table<'_, R, T>,
     row: &str,

@@ -9,7 +9,7 @@ use rows_lines::{Table, Top, Watch};
 use std::alloc::AllocError;
 use std::thread::Threads;
 
-/// What the program says of a text.
+/// What the program says of a text. The only error is want of memory.
 pub fn said_to<R: Threads + Sync, T: Top>(
     table: &Table<'_, R, T>,
     text: &str,

@@ -106,6 +106,11 @@ fn given(operation: Operation, a: u64, b: u64) -> Option<u64> {
         Operation::Shr if b < 64 => Some(shr(a, b as u32)),
         Operation::Sar if b < 64 => Some(sar(a, b as u32)),
         Operation::Sext if 0 < b && b <= 64 => Some(sext(a, b as u32)),
-        _ => None,
+        Operation::Div
+        | Operation::Rem
+        | Operation::Shl
+        | Operation::Shr
+        | Operation::Sar
+        | Operation::Sext => None,
     }
 }

@@ -18,7 +18,7 @@ const MOVES: [&str; 5] = [
     "--moves=seed:3",
 ];
 
-/// The line of a row.
+/// The line of a row. The only error is want of memory.
 pub fn said_to<R: Threads + Sync, T: Top>(
     table: &Table<'_, R, T>,
     row: &str,

@@ -15,7 +15,7 @@ use std::thread::Threads;
 const TWO_FUNCTIONS: &str =
     "(function \"f\" (x:int) (+ x 1))\n(function \"g\" (x:int) (app \"f\" x int))\n";
 
-/// The line of a row of `held`.
+/// The line of a row of `held`. The only error is want of memory.
 pub fn held<R: Threads + Sync, T: Top>(
     table: &Table<'_, R, T>,
     jobs: &str,
@@ -33,7 +33,7 @@ pub fn held<R: Threads + Sync, T: Top>(
     Ok(line.into_bytes())
 }
 
-/// The line of a row of `shared`.
+/// The line of a row of `shared`. The only error is want of memory.
 pub fn shared<R: Threads + Sync, T: Top>(
     table: &Table<'_, R, T>,
     row: &str,

@@ -48,7 +48,9 @@ impl Faults {
 pub(crate) struct Plan {
     /// The numbers of the reads that fail, counted from 0.
     pub read_fails: Vec<u64>,
+    /// The writes to out that fail or stick.
     pub out: Faults,
+    /// The writes to err that fail or stick.
     pub err: Faults,
     /// The most bytes of one read or write; 0 where the line does not say.
     pub piece: usize,
@@ -69,13 +71,16 @@ impl Plan {
 /// What a command is handed.
 #[derive(Drop)]
 pub(crate) struct Devices {
+    /// What it reads.
     pub source: MemSource,
+    /// What it writes its result to.
     pub out: Sticking,
+    /// What it writes its line of an error to.
     pub err: Sticking,
 }
 
 impl Devices {
-    /// Those of this plan, to read these bytes.
+    /// Those of this plan, to read these bytes. The only error is want of memory.
     pub fn new(alloc: Global, plan: Plan, input: Vec<u8>) -> Result<Devices, AllocError> {
         let Plan {
             read_fails,
@@ -90,7 +95,7 @@ impl Devices {
         Ok(Devices { source, out, err })
     }
 
-    /// The answer of a command that ended with this status.
+    /// The answer of a command that ended with this status. The only error is want of memory.
     pub fn answer(&self, alloc: Global, status: u8) -> Result<Answer, AllocError> {
         let out = self.out.bytes().to_vec(alloc)?;
         let err = self.err.bytes().to_vec(alloc)?;

@@ -92,13 +92,13 @@ impl<'a, R: Threads + Sync, T: Top> Table<'a, R, T> {
         said(self.alloc, is_image, &answer)
     }
 
-    /// What the program answers to the words of a line, with what it reads.
+    /// What the program answers to the words of a line, with what it reads. The only error is want of memory.
     pub fn answer_to(&mut self, words: &str, input: &str) -> Result<Answer, AllocError> {
         self.read(input)?;
         self.answer_of(words, self.input.as_slice(), Watch::Open)
     }
 
-    /// What the program answers to the words of a line that reads these bytes.
+    /// What the program answers to the words of a line that reads these bytes. The only error is want of memory.
     pub fn answer_of(&self, words: &str, input: &[u8], watch: Watch) -> Result<Answer, AllocError> {
         self.answered(Line::of(self.alloc, words)?, input, watch)
     }

@@ -5,7 +5,9 @@ use std::alloc::{AllocError, Global};
 /// The words of the command, and what is said before them.
 #[derive(Drop)]
 pub(crate) struct Line {
+    /// The words of the command.
     pub words: Vec<String>,
+    /// The reads and writes that fail.
     pub plan: Plan,
 }
 

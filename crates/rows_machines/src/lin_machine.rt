@@ -322,7 +322,7 @@ impl<'a, 'b> Machine<'a, 'b> {
         self.goes(line, next, results.as_slice())
     }
 
-    /// The run from the entry, in at most so many steps.
+    /// The run from the entry, in at most so many steps. The only error is want of memory.
     pub fn run(&mut self, args: &[Value], fuel: u32) -> Result<End, AllocError> {
         if !self.write(self.function.params.as_slice(), args)? {
             return Ok(End::Stuck);

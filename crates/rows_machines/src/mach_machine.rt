@@ -344,7 +344,7 @@ fn add_registers(
 }
 
 impl<'a, 'b> Machine<'a, 'b> {
-    /// The function before its entry.
+    /// The function before its entry. The only error is want of memory.
     pub fn new(function: &'b Mach, world: World<'a>) -> Result<Self, AllocError> {
         let alloc = world.alloc;
         let mut live_at = Vec::new(alloc);
@@ -560,7 +560,7 @@ impl<'a, 'b> Machine<'a, 'b> {
         self.goes(instr, next, results.as_slice())
     }
 
-    /// The run from the entry, in at most so many steps.
+    /// The run from the entry, in at most so many steps. The only error is want of memory.
     pub fn run(&mut self, args: &[Value], fuel: u32) -> Result<End, AllocError> {
         if !self.write(self.function.params.as_slice(), args)? {
             return Ok(End::Stuck);

@@ -40,6 +40,7 @@ fn locs(alloc: Global, regs: &[Reg]) -> Result<Vec<Loc>, AllocError> {
 /// The function that is read.
 #[derive(Drop)]
 pub(crate) struct Function {
+    /// Its name in the table.
     pub name: String,
     is_mach: bool,
     params: Vec<Reg>,
@@ -64,7 +65,8 @@ impl Function {
         }
     }
 
-    /// A function without instructions: its name, its parameters, and its colours after a semicolon.
+    /// A function without instructions: its name, its parameters, and its colours after a semicolon. The errors are a word that
+    /// is no register, and want of memory.
     pub fn begin(alloc: Global, is_mach: bool, head: &str) -> Result<Self> {
         let mut function = Function::new(alloc);
         function.is_mach = is_mach;
@@ -91,14 +93,14 @@ impl Function {
         Ok(())
     }
 
-    /// Adds what the next frame point of a Linear function names.
+    /// Adds what the next frame point of a Linear function names. The errors are a word that is no register, and want of memory.
     pub fn add_names(&mut self, alloc: Global, text: &str) -> Result<()> {
         let regs = registers(alloc, text)?;
         self.named.push(locs(alloc, regs.as_slice())?)?;
         Ok(())
     }
 
-    /// Adds an instruction of the function, or a line of a Linear one.
+    /// Adds an instruction of the function, or a line of a Linear one. The errors are a text that is none, and want of memory.
     pub fn add(&mut self, alloc: Global, text: &str) -> Result<()> {
         if self.is_mach {
             self.add_instr(alloc, text)
@@ -144,7 +146,7 @@ impl Function {
         })
     }
 
-    /// Runs it, and says what came.
+    /// Runs it, and says what came. The only error is want of memory.
     pub fn run(&self, world: World, args: &[Value], said: &mut String) -> Result<()> {
         if self.is_mach {
             self.run_mach(world, args, said)

@@ -522,7 +522,7 @@ impl<'a> World<'a> {
         }
     }
 
-    /// Does an operation, whose results come into the vector.
+    /// Does an operation, whose results come into the vector. The only error is want of memory.
     pub fn does(
         &mut self,
         op: &Op,
