@@ -1,0 +1,30 @@
+//! What may be chosen.
+
+/// How registers get their places (OCaml's `asmcomp/asmgen.ml`, its flag `-linscan`).
+#[derive(Clone, Copy, Drop)]
+pub enum Alloc {
+    /// By colouring the graph of interference.
+    Colour,
+}
+
+/// In which order the lines of a straight run stand.
+#[derive(Clone, Copy, Drop)]
+pub enum Order {
+    /// As the passes before give them.
+    Plain,
+}
+
+/// What is chosen for a text.
+#[derive(Clone, Copy, Drop)]
+pub struct Choices {
+    /// How registers get their places.
+    pub alloc: Alloc,
+    /// In which order lines stand.
+    pub order: Order,
+}
+
+/// What is chosen where nothing is said.
+pub const DEFAULTS: Choices = Choices {
+    alloc: Alloc::Colour,
+    order: Order::Plain,
+};
