@@ -1,14 +1,42 @@
 -- What keeps a Mach function, linearised, keeps what that function was made from.
-use Rattle.std.proofs.Common.{ℕ, ◌∙◌}
+use Rattle.std.proofs.Common.{ℕ, List, [], ◌∷◌, ◌++◌, map, refl, sym, ap, ◌∙◌, subst, append-nil, append_assoc}
+use Rattle.std.proofs.lemmas.List.{map-append}
+use Rattle.cmm_meaning.specs.Extends.{shape_of}
+use Rattle.mach_ir.specs.Acts.{Around, with_block, fresh_block}
+use Rattle.mach_ir.specs.declared.blocks.NewBlock.{NewBlock}
+use Rattle.mach_ir.specs.Keeps.{Ahead, ahead}
 use Rattle.mach_ir.specs.Runs.{Place, Tally, first_tally}
 use Rattle.mach_ir.specs.Meaning as mach
 use Rattle.mach_ir.specs.Keeps as kept
 use Rattle.mach_ir.specs.Keeps.{Proper}
-use Rattle.mach_ir.proofs.Keeping.{alike_then, ahead_then, trails_then}
+use Rattle.mach_ir.proofs.Keeping.{alike_then, trails_then}
 use Rattle.mach_ir.specs.declared.mach.Mach.{Mach}
 use Rattle.lin_ir.specs.Meaning.{NamedAt, State}
-use Rattle.lin_ir.specs.Keeps.{Follows, Does, Keeps}
+use Rattle.lin_ir.specs.Keeps.{NoLess, Follows, Does, Keeps}
 use Rattle.lin_ir.specs.declared.lin.Lin.{Lin}
+
+ahead_shapes : (blocks : List NewBlock) (x : Around) → NoLess x (ahead blocks x)
+ahead_shapes [] x = record { tries = refl; more = []; blocks = sym (append-nil (map shape_of x.memory.blocks)) }
+ahead_shapes (b ∷ blocks) x =
+    let ih = ahead_shapes blocks (with_block b x) in
+    record {
+      tries = ih.tries;
+      more = shape_of (fresh_block b) ∷ ih.more;
+      blocks = ih.blocks ∙ ap (λ l. l ++ ih.more) (map-append shape_of x.memory.blocks (fresh_block b ∷ []))
+          ∙ append_assoc (map shape_of x.memory.blocks) (shape_of (fresh_block b) ∷ []) ih.more;
+    }
+
+-- what is ahead has allocated no less
+pub ahead_no_less : (x y : Around) → Ahead x y → NoLess x y
+ahead_no_less x y h = subst (NoLess x) (sym h.same) (ahead_shapes h.blocks x)
+
+no_less_then : (x y z : Around) → NoLess x y → NoLess y z → NoLess x z
+no_less_then x y z h k =
+    record {
+      tries = h.tries ∙ k.tries;
+      more = h.more ++ k.more;
+      blocks = k.blocks ∙ ap (λ l. l ++ k.more) h.blocks ∙ append_assoc (map shape_of x.memory.blocks) h.more k.more;
+    }
 
 module _ (c : Place) (p q : Mach) (r : Lin) (named : NamedAt) (s u : mach.State) (v : State) (t : Tally) where
   follows_then : (n : ℕ) → kept.Follows c p q s u t n → ((k : ℕ) → Proper c q k u t → Follows c q r named u v t k) →
@@ -21,7 +49,7 @@ module _ (c : Place) (p q : Mach) (r : Lin) (named : NamedAt) (s u : mach.State)
       record {
         no_less = record {
           steps = x.steps;
-          alike = alike_then (λ a b d. ahead_then a.around b.around d.around) less.alike x.alike;
+          alike = alike_then (λ a b d h k. no_less_then a.around b.around d.around (ahead_no_less a.around b.around h) k) less.alike x.alike;
         };
         no_more = record {
           steps = y.steps;

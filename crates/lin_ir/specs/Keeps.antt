@@ -1,13 +1,14 @@
 -- When a Linear function does what a Mach function does.
-use Rattle.std.specs.Prelude.{◌≡◌, ℕ, List, Some, Contains}
+use Rattle.std.specs.Prelude.{◌≡◌, ℕ, List, ◌++◌, Some, Contains, map}
 use Rattle.bs_words.specs.External.{External}
 use Rattle.bs_words.specs.Memory.{Memory}
 use Rattle.bs_words.specs.declared.values.Value.{Value}
+use Rattle.cmm_meaning.specs.Extends.{Shape, shape_of}
 use Rattle.mach_ir.specs.Known.{Doing}
 use Rattle.mach_ir.specs.Runs.{Place, Tally, Run, first_tally}
 use Rattle.mach_ir.specs.Meaning as mach
 use Rattle.mach_ir.specs.Acts.{Around}
-use Rattle.mach_ir.specs.Keeps.{Proper, Ahead, Trails, Alike, NamesSymbol, NamesExternal}
+use Rattle.mach_ir.specs.Keeps.{Proper, Trails, Alike, NamesSymbol, NamesExternal}
 use Rattle.mach_ir.specs.Keeps as kept
 use Rattle.mach_ir.specs.Walks as walks
 use Rattle.mach_ir.specs.declared.mach.MachOp.{MachOp}
@@ -19,6 +20,13 @@ use Rattle.lin_ir.specs.Descriptors.{NoAddrLive}
 use Rattle.lin_ir.specs.declared.lin.LinOp.TheVariants as lin
 use Rattle.lin_ir.specs.declared.lin.Line.{Line}
 use Rattle.lin_ir.specs.declared.lin.Lin.{Lin}
+
+-- The second has pushed the same traps and allocated no less, by the shapes of blocks. What blocks
+-- hold between calls is not said: lines of Linear may be done in another order.
+pub record NoLess (x y : Around) : Type 0 where
+  pub tries : x.tries ≡ y.tries
+  pub more : List Shape
+  pub blocks : map shape_of y.memory.blocks ≡ map shape_of x.memory.blocks ++ more
 
 -- what is round a state of each suits
 abbrev pub SuitRound : (Around → Around → Type 0) → mach.State → State → Type 0
@@ -34,7 +42,7 @@ pub record Comes (Suit : Around → Around → Type 0) (r : Run mach.State) (c :
 -- more: so both allocate the same blocks.
 pub record Follows (c : Place) (p : Mach) (q : Lin) (named : NamedAt) (s : mach.State) (u : State)
     (t : Tally) (n : ℕ) : Type 0 where
-  pub no_less : Comes Ahead (mach.run c p n s t) c named q u t
+  pub no_less : Comes NoLess (mach.run c p n s t) c named q u t
   pub no_more : Comes Trails (mach.run c p n s t) c named q u t
 
 -- the Linear function begins where the Mach function does, and follows it from there

@@ -160,10 +160,10 @@ module _ (c : Place) (m : Lin) (well : WellFormed m) (safe : NoAddrReached m) (n
   AnyState s = Unit {0}
 
   abbrev Arrive : Step State → Step State → Type 0
-  Arrive = Arrives c m second AnyState Rel
+  Arrive = Arrives c m second AnyState SameRound Rel
 
   abbrev Answer : State → Step State → Type 0
-  Answer = Answers c m second AnyState Rel
+  Answer = Answers c m second AnyState SameRound Rel
 
   -- ---- reads
 
@@ -315,7 +315,7 @@ module _ (c : Place) (m : Lin) (well : WellFormed m) (safe : NoAddrReached m) (n
           addr = λ v. q.addr (back l comp.Addr v);
         })) (across l fixed)
 
-    leads : Leads c m second AnyState Rel m i next next f g' a.tries
+    leads : Leads c m second AnyState SameRound Rel m i next next f g' a.tries
     leads = record { on = λ vs to b f' o e u. wrote_both vs to b f' o e u; bare = λ to b n o e. bare_near to b n o e; aside = λ h b raise e. aside_near h b raise e }
       where
         bare_near : (to : Target) (b : Around) → is_bare i.op ≡ true → OneOf to (walks.targets i.op) → b.tries ≡ walks.tries_after i.op a.tries →
@@ -407,9 +407,9 @@ module _ (c : Place) (m : Lin) (well : WellFormed m) (safe : NoAddrReached m) (n
             (subst (λ o. Arrive (on_act c m i next f a (lin_act c.setting i.op vs a)) (poison.on_values c names m i next g a o)) (sym (read_all vs e))
             (subst (λ t. Arrive (on_act c m i next f a (lin_act c.setting i.op vs a))
             (unless_misnamed t (on_act c m i next g' a (lin_act c.setting i.op vs a)))) (sym checked)
-            (acts c m second AnyState Rel m i next next f g' a leads (lin_act c.setting i.op vs a) (turns c.setting i.op vs a))))
+            (acts c m second AnyState SameRound Rel m i next next f g' a leads (lin_act c.setting i.op vs a) (turns c.setting i.op vs a))))
 
-  closed : Closed c m second AnyState Rel
+  closed : Closed c m second AnyState SameRound Rel
   closed = record { around = λ s u r. around_same s u r; next = λ s u r vals. next_same s u r vals }
     where
       around_same : (s u : State) → Rel s u → s.around ≡ u.around
@@ -424,6 +424,6 @@ module _ (c : Place) (m : Lin) (well : WellFormed m) (safe : NoAddrReached m) (n
       (k : ℕ) × Alike SameRound (kept.run c m n (record { rest = m.code; file = f; around = a }) y)
       (poison.run c named m k (record { rest = m.code; file = f; around = a }) y)
   reads_no_poison n f a y e proper =
-      let b = simulates c m second AnyState Rel closed n (at m.code f a) (at m.code f a) y
+      let b = simulates c m second AnyState SameRound Rel closed n (at m.code f a) (at m.code f a) y
       (rel (subst (Reached m m.code) (sym e) at_entry) (λ l fixed. inl refl)) proper in
       (b.count, b.alike)

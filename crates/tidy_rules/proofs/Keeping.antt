@@ -7,14 +7,15 @@ use Rattle.bs_words.specs.declared.values.Value.{Value}
 use Rattle.mach_ir.specs.Acts.{Around}
 use Rattle.mach_ir.specs.Runs.{Place, Tally, Run, entered}
 use Rattle.mach_ir.specs.Meaning as mach
-use Rattle.mach_ir.specs.Keeps.{Ahead, Trails, Alike}
+use Rattle.mach_ir.specs.Keeps.{Ahead, Trails, Alike, both_running, both_asking, both_ended}
 use Rattle.mach_ir.specs.Walks as mach_walks
 use Rattle.mach_ir.specs.declared.mach.Mach.{Mach}
 use Rattle.mach_ir.proofs.Keeping.{alike_then}
 use Rattle.lin_ir.specs.Descriptors.{NamesLives}
 use Rattle.lin_ir.specs.Formed.{WellFormed}
 use Rattle.lin_ir.specs.Keeps as named_kept
-use Rattle.lin_ir.specs.Keeps.{SuitRound, Keeps}
+use Rattle.lin_ir.specs.Keeps.{NoLess, SuitRound, Keeps}
+use Rattle.lin_ir.proofs.Keeping.{ahead_no_less}
 use Rattle.lin_ir.specs.Meaning as poison
 use Rattle.lin_ir.specs.Meaning.{NamedAt, State, Locations, passes_frame, put_all, begun, start}
 use Rattle.lin_ir.specs.Walks.{Stands, Traps, by_walk, unreached, Reached, LiveAt, LiveAcross}
@@ -48,7 +49,7 @@ module _ (Suit : Around → Around → Type 0) where
       let y = two one.steps one.proper in
       record { steps = y.steps; alike = suits_on {At = λ (s : mach.State). s.around} one.alike y.alike; proper = y.proper }
 
-does_on : (p : Mach) (m r : Lin) → Does p m → lin_keeps.Does m r → Does p r
+does_on : (p : Mach) (m r : Lin) → Does p m → lin_keeps.Does SameRound m r → Does p r
 does_on p m r one two c arguments memory doings s e =
     let u = one c arguments memory doings s e in
     let v = two c arguments memory doings u.state u.begins in
@@ -61,7 +62,7 @@ does_on p m r one two c arguments memory doings s e =
     }
 
 -- what keeps a Linear function that keeps a Mach function keeps that
-pub keeps_on : {p : Mach} {m r : Lin} → KeepsReached p m → KeepsLin m r → KeepsReached p r
+pub keeps_on : {p : Mach} {m r : Lin} → KeepsReached p m → KeepsLin SameRound m r → KeepsReached p r
 keeps_on {p} {m} {r} one two =
     record {
       name = two.name ∙ one.name;
@@ -113,6 +114,17 @@ module _ (Suit : Around → Around → Type 0) (c : Place) (m : Lin) (well : Wel
             (subst (λ (s : State). Alike (SuitRound Suit) x (kept.run c m one.steps s t)) enter.same one.alike) b.1);
       }
 
+-- what suits a wider relation
+alike_wider : {S U : Type 0} {A B : S → U → Type 0} {r : Run S} {q : Run U} → ((s : S) (u : U) → A s u → B s u) → Alike A r q →
+    Alike B r q
+alike_wider f (both_running {s = s} {u = u} h) = both_running (f s u h)
+alike_wider f both_asking = both_asking
+alike_wider f both_ended = both_ended
+
+no_less_named : {x : Run mach.State} {c : Place} {named : NamedAt} {m : Lin} {u : State} {t : Tally} → named_kept.Comes Ahead x c named m u t →
+    named_kept.Comes NoLess x c named m u t
+no_less_named one = record { steps = one.steps; alike = alike_wider (λ a b h. ahead_no_less a.around b.around h) one.alike }
+
 -- With exact names it does the same, and so reads no poison.
 pub does_named : (p : Mach) (m : Lin) → WellFormed m → NoAddrReached m → (named : NamedAt) → NamesReached m named → Does p m → named_kept.Does p m named
 does_named p m well safe named exact does c arguments memory doings s e =
@@ -124,7 +136,7 @@ does_named p m well safe named exact does c arguments memory doings s e =
       follows = λ n proper.
           let y = u.follows n proper in
           record {
-            no_less = comes_named Ahead c m well safe named exact enter y.no_less;
+            no_less = no_less_named (comes_named Ahead c m well safe named exact enter y.no_less);
             no_more = comes_named Trails c m well safe named exact enter y.no_more;
           };
     }

@@ -29,7 +29,7 @@ use Rattle.mach_ir.specs.declared.mach.MachOp.{MachOp}
 use Rattle.mach_ir.specs.declared.op.Op.TheVariants as op
 use Rattle.mach_ir.specs.declared.op.Pure.TheVariants as pure
 use Rattle.linear_rules.proofs.Known.{same_loc_is}
-use Rattle.tidy_rules.specs.Keeps.{Begins, KeepsLin}
+use Rattle.tidy_rules.specs.Keeps.{SameRound, Begins, KeepsLin}
 use Rattle.tidy_rules.specs.Leaving.{LabelsBetween, none_between, label_between, IsUseless, unreached, unread, skipped, LeavesOut}
 use Rattle.tidy_rules.proofs.Turns.{turns}
 use Rattle.tidy_rules.proofs.Simulate.{Arrives, both_continue, first_stuck, goes_alone, Answers, stays, stuck, steps, Closed, Leads, acts, begins_alike}
@@ -53,13 +53,13 @@ module _ (c : Place) (m : Lin) (goes : ℕ → Bool)
     lags : {s : State} {k : ℕ} {js : List Line} {f : Locations} {a : Around} → Rel s (at js f a) → Rel s (at (bare (flow.Label k) ∷ js) f a)
 
   abbrev Answer : State → Step State → Type 0
-  Answer = Answers c m (step c R) (ValsHeld c R) Rel
+  Answer = Answers c m (step c R) (ValsHeld c R) SameRound Rel
 
   abbrev Arrive : Step State → Step State → Type 0
-  Arrive = Arrives c m (step c R) (ValsHeld c R) Rel
+  Arrive = Arrives c m (step c R) (ValsHeld c R) SameRound Rel
 
   module _ (i : Line) (next : List Line) (f : Locations) (a : Around) (reached : Reached m (i ∷ next) a.tries) where
-    leads : Leads c m (step c R) (ValsHeld c R) Rel R i next (L next) f f a.tries
+    leads : Leads c m (step c R) (ValsHeld c R) SameRound Rel R i next (L next) f f a.tries
     leads =
         record {
           on = λ vs to b f' o e u. (
@@ -89,7 +89,7 @@ module _ (c : Place) (m : Lin) (goes : ℕ → Bool)
       where
         by : (o : Option (List Value)) → Arrive (kept.on_values c m i next f a o) (kept.on_values c R i (L next) f a o)
         by None = first_stuck
-        by (Some vs) = acts c m (step c R) (ValsHeld c R) Rel R i next (L next) f f a leads (lin_act c.setting i.op vs a) (turns c.setting i.op vs a)
+        by (Some vs) = acts c m (step c R) (ValsHeld c R) SameRound Rel R i next (L next) f f a leads (lin_act c.setting i.op vs a) (turns c.setting i.op vs a)
 
   -- a move of a location to itself leaves all as it was
   same_file : (f : Locations) (from to : Loc) (v : Value) → from ≡ to → f from ≡ Some v → (λ (l : Loc). cond (same_loc to l) (Some v) (f l)) ≡ f
@@ -160,7 +160,7 @@ module _ (c : Place) (m : Lin) (goes : ℕ → Bool)
       (subst (λ xs. Rel (at (after_label k m.code) f a) (at xs f a)) e
       (past f a p (tail_next (reached_tail m r)) (by_step (subst (λ x. Reached m (x ∷ next) a.tries) same r) (walks.goes (At k) this)))))
 
-  closed : Closed c m (step c R) (ValsHeld c R) Rel
+  closed : Closed c m (step c R) (ValsHeld c R) SameRound Rel
   closed = record { around = λ s u r. around_same s u r; next = λ s u r vals. next_same s u r vals }
     where
       around_same : (s u : State) → Rel s u → s.around ≡ u.around
@@ -188,8 +188,8 @@ module _ (c : Place) (m : Lin) (goes : ℕ → Bool)
       next_same s u (rel {is = i ∷ next} {js = js} {f = f} {a = a} r e) vals = from_line i next js f a r vals (goes (length next)) refl e
 
   rest_begins : (arguments : List Value) (memory : Memory) (doings : List Doing) (s : State) → start c m arguments memory ≡ Some s →
-      Begins c m R arguments memory doings s
-  rest_begins = begins_alike c m R refl Rel closed (λ f memory. rel at_entry refl)
+      Begins SameRound c m R arguments memory doings s
+  rest_begins = begins_alike c m R refl SameRound Rel closed (λ f memory. rel at_entry refl)
 
 module _ (m : Lin) (goes : ℕ → Bool) (each : (i : Line) (next : List Line) → Stands i next m.code → goes (length next) ≡ true → IsUseless m i next) where
   named_before : (Named : MachOp → Type 0) → IsNamedIn Named (rest m goes each) → IsNamedIn Named m
@@ -202,7 +202,7 @@ module _ (m : Lin) (goes : ℕ → Bool) (each : (i : Line) (next : List Line) �
         named = n.named;
       }
 
-  rest_keeps : KeepsLin m (rest m goes each)
+  rest_keeps : KeepsLin SameRound m (rest m goes each)
   rest_keeps =
       record {
         name = refl;
@@ -214,5 +214,5 @@ module _ (m : Lin) (goes : ℕ → Bool) (each : (i : Line) (next : List Line) �
       }
 
 -- Without lines that have no use a function does what it did.
-pub leaving_keeps : {m r : Lin} → LeavesOut m r → KeepsLin m r
-leaving_keeps {m} h = subst (KeepsLin m) (sym h.is) (rest_keeps m h.goes h.each)
+pub leaving_keeps : {m r : Lin} → LeavesOut m r → KeepsLin SameRound m r
+leaving_keeps {m} h = subst (KeepsLin SameRound m) (sym h.is) (rest_keeps m h.goes h.each)

@@ -32,7 +32,7 @@ use Rattle.linear_rules.specs.Keeps.{NoAddrReached}
 use Rattle.linear_rules.specs.Kept as kept
 use Rattle.linear_rules.specs.Kept.{step, ValsHeld}
 use Rattle.linear_rules.proofs.Homes.{IsIn, is_first, is_later, in_of, contains_of}
-use Rattle.tidy_rules.specs.Keeps.{Begins, KeepsLin}
+use Rattle.tidy_rules.specs.Keeps.{SameRound, Begins, KeepsLin}
 use Rattle.tidy_rules.specs.Leaving.{LabelsBetween, none_between, label_between, with_code}
 use Rattle.tidy_rules.specs.Redirecting.{goes_by, redirected, redirect, GoesOnTo, itself, and_on, ExitsTo, by_exit, Redirects}
 use Rattle.tidy_rules.proofs.Turns.{turns}
@@ -374,16 +374,16 @@ module _ (m : Lin) (to : ℕ → ℕ) (exits : ℕ → Option ℕ) (each : (l : 
           values c.setting.end f args ≡ Some [] → Rel (at is f a) (at (record { op = lin.Flow (flow.Exit n); args = args; results = results } ∷ js) f a)
 
     abbrev Answer : State → Step State → Type 0
-    Answer = Answers c m (step c turned) (ValsHeld c turned) Rel
+    Answer = Answers c m (step c turned) (ValsHeld c turned) SameRound Rel
 
     abbrev Arrive : Step State → Step State → Type 0
-    Arrive = Arrives c m (step c turned) (ValsHeld c turned) Rel
+    Arrive = Arrives c m (step c turned) (ValsHeld c turned) SameRound Rel
 
     module _ (f : LinOp) (args results : List Spot) (next : List Line) (g : Locations) (a : Around) where
       abbrev i : Line
       i = record { op = f; args = args; results = results }
 
-      leads : Reached m (i ∷ next) a.tries → Leads c m (step c turned) (ValsHeld c turned) Rel turned i next (T next) g g a.tries
+      leads : Reached m (i ∷ next) a.tries → Leads c m (step c turned) (ValsHeld c turned) SameRound Rel turned i next (T next) g g a.tries
       leads reached =
           record {
             on = λ vs t b g' o e u. (
@@ -399,7 +399,7 @@ module _ (m : Lin) (to : ℕ → ℕ) (exits : ℕ → Option ℕ) (each : (l : 
       -- where it is not redirected
       same_line : Reached m (i ∷ next) a.tries → (vs : List Value) → Arrive (on_act c m i next g a (lin_act c.setting f vs a))
           (on_act c turned i (T next) g a (lin_act c.setting f vs a))
-      same_line reached vs = acts c m (step c turned) (ValsHeld c turned) Rel turned i next (T next) g g a (leads reached) (lin_act c.setting f vs a)
+      same_line reached vs = acts c m (step c turned) (ValsHeld c turned) SameRound Rel turned i next (T next) g g a (leads reached) (lin_act c.setting f vs a)
           (turns c.setting f vs a)
 
     -- to a label, and to where that leads
@@ -535,7 +535,7 @@ module _ (m : Lin) (to : ℕ → ℕ) (exits : ℕ → Option ℕ) (each : (l : 
             (jump_waits k n u i.args i.results next g a)) r
         by (its_like jumps) = steps (held_back i next g a vals) (on_values jumps (values c.setting.end g i.args))
 
-    closed : Closed c m (step c turned) (ValsHeld c turned) Rel
+    closed : Closed c m (step c turned) (ValsHeld c turned) SameRound Rel
     closed = record { around = λ s u r. around_same s u r; next = λ s u r vals. next_same s u r vals }
       where
         around_same : (s u : State) → Rel s u → s.around ≡ u.around
@@ -569,8 +569,8 @@ module _ (m : Lin) (to : ℕ → ℕ) (exits : ℕ → Option ℕ) (each : (l : 
         next_same s u (rel_leaves {js = js} {n = n} {args = args} {results = results} {f = f} {a = a} r (leaves p q) e) vals = at_exit n args results js f a r p q e
 
     turned_begins : (arguments : List Value) (memory : Memory) (doings : List Doing) (s : State) → start c m arguments memory ≡ Some s →
-        Begins c m turned arguments memory doings s
-    turned_begins = begins_alike c m turned refl Rel closed (λ f memory. rel at_entry is_there refl)
+        Begins SameRound c m turned arguments memory doings s
+    turned_begins = begins_alike c m turned refl SameRound Rel closed (λ f memory. rel at_entry is_there refl)
 
   not_op : (f : Flow) (g : Op) → lin.Flow f ≡ lin.Op g → ⊥
   not_op f g e = cc
@@ -597,7 +597,7 @@ module _ (m : Lin) (to : ℕ → ℕ) (exits : ℕ → Option ℕ) (each : (l : 
         named = n.named;
       }
 
-  turned_keeps : KeepsLin m turned
+  turned_keeps : KeepsLin SameRound m turned
   turned_keeps =
       record {
         name = refl;
@@ -609,5 +609,5 @@ module _ (m : Lin) (to : ℕ → ℕ) (exits : ℕ → Option ℕ) (each : (l : 
       }
 
 -- Redirected, a function does what it did.
-pub redirecting_keeps : {m r : Lin} → Redirects m r → KeepsLin m r
-redirecting_keeps {m} h = subst (KeepsLin m) (sym h.is) (turned_keeps m h.to h.exits h.each h.out)
+pub redirecting_keeps : {m r : Lin} → Redirects m r → KeepsLin SameRound m r
+redirecting_keeps {m} h = subst (KeepsLin SameRound m) (sym h.is) (turned_keeps m h.to h.exits h.each h.out)

@@ -1,4 +1,5 @@
--- A relation between states of two Linear functions that each step of the first keeps.
+-- A relation between states of two Linear functions that each step of the first keeps. What states have in common
+-- while both are under way is handed in (`Suit`): lines that are done in another order leave other memories between them.
 use Rattle.std.proofs.Common.{◌≡◌, ℕ, zero, suc, ◌<◌, true, Option, Some, None, List, [], ◌∷◌, refl, sym, subst, arith, ap, ◌∙◌}
 use Rattle.std.proofs.lemmas.Option.{none-some, same_Some}
 use Rattle.bs_words.specs.declared.types.Ret.{Ret}
@@ -16,11 +17,11 @@ use Rattle.lin_ir.specs.declared.lin.Lin.{Lin}
 use Rattle.lin_ir.specs.declared.lin.Spot.{Spot}
 use Rattle.linear_rules.specs.Kept.{step, run, ValsHeld, Proper}
 use Rattle.mach_laws.proofs.Runs.{none_below, running_same, alike_goes}
-use Rattle.tidy_rules.specs.Keeps.{SameRound, Begins}
+use Rattle.tidy_rules.specs.Keeps.{Begins}
 use Rattle.tidy_rules.proofs.Turns.{is_bare, Turns, goes_in, exits_in, jumps_in, unwinds_in, pushes_in, asks_in}
 
 -- The second function is known by its steps, and by what is asked of a state from which it takes one.
-module _ (c : Place) (m : Lin) (second : State → Step State) (Fair : State → Type 0) (R : State → State → Type 0) where
+module _ (c : Place) (m : Lin) (second : State → Step State) (Fair : State → Type 0) (Suit : State → State → Type 0) (R : State → State → Type 0) where
   -- What the second comes to, where the first does this step. It may go on alone.
   pub data Arrives : Step State → Step State → Type 0 where
     both_continue : {s u : State} → R s u → Arrives (Continues s) (Continues u)
@@ -40,12 +41,12 @@ module _ (c : Place) (m : Lin) (second : State → Step State) (Fair : State →
     steps : {x : Step State} → Fair u → Arrives x (second u) → Answers u x
 
   pub record Closed : Type 0 where
-    pub around : (s u : State) → R s u → s.around ≡ u.around
+    pub around : (s u : State) → R s u → Suit s u
     pub next : (s u : State) → R s u → ValsHeld c m s → Answers u (step c m s)
 
   pub record Tells (r : Run State) (at : ℕ → Run State) : Type 0 where
     pub count : ℕ
-    pub alike : Alike SameRound r (at count)
+    pub alike : Alike Suit r (at count)
     pub fair : (k : ℕ) → k < count → (u : State) (z : Tally) → at k ≡ Running u z → Fair u
 
   abbrev IsFair : ℕ → (ℕ → Run State) → Type 0
@@ -153,25 +154,25 @@ module _ (c : Place) (m : Lin) (second : State → Step State) (Fair : State →
 -- ---- from the start
 
 -- Where the states in which two functions of the same parameters begin are related, the second begins as the first does.
-module _ (c : Place) (m q : Lin) (same : q.params ≡ m.params) (R : State → State → Type 0)
-    (closed : Closed c m (step c q) (ValsHeld c q) R)
+module _ (c : Place) (m q : Lin) (same : q.params ≡ m.params) (Suit : State → State → Type 0) (R : State → State → Type 0)
+    (closed : Closed c m (step c q) (ValsHeld c q) Suit R)
     (entry : (f : Locations) (memory : Memory) →
     R (record { rest = m.code; file = f; around = entered memory }) (record { rest = q.code; file = f; around = entered memory })) where
   pub begins_alike : (arguments : List Value) (memory : Memory) (doings : List Doing) (s : State) → start c m arguments memory ≡ Some s →
-      Begins c m q arguments memory doings s
+      Begins Suit c m q arguments memory doings s
   begins_alike arguments memory doings s is = by (put_all c.setting.end m.params arguments (λ l. None)) refl is
     where
       by : (o : Option Locations) → put_all c.setting.end m.params arguments (λ l. None) ≡ o → begun m memory o ≡ Some s →
-          Begins c m q arguments memory doings s
+          Begins Suit c m q arguments memory doings s
       by None e g = absurd (none-some _ g)
       by (Some f) e g =
           let one : State = record { rest = m.code; file = f; around = entered memory } in
           let two : State = record { rest = q.code; file = f; around = entered memory } in
-          subst (Begins c m q arguments memory doings) (same_Some one s g)
+          subst (Begins Suit c m q arguments memory doings) (same_Some one s g)
           (record {
             state = two;
             begins = ap (λ (ps : List Spot). begun q memory (put_all c.setting.end ps arguments (λ l. None))) same ∙ ap (begun q memory) e;
             follows = λ n proper.
-                let b = simulates c m (step c q) (ValsHeld c q) R closed n one two (first_tally c doings) (entry f memory) proper in
+                let b = simulates c m (step c q) (ValsHeld c q) Suit R closed n one two (first_tally c doings) (entry f memory) proper in
                 record { steps = b.count; alike = b.alike; proper = record { goes = alike_goes b.alike; vals = b.fair } };
           })

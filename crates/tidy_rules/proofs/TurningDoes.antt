@@ -27,7 +27,7 @@ use Rattle.linear_rules.specs.Lowered.{opposite_test}
 use Rattle.linear_rules.proofs.Homes.{in_of, contains_of}
 use Rattle.linear_rules.proofs.Opposite.{truth_opposite}
 use Rattle.linear_rules.proofs.Walked.{tail_all}
-use Rattle.tidy_rules.specs.Keeps.{Begins, KeepsLin}
+use Rattle.tidy_rules.specs.Keeps.{SameRound, Begins, KeepsLin}
 use Rattle.tidy_rules.specs.Regular.{IsRegular}
 use Rattle.tidy_rules.specs.Turning as turning
 use Rattle.tidy_rules.specs.Turning.{branch_line}
@@ -54,10 +54,10 @@ module _ (m r : Lin) (h : turning.Turns m r) (well : WellFormed m) where
       rel : {is js : List Line} {f : Locations} {a : Around} → Stands is js a.tries → Reached m is a.tries → Rel (at is f a) (at js f a)
 
     abbrev Answer : State → Step State → Type 0
-    Answer = Answers c m (step c Q) (ValsHeld c Q) Rel
+    Answer = Answers c m (step c Q) (ValsHeld c Q) SameRound Rel
 
     abbrev Arrive : Step State → Step State → Type 0
-    Arrive = Arrives c m (step c Q) (ValsHeld c Q) Rel
+    Arrive = Arrives c m (step c Q) (ValsHeld c Q) SameRound Rel
 
     -- ---- what is asked at frame points
 
@@ -84,7 +84,7 @@ module _ (m r : Lin) (h : turning.Turns m r) (well : WellFormed m) where
 
     leads : {i : Line} {next ks : List Line} {top : Where} (g : Locations) (a : Around) → Moves m r h well i next ks a.tries top →
         Reached m (i ∷ next) a.tries →
-        Leads c m (step c Q) (ValsHeld c Q) Rel Q i next ks g g a.tries
+        Leads c m (step c Q) (ValsHeld c Q) SameRound Rel Q i next ks g g a.tries
     leads {i} {next} {ks} g a moves reached =
         record {
           on = λ vs t b g' o e u. (g', u, goes t b o e g');
@@ -111,7 +111,7 @@ module _ (m r : Lin) (h : turning.Turns m r) (well : WellFormed m) where
         by : (o : Option (List Value)) → Arrive (kept.on_values c m i next g a o) (kept.on_values c Q i ks g a o)
         by None = first_stuck
         by (Some vs) =
-            acts c m (step c Q) (ValsHeld c Q) Rel Q i next ks g g a (leads g a moves reached) (lin_act c.setting i.op vs a) (turns c.setting i.op vs a)
+            acts c m (step c Q) (ValsHeld c Q) SameRound Rel Q i next ks g g a (leads g a moves reached) (lin_act c.setting i.op vs a) (turns c.setting i.op vs a)
     answer_own {ks = ks} g a (other_way {d = d} {rest = rest} holds fails) reached vals =
         steps (flow_held (branch_line (opposite_test d.test) d.on d.args) ks g a refl) (by (values c.setting.end g d.args))
       where
@@ -165,7 +165,7 @@ module _ (m r : Lin) (h : turning.Turns m r) (well : WellFormed m) where
         by (past_jump {is = is} {ks = ks} {l = l} e low) reached vals =
             alone (flow_held (bare (flow.Jump l)) ks g a refl) refl (answer_image is (after_label l Q.code) g a e reached vals)
 
-    closed : Closed c m (step c Q) (ValsHeld c Q) Rel
+    closed : Closed c m (step c Q) (ValsHeld c Q) SameRound Rel
     closed = record { around = λ s u r. around_same s u r; next = λ s u r vals. next_same s u r vals }
       where
         around_same : (s u : State) → Rel s u → s.around ≡ u.around
@@ -175,8 +175,8 @@ module _ (m r : Lin) (h : turning.Turns m r) (well : WellFormed m) where
         next_same s u (rel {js = js} {f = f} {a = a} stand reached) vals = answer js f a stand reached vals
 
     turning_begins : (arguments : List Value) (memory : Memory) (doings : List Doing) (s : State) → start c m arguments memory ≡ Some s →
-        Begins c m Q arguments memory doings s
-    turning_begins = begins_alike c m Q refl Rel closed (λ f memory. rel (image refl) at_entry)
+        Begins SameRound c m Q arguments memory doings s
+    turning_begins = begins_alike c m Q refl SameRound Rel closed (λ f memory. rel (image refl) at_entry)
 
   named_before : (Named : MachOp → Type 0) → IsNamedIn Named Q → IsNamedIn Named m
   named_before Named n = by (from_line m r h well m.code tail_all (in_of n.line Q.code n.among))
@@ -188,7 +188,7 @@ module _ (m r : Lin) (h : turning.Turns m r) (well : WellFormed m) where
       by (was_line z) = record { line = n.line; among = contains_of z; op = n.op; is = n.is; named = n.named }
       by (new_line new) = let f = new_flow m r h well new in absurd (flow_op f.0 n.op (sym f.1 ∙ n.is))
 
-  keeps : KeepsLin m Q
+  keeps : KeepsLin SameRound m Q
   keeps =
       record {
         name = refl;
@@ -200,5 +200,5 @@ module _ (m r : Lin) (h : turning.Turns m r) (well : WellFormed m) where
       }
 
 -- Where loops are turned round a function does what it did.
-pub turning_keeps : {m r : Lin} → turning.Turns m r → IsRegular m → KeepsLin m r
-turning_keeps {m} {r} h regular = subst (KeepsLin m) (sym h.is) (keeps m r h regular.well)
+pub turning_keeps : {m r : Lin} → turning.Turns m r → IsRegular m → KeepsLin SameRound m r
+turning_keeps {m} {r} h regular = subst (KeepsLin SameRound m) (sym h.is) (keeps m r h regular.well)

@@ -17,24 +17,25 @@ use Rattle.linear_rules.specs.Kept.{run, Proper, Comes}
 abbrev pub SameRound : State → State → Type 0
 SameRound s u = s.around ≡ u.around
 
--- the second begins where the first does, and comes to what that comes to
-pub record Begins (c : Place) (m r : Lin) (arguments : List Value) (memory : Memory)
-    (doings : List Doing) (s : State) : Type 0 where
+-- The second begins where the first does, and comes to what that comes to. What states of both have
+-- in common while both are under way is handed in.
+pub record Begins (Suit : State → State → Type 0) (c : Place) (m r : Lin) (arguments : List Value)
+    (memory : Memory) (doings : List Doing) (s : State) : Type 0 where
   pub state : State
   pub begins : start c r arguments memory ≡ Some state
   pub follows : (n : ℕ) → Proper c m n s (first_tally c doings) →
-      Comes SameRound (run c m n s (first_tally c doings)) c r state (first_tally c doings)
+      Comes Suit (run c m n s (first_tally c doings)) c r state (first_tally c doings)
 
-abbrev pub Does : Lin → Lin → Type 0
-Does m r =
+abbrev pub Does : (State → State → Type 0) → Lin → Lin → Type 0
+Does Suit m r =
     (c : Place) (arguments : List Value) (memory : Memory) (doings : List Doing) (s : State) →
-    start c m arguments memory ≡ Some s → Begins c m r arguments memory doings s
+    start c m arguments memory ≡ Some s → Begins Suit c m r arguments memory doings s
 
-pub record KeepsLin (m r : Lin) : Type 0 where
+pub record KeepsLin (Suit : State → State → Type 0) (m r : Lin) : Type 0 where
   pub name : r.name ≡ m.name
   pub result : r.result ≡ m.result
-  -- calls, memories, blocks, traps, end and units are the same wherever the first is not stuck
-  pub does : Does m r
+  -- calls in the same memories, end and units are the same wherever the first is not stuck
+  pub does : Does Suit m r
   -- no new symbol, and no new external call
   pub symbols : (name : List ℕ) → IsNamedIn (NamesSymbol name) r →
       IsNamedIn (NamesSymbol name) m
