@@ -45,7 +45,7 @@ use Rattle.placed_functions.specs.Placed.{IsPlacedFor}
 use Rattle.placed_functions.proofs.Exits.{selected_exits}
 use Rattle.placed_functions.proofs.Placed.{placed_for}
 use Rattle.placed_functions.proofs.Tries.{few_nest}
-use Rattle.made_once.specs.Made.{IsChained}
+use Rattle.made_once.specs.Made.{AreLinesOf, IsChained}
 use Rattle.made_once.specs.Made.{IsMadeOf}
 use Rattle.mach_laws.proofs.Instructions.{instr}
 use Rattle.chained_functions.proofs.Carried.{lowered_shallow, tidied_shallow, tidied_named, lowered_unended, tidied_unended}
@@ -138,8 +138,9 @@ module _ {defined : List ℕ → Option DefinedSymbol} {tree : FunctionTree} (ac
         frame = λ code traps at. let le = depth code traps at in omega (arith, fit, le);
       }
 
-  whole : (ds : List Descr) (pieces : Pieces) → IsMadeOf tree m ds pieces → frame_bytes m + 16 * tries tree ≤ 1048576 → IsChained tree m ds pieces
-  whole ds pieces made fit =
+  -- What is known of its lines.
+  pub lines : frame_bytes m + 16 * tries tree ≤ 1048576 → AreLinesOf tree m
+  lines fit =
       record {
         keeps = λ named exact. keeps_then (selected tree) q m named is.keeps (linear.keeps is.no_addr named exact);
         regular = linear.regular;
@@ -150,14 +151,20 @@ module _ {defined : List ℕ → Option DefinedSymbol} {tree : FunctionTree} (ac
         within = within fit;
         offsets = offsets_fit;
         unended = tidied_unended first tidies (lowered_unended q first is.ends);
-        exact = made.exact;
-        count = made.count;
-        homes = linear.named ds made.exact;
-        emitted = made.emitted;
       }
+
+-- Lines of which all is known, with what is made of them.
+whole : {tree : FunctionTree} {m : Lin} {ds : List Descr} {pieces : Pieces} → AreLinesOf tree m → (made : IsMadeOf tree m ds pieces) → IsChained tree m ds pieces
+whole {ds = ds} lines made =
+    record {
+      lines = lines;
+      exact = made.exact;
+      count = made.count;
+      homes = made.linear.named ds made.exact;
+      emitted = made.emitted;
+    }
 
 -- What was made of a function of an accepted text is known whole, where its frame and its traps fit.
 pub chained : {defined : List ℕ → Option DefinedSymbol} {tree : FunctionTree} {m : Lin} {ds : List Descr} {pieces : Pieces} → IsAccepted defined tree → IsMadeOf tree m ds pieces →
     frame_bytes m + 16 * tries tree ≤ 1048576 → IsChained tree m ds pieces
-chained {ds = ds} {pieces = pieces} accepted made fit =
-    whole accepted (placed_for accepted made.is_prepared made.allocated) made.linear ds pieces made fit
+chained accepted made fit = whole (lines accepted (placed_for accepted made.is_prepared made.allocated) made.linear fit) made

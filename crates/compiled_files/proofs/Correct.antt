@@ -187,7 +187,7 @@ module _ (text : List ℕ) (file : FileTree) (is : IsFileOf text file) (bytes : 
       by (Some tree) there =
           let it = chained f tree there in
           let named = names_by it.descrs it.lin in
-          let names = exact_names it.chained.regular it.chained.exact in
+          let names = exact_names it.chained.lines.regular it.chained.exact in
           of_file tree there it.lin it.descrs it.pieces it.chained named names
           (function_stands image file ps setting f tree it.lin it.descrs it.pieces named image_of it.there it.chained names has)
       by None none = past (past_end (functions file) f none) none
@@ -223,7 +223,7 @@ module _ (text : List ℕ) (file : FileTree) (is : IsFileOf text file) (bytes : 
   lies f (of_file tree there m ds p c named names stands) =
       let e = stands.ends in
       record {
-        down = c.regular.down;
+        down = c.lines.regular.down;
         rises = stands.rises;
         begins = stands.begins;
         ends = omega (arith, e);
@@ -234,11 +234,11 @@ module _ (text : List ℕ) (file : FileTree) (is : IsFileOf text file) (bytes : 
   keeps f (of_file of there m ds p c named names stands) tree e =
       let both : Some of ≡ Some tree = sym there ∙ e in
       let same : of ≡ tree = cc in
-      subst (λ (t : FunctionTree). Keeps (selected t) m named) same (c.keeps named names)
+      subst (λ (t : FunctionTree). Keeps (selected t) m named) same (c.lines.keeps named names)
   keeps f (past long none) tree e = absurd (let both : None ≡ Some tree = sym none ∙ e in cc)
 
   formed : (f : ℕ) (x : Function f) → HasBegun (lin_of x) → WellFormed (lin_of x)
-  formed f (of_file tree there m ds p c named names stands) begun = c.regular.well
+  formed f (of_file tree there m ds p c named names stands) begun = c.lines.regular.well
   formed f (past long none) begun = absurd (never_begins begun.place begun.arguments begun.memory begun.state begun.begins)
 
   -- ---- its lines and its entry

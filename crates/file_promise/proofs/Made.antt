@@ -34,7 +34,7 @@ module _ (text : List ℕ) (file : FileTree) (is : IsFileOf text file) where
   function_laid : (tree : FunctionTree) → Contains (functions file) tree → (p : Pieces) → IsFunctionMade tree p → IsFunctionLaid file p
   function_laid tree among p made =
       let whole = function_chained tree among p made in
-      function_can text file is tree among made.lin made.descriptors p whole (names_by made.descriptors made.lin) (exact_names whole.regular whole.exact)
+      function_can text file is tree among made.lin made.descriptors p whole (names_by made.descriptors made.lin) (exact_names whole.lines.regular whole.exact)
 
   function_exact : (tree : FunctionTree) → Contains (functions file) tree → (p : Pieces) → IsFunctionMade tree p → IsFunctionExact tree p
   function_exact tree among p made =
@@ -44,7 +44,7 @@ module _ (text : List ℕ) (file : FileTree) (is : IsFileOf text file) where
         descriptors = made.descriptors;
         made = made.made;
         chained = whole;
-        laid = laid_out made.lin whole.regular.well whole.regular.seated whole.within made.descriptors p whole.emitted whole.count;
+        laid = laid_out made.lin whole.lines.regular.well whole.lines.regular.seated whole.lines.within made.descriptors p whole.emitted whole.count;
       }
 
   module _ (P : Pieces → Type 0) (each : (tree : FunctionTree) → Contains (functions file) tree → (p : Pieces) → IsFunctionMade tree p → P p) where

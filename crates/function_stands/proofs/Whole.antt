@@ -90,7 +90,7 @@ module _ (image : Tables) (file : FileTree) (ps : List Pieces) (c : Setting) (k 
   pieces = emitted m traps ds
 
   abbrev well : WellFormed m
-  well = it.regular.well
+  well = it.lines.regular.well
 
   there : slice_get ps k ≡ Some pieces
   there = is_there ∙ ap Some it.emitted.is
@@ -182,7 +182,7 @@ module _ (image : Tables) (file : FileTree) (ps : List Pieces) (c : Setting) (k 
   part_before : (q : ℕ) {suffix : List Line} {tries : List ℕ} → Reached m suffix tries → Tail suffix m.code → length suffix ≤ q →
       part_place q < length image.code
   part_before q reached tail h =
-      let high = place_before image.code n traps f m it.unended ds m.code left start start q reached tail h body_has in
+      let high = place_before image.code n traps f m it.lines.unended ds m.code left start start q reached tail h body_has in
       let both = words_both (entry f) body fs in
       let within = placed.stands.within in
       omega (arith, high, both, within)
@@ -300,14 +300,14 @@ module _ (image : Tables) (file : FileTree) (ps : List Pieces) (c : Setting) (k 
         slots = refl;
         among = line_among;
         formed = all_in IsFormed well.forms line_in;
-        offset = all_in (λ (j : Line). OffsetFits j.op) it.offsets line_in;
+        offset = all_in (λ (j : Line). OffsetFits j.op) it.lines.offsets line_in;
         args = (all_in (λ (j : Line). Locates m j.args × Locates m j.results) well.locations line_in).0;
         results = (all_in (λ (j : Line). Locates m j.args × Locates m j.results) well.locations line_in).1;
-        operand_seats = it.regular.seated.operands i line_among;
-        result_seats = it.regular.seated.results i line_among;
+        operand_seats = it.lines.regular.seated.operands i line_among;
+        result_seats = it.lines.regular.seated.results i line_among;
         named = well.named i line_among;
         handlers = λ l among. pushed_stands m well l (pushed m reached l (in_of l tries among));
-        spare = spare_passes m it.regular.homes i line_in next tries;
+        spare = spare_passes m it.lines.regular.homes i line_in next tries;
       }
 
       -- a walk comes to what is after a frame point
@@ -353,8 +353,8 @@ module _ (image : Tables) (file : FileTree) (ps : List Pieces) (c : Setting) (k 
             let own = own_descr e is in
             is_described m well named lives laid refl refl i next tries e at stands own.0 own.1;
         unnamed = λ e is whom result o. none_over_calls m well i next tries e whom result (own_descr e is).1 o;
-        spared = λ point. spare_unnamed m named lives it.spare_dead i next stands point;
-        unwritten = λ t among. unwritten m it.regular.homes i line_in t among;
+        spared = λ point. spare_unnamed m named lives it.lines.spare_dead i next stands point;
+        unwritten = λ t among. unwritten m it.lines.regular.homes i line_in t among;
         pushes = λ l o. subst (λ (t : Tables). part_place (length (after_label l m.code)) ≤ length t.code) (sym same) (part_within (length (after_label l m.code)));
       }
 
@@ -394,7 +394,7 @@ module _ (image : Tables) (file : FileTree) (ps : List Pieces) (c : Setting) (k 
   pub function_stands : FunctionStands image m c named k
   unfolding laid
   function_stands =
-      let small = it.within.frame m.code [] (by_walk at_entry) in
+      let small = it.lines.within.frame m.code [] (by_walk at_entry) in
       record {
         laid = laid;
         names = n;

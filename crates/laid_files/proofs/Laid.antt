@@ -202,7 +202,7 @@ all_named file whole (p ∷ ps) make (each_more a as') (each_more b bs) (each_mo
 module _ (text : List ℕ) (file : FileTree) (is : IsFileOf text file) (tree : FunctionTree) (among : Contains (functions file) tree) (m : Lin) (ds : List Descr) (pieces : Pieces)
     (chained : IsChained tree m ds pieces) (named : NamedAt) (lives : NamesLives m named) where
   kept : Keeps (selected tree) m named
-  kept = chained.keeps named lives
+  kept = chained.lines.keeps named lives
 
   symbol_known : (name : List ℕ) → IsNamedIn (NamesSymbol name) m → IsSome (value_of_symbol file name)
   symbol_known name n =
@@ -221,21 +221,21 @@ module _ (text : List ℕ) (file : FileTree) (is : IsFileOf text file) (tree : F
   label_once : (traps : ℕ → ℕ) (l : ℕ) → IsLabelOf m l → count_by (is_label l) (emitted m traps ds).code ≡ 1
   label_once traps l n =
       label_count l (emitted m traps ds).code
-      ∙ once l (places_in (emitted m traps ds).code) (subst (AllPairs (λ j k. j ≢ k)) (sym (places_are_labels m traps ds)) chained.regular.well.labels)
-      (named_labels_stand m chained.regular.well traps ds l n)
+      ∙ once l (places_in (emitted m traps ds).code) (subst (AllPairs (λ j k. j ≢ k)) (sym (places_are_labels m traps ds)) chained.lines.regular.well.labels)
+      (named_labels_stand m chained.lines.regular.well traps ds l n)
 
   laid : (traps : ℕ → ℕ) → IsFunctionLaid file (emitted m traps ds)
   laid traps =
-      let fits = chained.within.frame m.code [] (by_walk at_entry) in
+      let fits = chained.lines.within.frame m.code [] (by_walk at_entry) in
       record {
-        nonempty = some_words m chained.unended traps ds;
+        nonempty = some_words m chained.lines.unended traps ds;
         fits = each_is (emitted m traps ds).code (numbers_fit m traps ds);
         named = all_named file (emitted m traps ds).code (emitted m traps ds).code
             (λ p a b c. record { label = λ l e. label_once traps l (a l e); symbol = λ name e. symbol_known name (b name e); external = λ row e. external_known row (c row e) })
             (labels_are_named m traps ds) (symbols_are_named m traps ds) (externals_are_named m traps ds);
         frame = omega arith;
         frame_fits = omega (arith, fits);
-        descriptors = descriptors_stand m traps ds (descriptors_are m chained.regular chained.within ds chained.exact chained.homes);
+        descriptors = descriptors_stand m traps ds (descriptors_are m chained.lines.regular chained.lines.within ds chained.exact chained.homes);
       }
 
   -- The pieces of the function can be laid out.
