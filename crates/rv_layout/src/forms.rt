@@ -134,7 +134,7 @@ fn jump_form(from: u64, to: u64) -> Form
     }
 }
 
-/// The shortest form in which a piece at this word reaches its label.
+/// The shortest form in which a piece at this word reaches its label. In an image no callee is far.
 fn needed(labels: &Labels, at: u64, piece: &Piece) -> Form
     requires { at < 2 ^ 59 }
     ensures { result ≡ needed none_far (places_of labels.now) at piece.now }
@@ -191,8 +191,8 @@ fn grow(alloc: Global, code: &[Piece], forms: &[Form], labels: &Labels) -> Resul
     })
 }
 
-/// The forms of a function's pieces: the least in which each branch and jump reaches its label.
-/// The only error is want of memory.
+/// The forms of a function's pieces in an image: the least in which each branch and jump reaches its
+/// label. Each call is near. The only error is want of memory.
 pub fn forms_of(alloc: Global, code: &[Piece]) -> Result<Vec<Form>, AllocError>
     requires { length code.now < 2 ^ 48 }
     ensures { IfOk result (λ forms. AreForms none_far code.now forms.items) }
