@@ -55,7 +55,7 @@ pub zip_same : (ps : List Pieces) (forms : List (List Form)) (i : ℕ) (p : Piec
 zip_same [] forms i p f are h is of = absurd (omega (arith, h))
 zip_same (q ∷ ps) [] i p f are h is of = absurd are
 zip_same (q ∷ ps) (g ∷ forms) zero p f are h is of =
-    ap length of ∙ (forms_length (place_of q.code g) 0 q.code g are.0.reach ∙ ap (λ (x : Pieces). length x.code) (sym is))
+    ap length of ∙ (forms_length (place_of q.code g) 0 q.code g are.0.suffice ∙ ap (λ (x : Pieces). length x.code) (sym is))
 zip_same (q ∷ ps) (g ∷ forms) (suc i) p f are h is of = zip_same ps forms i p f are.1 (omega (arith, h)) is of
 
 -- ---- what is known of a source

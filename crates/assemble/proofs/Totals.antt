@@ -197,7 +197,7 @@ descs_are at (p ∷ ps) (f ∷ forms) are =
     omega (
       arith,
       sum_by-append desc_size (descs_in at p.code f) (descs_from next ps forms),
-      descs_size at p.code f (forms_length (place_of p.code f) 0 p.code f are.0.reach),
+      descs_size at p.code f (forms_length (place_of p.code f) 0 p.code f are.0.suffice),
       sum_by-cons pieces_size p ps,
       descs_are next ps forms are.1,
     )

@@ -13,14 +13,14 @@ use Rattle.image_form.specs.Tables.{Tables, Func, Desc}
 use Rattle.layout_rules.specs.declared.form.Form.{Form}
 use Rattle.layout_rules.specs.declared.form.Form.TheVariants.{Near, Middle, Far}
 use Rattle.layout_rules.specs.Conditions.{AreDescriptors, IsFunctionLaid, CanBeLaid}
-use Rattle.layout_rules.specs.Forms.{branch_words, jump_words, words_of, total_words}
-use Rattle.layout_rules.specs.Laid.{row_at, rows_from, descs_in, descs_from, laid_out, AreAllForms, IsLaidOut}
+use Rattle.layout_rules.specs.Forms.{call_words, branch_words, jump_words, words_of, total_words}
+use Rattle.layout_rules.specs.Laid.{row_at, rows_from, descs_in, descs_from, laid_out, AllReach, IsLaid}
 use Rattle.layout_rules.proofs.Functions.{filled}
 use Rattle.layout_rules.proofs.Rules.{all_append}
 use Rattle.chained_functions.specs.Made.{IsBoundedBy}
 use Rattle.rv_pieces.specs.Named.{marks_in}
 use Rattle.rv_pieces.specs.declared.piece.Piece.{Piece}
-use Rattle.rv_pieces.specs.declared.piece.Piece.TheVariants.{Label, Branch, Jump, Descriptor}
+use Rattle.rv_pieces.specs.declared.piece.Piece.TheVariants.{Label, Branch, Jump, Call, TailCall, Descriptor}
 use Rattle.rv_pieces.specs.declared.piece.Pieces.{Pieces}
 use Rattle.image_rules.proofs.Whole.{some_words}
 use Rattle.code_bounds.specs.Kept.{KeepsTo}
@@ -37,9 +37,16 @@ jump_few Near = omega arith
 jump_few Middle = omega arith
 jump_few Far = omega arith
 
+call_few : (f : Form) → call_words f ≤ 3
+call_few Near = omega arith
+call_few Middle = omega arith
+call_few Far = omega arith
+
 piece_few : (p : Piece) (f : Form) → words_of p f ≤ sizes.most_words p
 piece_few (Branch c a b l) f = branch_few f
 piece_few (Jump l) f = jump_few f
+piece_few (Call name) f = call_few f
+piece_few (TailCall name) f = call_few f
 piece_few p f = omega arith
 
 -- whatever the forms are
@@ -131,7 +138,7 @@ module _ (file : FileTree) where
   -- ---- each function
 
   each_within : (described pre : List Desc) (at : ℕ) (fs : List FunctionTree) (ps : List Pieces) (forms : List (List Form)) →
-      described ≡ pre ++ descs_from at ps forms → Below at pre → AllZip KeepsTo fs ps → AreAllForms ps forms → AllByRecursion (IsFunctionLaid file) ps →
+      described ≡ pre ++ descs_from at ps forms → Below at pre → AllZip KeepsTo fs ps → AllReach ps forms → AllByRecursion (IsFunctionLaid file) ps →
       AllZip (IsWithinText described) fs (rows_from at fs ps forms)
   each_within described pre at [] [] [] same before keeps are laid = tt
   each_within described pre at [] [] (k ∷ forms) same before keeps are laid = tt
@@ -168,7 +175,7 @@ module _ (file : FileTree) where
       )
 
 -- The image of a file whose functions keep to their texts is bounded.
-pub laid_bounded : (file : FileTree) (ps : List Pieces) (forms : List (List Form)) → CanBeLaid file ps → AreAllForms ps forms →
+pub laid_bounded : (file : FileTree) (ps : List Pieces) (forms : List (List Form)) → CanBeLaid file ps → AllReach ps forms →
     AllZip KeepsTo (functions file) ps → IsBounded file (laid_out file ps forms)
 laid_bounded file ps forms can are keeps =
     record {
@@ -177,6 +184,6 @@ laid_bounded file ps forms can are keeps =
       filled = filled file ps forms can are;
     }
 
-pub image_bounded : (file : FileTree) (ps : List Pieces) (image : Tables) → CanBeLaid file ps → IsLaidOut file ps image →
+pub image_bounded : (file : FileTree) (ps : List Pieces) (image : Tables) → CanBeLaid file ps → IsLaid file ps image →
     AllZip KeepsTo (functions file) ps → IsBounded file image
-image_bounded file ps image can laid keeps = subst (IsBounded file) (sym laid.is) (laid_bounded file ps laid.forms can laid.are keeps)
+image_bounded file ps image can laid keeps = subst (IsBounded file) (sym laid.is) (laid_bounded file ps laid.forms can laid.reach keeps)

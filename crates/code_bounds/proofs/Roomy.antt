@@ -19,7 +19,7 @@ use Rattle.image_rules.proofs.Whole.{all_length, length_of_data}
 use Rattle.layout_rules.specs.declared.form.Form.{Form}
 use Rattle.layout_rules.specs.Conditions.{IsRowLaid, CanBeLaid}
 use Rattle.layout_rules.specs.Forms.{words_of, total_words}
-use Rattle.layout_rules.specs.Laid.{entries_from, code_from, row_at, rows_from, desc_at, descs_in, descs_from, laid_out, IsLaidOut}
+use Rattle.layout_rules.specs.Laid.{entries_from, code_from, row_at, rows_from, desc_at, descs_in, descs_from, laid_out, IsLaid}
 use Rattle.layout_rules.specs.TooLarge.{section_bytes_of, first_too_large}
 use Rattle.layout_rules.proofs.Rules.{all_words}
 use Rattle.lin_ir.specs.declared.descr.Descr.{Descr}
@@ -170,7 +170,7 @@ laid_short text file ps forms is can keeps roomy =
     }
 
 -- The image of a roomy file fits.
-pub roomy_fits : (text : List ℕ) (file : FileTree) (ps : List Pieces) (image : Tables) → IsFileOf text file → CanBeLaid file ps → IsLaidOut file ps image →
+pub roomy_fits : (text : List ℕ) (file : FileTree) (ps : List Pieces) (image : Tables) → IsFileOf text file → CanBeLaid file ps → IsLaid file ps image →
     AllZip KeepsTo (functions file) ps → IsRoomy file → first_too_large image ≡ None
 roomy_fits text file ps image is can laid keeps roomy =
     subst (λ t. first_too_large t ≡ None) (sym laid.is) (short_fits (laid_out file ps laid.forms) (laid_short text file ps laid.forms is can keeps roomy))

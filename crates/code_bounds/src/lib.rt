@@ -12,7 +12,7 @@ ghost use Rattle.correctness.specs.Bounds.{IsBounded, IsRoomy};
 ghost use Rattle.correctness.specs.Measures.{tries};
 ghost use Rattle.image_form.specs.Tables.{Tables};
 ghost use Rattle.layout_rules.specs.Conditions.{CanBeLaid, weight_of};
-ghost use Rattle.layout_rules.specs.Laid.{IsLaidOut};
+ghost use Rattle.layout_rules.specs.Laid.{IsLaid};
 ghost use Rattle.layout_rules.specs.TooLarge.{first_too_large};
 ghost use Rattle.lin_ir.specs.Descriptors.{frame_bytes};
 ghost use Rattle.lin_ir.specs.declared.descr.Descr.{Descr};
@@ -48,11 +48,11 @@ pub fn made_functions_keep_to_their_texts()
 /// roomy file passes no limit.
 pub fn images_are_bounded()
     ensures bounded { (file : FileTree) (ps : List Pieces) (image : Tables) → CanBeLaid file ps →
-        IsLaidOut file ps image → AllZip KeepsTo (functions file) ps → IsBounded file image }
+        IsLaid file ps image → AllZip KeepsTo (functions file) ps → IsBounded file image }
     ensures few { (text : List ℕ) (file : FileTree) (ps : List Pieces) → IsFileOf text file →
         AllZip KeepsTo (functions file) ps →
         sum_by (λ (p : Pieces). weight_of p.code) ps < 2 ^ 48 }
     ensures roomy { (text : List ℕ) (file : FileTree) (ps : List Pieces) (image : Tables) →
-        IsFileOf text file → CanBeLaid file ps → IsLaidOut file ps image →
+        IsFileOf text file → CanBeLaid file ps → IsLaid file ps image →
         AllZip KeepsTo (functions file) ps → IsRoomy file → first_too_large image ≡ None }
 {}

@@ -18,7 +18,7 @@ use Rattle.correctness.specs.Setting.{layout_of}
 use Rattle.image_form.specs.Image.{AreTables}
 use Rattle.image_form.specs.Tables.{Tables}
 use Rattle.layout_rules.specs.Conditions.{CanBeLaid}
-use Rattle.layout_rules.specs.Laid.{IsLaidOut}
+use Rattle.layout_rules.specs.Laid.{IsLaid}
 use Rattle.lin_ir.specs.Descriptors.{NamesLives}
 use Rattle.lin_ir.specs.Formed.{GoesDown, WellFormed}
 use Rattle.lin_ir.specs.Keeps.{Keeps}
@@ -153,7 +153,7 @@ has_begun lins named f c (by_step r l) = has_begun lins named f c r
 -- ---- the whole
 
 module _ (text : List ℕ) (file : FileTree) (is : IsFileOf text file) (bytes : AreBytes text) (image : Tables) (ps : List Pieces)
-    (can : CanBeLaid file ps) (laid_out : IsLaidOut file ps image) (tables : AreTables image)
+    (can : CanBeLaid file ps) (laid_out : IsLaid file ps image) (tables : AreTables image)
     (chained : AreChained file ps) where
   abbrev setting : Setting
   setting = setting_in file

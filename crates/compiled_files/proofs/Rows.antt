@@ -10,11 +10,11 @@ use Rattle.image_form.specs.Tables.{Func, Tables}
 use Rattle.layout_rules.specs.declared.form.Form.{Form}
 use Rattle.layout_rules.specs.Conditions.{CanBeLaid, IsRowLaid}
 use Rattle.layout_rules.specs.Forms.{total_words}
-use Rattle.layout_rules.specs.Laid.{AreAllForms, IsLaidOut, code_from, entries_from, rows_from}
+use Rattle.layout_rules.specs.Laid.{AllReach, IsLaid, code_from, entries_from, rows_from}
 use Rattle.rv_pieces.specs.declared.piece.Pieces.{Pieces}
 use Rattle.compiled_files.specs.Image.{function_words}
 
-types_are : (at : ℕ) (fs : List FunctionTree) (ps : List Pieces) (forms : List (List Form)) → length ps ≡ length fs → AreAllForms ps forms →
+types_are : (at : ℕ) (fs : List FunctionTree) (ps : List Pieces) (forms : List (List Form)) → length ps ≡ length fs → AllReach ps forms →
     AreRowsOf fs (rows_from at fs ps forms)
 types_are at [] [] forms same are = tt
 types_are at [] (p ∷ ps) forms same are = absurd (omega (arith, same))
@@ -27,7 +27,7 @@ abbrev frames_in : List Func → List ℕ
 frames_in rows = map (λ (row : Func). row.frame) rows
 
 frame_is : (at : ℕ) (fs : List FunctionTree) (ps : List Pieces) (forms : List (List Form)) (n : ℕ) (q : Pieces) → length ps ≡ length fs →
-    AreAllForms ps forms → slice_get ps n ≡ Some q → slice_index (frames_in (rows_from at fs ps forms)) n ≡ q.frame
+    AllReach ps forms → slice_get ps n ≡ Some q → slice_index (frames_in (rows_from at fs ps forms)) n ≡ q.frame
 frame_is at fs [] forms n q same are is = cc
 frame_is at [] (p ∷ ps) forms n q same are is = absurd (omega (arith, same))
 frame_is at (f ∷ fs) (p ∷ ps) [] n q same are is = absurd are
@@ -50,7 +50,7 @@ few_in (g ∷ fs) zero f all is =
     subst (λ (g : FunctionTree). length (comps_of g) ≤ 16) e (omega (arith, few, length-map g.params (λ (p : Parameter). p.comp)))
 few_in (g ∷ fs) (suc n) f all is = few_in fs n f all.1 is
 
-module _ (file : FileTree) (image : Tables) (ps : List Pieces) (can : CanBeLaid file ps) (laid : IsLaidOut file ps image) where
+module _ (file : FileTree) (image : Tables) (ps : List Pieces) (can : CanBeLaid file ps) (laid : IsLaid file ps image) where
   abbrev forms : List (List Form)
   forms = laid.forms
 
@@ -60,13 +60,13 @@ module _ (file : FileTree) (image : Tables) (ps : List Pieces) (can : CanBeLaid 
   -- The rows of the image are those of the file.
   pub rows : AreRowsOf (functions file) image.funcs
   rows =
-      subst (AreRowsOf (functions file)) (sym rows_are) (types_are stub_words (functions file) ps forms can.each_one laid.are)
+      subst (AreRowsOf (functions file)) (sym rows_are) (types_are stub_words (functions file) ps forms can.each_one laid.reach)
 
   -- Their frames are those of the pieces.
   pub frame : (f : ℕ) (p : Pieces) → slice_get ps f ≡ Some p → slice_index (layout_of image).frames f ≡ p.frame
   frame f p is =
       ap (λ (rows : List Func). slice_index (frames_in rows) f) rows_are
-      ∙ frame_is stub_words (functions file) ps forms f p can.each_one laid.are is
+      ∙ frame_is stub_words (functions file) ps forms f p can.each_one laid.reach is
 
   pub no_frame : (f : ℕ) → length ps ≤ f → slice_index (layout_of image).frames f ≡ 0
   no_frame f h = ap (λ (rows : List Func). slice_index (frames_in rows) f) rows_are ∙ frame_none stub_words (functions file) ps forms f h

@@ -21,7 +21,7 @@ use Rattle.correctness.specs.Setting.{layout_of}
 use Rattle.image_form.specs.Image.{IsFunc, IsResult, stub, stub_words}
 use Rattle.guarded_machine.specs.Guarded.{guarded_after, guarded_of}
 use Rattle.image_form.specs.Tables.{Tables}
-use Rattle.layout_rules.specs.Laid.{IsLaidOut, code_from, entries_from}
+use Rattle.layout_rules.specs.Laid.{IsLaid, code_from, entries_from}
 use Rattle.lin_ir.specs.declared.lin.Line.{Line}
 use Rattle.mach_ir.specs.Runs.{entered}
 use Rattle.machine_laws.specs.Steps.{moments}
@@ -254,7 +254,7 @@ service_word : encoded Ecall ≡ 0x00000073
 unfolding encoded
 service_word = refl
 
-module _ (file : FileTree) (ps : List Pieces) (s : Fixed) (laid : IsLaidOut file ps s.image) where
+module _ (file : FileTree) (ps : List Pieces) (s : Fixed) (laid : IsLaid file ps s.image) where
   code_is : s.image.code ≡ stub ++ code_from file (entries_from stub_words ps laid.forms) stub_words ps laid.forms
   code_is = ap (λ (t : Tables). t.code) laid.is
 
@@ -275,7 +275,7 @@ module _ (file : FileTree) (ps : List Pieces) (s : Fixed) (laid : IsLaidOut file
 -- The stub ends each run of an image.
 pub stub_so : (file : FileTree) (image : Tables) (ps : List Pieces) (has : HasFunctions image)
     (bases : (stack : ℕ) → IsRoom stack → IsStackBase (stack_bottom - stack)) (laid : ℕ → Laid) (entry : ℕ → ℕ) (live : ℕ → List Line → Type 0) →
-    IsLaidOut file ps image → data_end file ≡ data_start + length image.bytes → (run : Setup) (f : ℕ) → slice_get image.funcs f ≡ Some run.row →
+    IsLaid file ps image → data_end file ≡ data_start + length image.bytes → (run : Setup) (f : ℕ) → slice_get image.funcs f ≡ Some run.row →
     IsStub Now (guarded_of run.schedule) seen run.stack run.heap (layout_of image) (data_end file) run.row.result
     (λ d o x. Back image has bases laid entry live run nothing_below d o x)
 stub_so file image ps has bases laid entry live it end run f row =

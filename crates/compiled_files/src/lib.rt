@@ -21,7 +21,7 @@ ghost use Rattle.guarded_machine.specs.Guarded.{guarded_of};
 ghost use Rattle.image_form.specs.Image.{AreTables};
 ghost use Rattle.image_form.specs.Tables.{Tables};
 ghost use Rattle.layout_rules.specs.Conditions.{CanBeLaid};
-ghost use Rattle.layout_rules.specs.Laid.{IsLaidOut};
+ghost use Rattle.layout_rules.specs.Laid.{IsLaid};
 ghost use Rattle.lin_ir.specs.Formed.{WellFormed};
 ghost use Rattle.lin_ir.specs.Meaning.{NamedAt, State};
 ghost use Rattle.lin_ir.specs.declared.lin.Lin.{Lin};
@@ -55,9 +55,9 @@ pub fn parts_go_forward()
 /// Law: the rows of an image are those of its file, and its code has a word more than the functions.
 pub fn images_have_rows()
     ensures rows { (file : FileTree) (image : Tables) (ps : List Pieces) → CanBeLaid file ps →
-        IsLaidOut file ps image → AreRowsOf (functions file) image.funcs }
+        IsLaid file ps image → AreRowsOf (functions file) image.funcs }
     ensures words { (file : FileTree) (image : Tables) (ps : List Pieces) → CanBeLaid file ps →
-        IsLaidOut file ps image → function_words image + 1 ≤ length image.code }
+        IsLaid file ps image → function_words image + 1 ≤ length image.code }
 {}
 
 /// Law: an accepted text of bytes holds words, and what is selected of its functions does what these do.
@@ -82,7 +82,7 @@ pub fn runs_are_ready()
 pub fn stubs_end_runs()
     ensures { (file : FileTree) (image : Tables) (ps : List Pieces) (has : HasFunctions image)
         (bases : (stack : ℕ) → IsRoom stack → IsStackBase (stack_bottom - stack)) (laid : ℕ → Laid)
-        (entry : ℕ → ℕ) → IsLaidOut file ps image →
+        (entry : ℕ → ℕ) → IsLaid file ps image →
         data_end file ≡ data_start + length image.bytes →
         (run : Setup) (f : ℕ) → slice_get image.funcs f ≡ Some run.row →
         IsStub Now (guarded_of run.schedule) seen run.stack run.heap (layout_of image)
@@ -95,13 +95,13 @@ pub fn stubs_end_runs()
 /// of each of them that is known of a chained function.
 pub fn images_are_correct()
     ensures { (text : List ℕ) (file : FileTree) → IsFileOf text file → AreBytes text →
-        (image : Tables) (ps : List Pieces) → CanBeLaid file ps → IsLaidOut file ps image →
+        (image : Tables) (ps : List Pieces) → CanBeLaid file ps → IsLaid file ps image →
         AreTables image → AreChained file ps → IsCorrect file image }
 {}
 
 /// Law: such an image asks for an allocation only where s10 is below the limit word.
 pub fn images_ask_in_need()
     ensures { (text : List ℕ) (file : FileTree) → IsFileOf text file → AreBytes text →
-        (image : Tables) (ps : List Pieces) → CanBeLaid file ps → IsLaidOut file ps image →
+        (image : Tables) (ps : List Pieces) → CanBeLaid file ps → IsLaid file ps image →
         AreTables image → AreChained file ps → AsksInNeed file image }
 {}

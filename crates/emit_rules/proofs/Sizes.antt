@@ -364,7 +364,7 @@ calling_part-in t f d (calling.Call (callee.Symbol name) result) args =
     let h : words_at_most (mark_of d) ≤ 0 = (mark-in d).fits in record { fits = omega arith }
 calling_part-in t f d (calling.Call callee.Register result) args = wide 14 (join (join (fetched-in t T1 (first args)) one) (mark-in d))
 calling_part-in t f d (calling.TailCall (callee.Symbol name) result) args =
-    let s : Short 2 (piece.TailCall name ∷ []) = record { fits = omega arith } in wide 3 (join (join none (given_back-in f)) s)
+    let s : Short 3 (piece.TailCall name ∷ []) = record { fits = omega arith } in wide 2 (join (join none (given_back-in f)) s)
 calling_part-in t f d (calling.TailCall callee.Register result) args = wide 1 (join (join (value_words-in t (first args)) (given_back-in f)) one)
 calling_part-in t f d (calling.External row frame) args =
     let s : Short 2 (piece.ExternalNumber T0 row ∷ []) = record { fits = omega arith } in

@@ -1,6 +1,6 @@
 -- How many words pieces have, at the least and at the most.
 --
--- A branch is one word, or over a jump: up to three. A jump or a call is at most two.
+-- A branch is one word, or over a jump: up to three. A jump is at most two, a call three.
 use Rattle.std.specs.Prelude.{ℕ, ◌+◌, ◌*◌, List, [], ◌∷◌, length}
 use Rattle.lin_ir.specs.declared.lin.Flow.TheVariants as flow
 use Rattle.lin_ir.specs.declared.lin.LinOp.{LinOp}
@@ -16,8 +16,8 @@ most_words (piece.Branch c a b l) = 3
 most_words (piece.Jump l) = 2
 most_words (piece.Row l) = 2
 most_words (piece.LabelAddress r l) = 2
-most_words (piece.Call name) = 2
-most_words (piece.TailCall name) = 2
+most_words (piece.Call name) = 3
+most_words (piece.TailCall name) = 3
 most_words (piece.SymbolAddress r name) = 2
 most_words (piece.ExternalNumber r row) = 2
 most_words (piece.Descriptor d) = 0

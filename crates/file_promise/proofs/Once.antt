@@ -4,6 +4,7 @@ use Rattle.std.specs.List.{AllZip}
 use Rattle.cmm_tree.specs.Tree.{FunctionTree, FileTree, functions}
 use Rattle.image_form.specs.Tables.{Tables}
 use Rattle.layout_rules.specs.declared.form.Form.{Form}
+use Rattle.layout_rules.specs.Forms.{none_far}
 use Rattle.layout_rules.specs.Laid.{AreAllForms, laid_out}
 use Rattle.layout_rules.proofs.Relaxing.{forms_once}
 use Rattle.compiled_files.specs.Made.{IsFunctionMade, IsMadeFor}
@@ -26,7 +27,7 @@ all_forms_once [] (f ∷ fs) gs a b = absurd a
 all_forms_once (p ∷ ps) [] gs a b = absurd a
 all_forms_once (p ∷ ps) (f ∷ fs) [] a b = absurd b
 all_forms_once (p ∷ ps) (f ∷ fs) (g ∷ gs) a b =
-    ap (λ (x : List Form). x ∷ fs) (forms_once p.code f g a.0 b.0) ∙ ap (λ (xs : List (List Form)). g ∷ xs) (all_forms_once ps fs gs a.1 b.1)
+    ap (λ (x : List Form). x ∷ fs) (forms_once none_far p.code f g a.0 b.0) ∙ ap (λ (xs : List (List Form)). g ∷ xs) (all_forms_once ps fs gs a.1 b.1)
 
 pub made_for_once : (file : FileTree) (t u : Tables) → IsMadeFor file t → IsMadeFor file u → t ≡ u
 made_for_once file t u a b =

@@ -11,27 +11,32 @@ use Rattle.correctness.specs.Correct.{IsCorrect}
 use Rattle.correctness.specs.InNeed.{AsksInNeed}
 use Rattle.image_form.specs.Image.{AreTables}
 use Rattle.image_form.specs.Tables.{Tables}
+use Rattle.layout_rules.specs.Laid.{IsLaid}
 use Rattle.layout_rules.specs.TooLarge.{first_too_large}
+use Rattle.layout_rules.proofs.Functions.{laid}
 use Rattle.compiled_files.specs.Made.{IsMadeFor}
 use Rattle.compiled_files.specs.Made.{IsExact}
 use Rattle.file_promise.proofs.Bytes.{bytes_of}
 use Rattle.file_promise.proofs.Made.{are_chained, are_exact, can_be_laid, keep}
 
 module _ (text : List ℕ) (file : FileTree) (is : IsFileOf text file) (image : Tables) (made : IsMadeFor file image) where
+  is_laid : IsLaid file made.pieces image
+  is_laid = laid file made.pieces image made.laid
+
   pub made_correct : All (λ b. b < 256) text → AreTables image → IsCorrect file image
   made_correct bytes tables =
-      correct text file is (bytes_of text bytes) image made.pieces (can_be_laid text file is made.pieces made.each) made.laid tables (are_chained text file is made.pieces made.each)
+      correct text file is (bytes_of text bytes) image made.pieces (can_be_laid text file is made.pieces made.each) is_laid tables (are_chained text file is made.pieces made.each)
 
   pub made_in_need : All (λ b. b < 256) text → AreTables image → AsksInNeed file image
   made_in_need bytes tables =
-      in_need text file is (bytes_of text bytes) image made.pieces (can_be_laid text file is made.pieces made.each) made.laid tables (are_chained text file is made.pieces made.each)
+      in_need text file is (bytes_of text bytes) image made.pieces (can_be_laid text file is made.pieces made.each) is_laid tables (are_chained text file is made.pieces made.each)
 
   pub made_bounded : IsBounded file image
-  made_bounded = image_bounded file made.pieces image (can_be_laid text file is made.pieces made.each) made.laid (keep text file is made.pieces made.each)
+  made_bounded = image_bounded file made.pieces image (can_be_laid text file is made.pieces made.each) is_laid (keep text file is made.pieces made.each)
 
   pub made_exact : IsExact file image
-  made_exact = record { pieces = made.pieces; laid = made.laid; each = are_exact text file is made.pieces made.each }
+  made_exact = record { pieces = made.pieces; laid = is_laid; each = are_exact text file is made.pieces made.each }
 
   pub roomy_fits : IsRoomy file → first_too_large image ≡ None
   roomy_fits roomy =
-      room.roomy_fits text file made.pieces image is (can_be_laid text file is made.pieces made.each) made.laid (keep text file is made.pieces made.each) roomy
+      room.roomy_fits text file made.pieces image is (can_be_laid text file is made.pieces made.each) is_laid (keep text file is made.pieces made.each) roomy

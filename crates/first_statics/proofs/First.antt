@@ -17,7 +17,7 @@ use Rattle.image_rules.proofs.Placed.{end_of_lists-above, data_length, items_len
 use Rattle.layout_rules.specs.declared.form.Form.{Form}
 use Rattle.layout_rules.specs.Conditions.{IsFileLaid}
 use Rattle.layout_rules.specs.Forms.{total_words}
-use Rattle.layout_rules.specs.Laid.{address_of_place, entries_from, function_words, code_from, rows_from, cell_bytes, data_of, AreAllForms, IsLaidOut}
+use Rattle.layout_rules.specs.Laid.{address_of_place, entries_from, function_words, code_from, rows_from, cell_bytes, data_of, AllReach, IsLaid}
 use Rattle.layout_rules.proofs.Functions.{function_length}
 use Rattle.linear_machine.specs.Contents.{static_in, statics_of}
 use Rattle.linear_machine.specs.Statics.{AreBehind, StaticsLie}
@@ -53,7 +53,7 @@ entry_is at (f ∷ fs) (p ∷ ps) [] k same = refl
 entry_is at (f ∷ fs) (p ∷ ps) (g ∷ forms) zero same = refl
 entry_is at (f ∷ fs) (p ∷ ps) (g ∷ forms) (suc k) same = entry_is (at + total_words p.code g) fs ps forms k (omega (arith, same))
 
-rows_many : (at : ℕ) (fs : List FunctionTree) (ps : List Pieces) (forms : List (List Form)) → length ps ≡ length fs → AreAllForms ps forms →
+rows_many : (at : ℕ) (fs : List FunctionTree) (ps : List Pieces) (forms : List (List Form)) → length ps ≡ length fs → AllReach ps forms →
     length (rows_from at fs ps forms) ≡ length fs
 rows_many at [] ps forms same are = refl
 rows_many at (f ∷ fs) [] forms same are = absurd (omega (arith, same))
@@ -112,7 +112,7 @@ sound_ends file end (d ∷ lists) s = sound_ends file (end_behind end d) lists (
 
 -- ---- the whole
 
-module _ (file : FileTree) (ps : List Pieces) (image : Tables) (laid : IsLaidOut file ps image) where
+module _ (file : FileTree) (ps : List Pieces) (image : Tables) (laid : IsLaid file ps image) where
   abbrev forms : List (List Form)
   forms = laid.forms
 
@@ -156,7 +156,7 @@ module _ (file : FileTree) (ps : List Pieces) (image : Tables) (laid : IsLaidOut
         entry_is stub_words (functions file) ps forms f each_one ∙ ap (λ (t : Tables). function_at t.funcs f) (sym laid.is)
 
     functions_many : length image.funcs ≡ length (functions file)
-    functions_many = ap (λ (t : Tables). length t.funcs) laid.is ∙ rows_many stub_words (functions file) ps forms each_one laid.are
+    functions_many = ap (λ (t : Tables). length t.funcs) laid.is ∙ rows_many stub_words (functions file) ps forms each_one laid.reach
 
     -- ---- the values of cells
 

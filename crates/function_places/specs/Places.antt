@@ -7,7 +7,7 @@ use Rattle.function_places.specs.declared.places.Places.{Places}
 use Rattle.image_form.specs.Image.{stub_words}
 use Rattle.layout_rules.specs.declared.form.Form.{Form}
 use Rattle.layout_rules.specs.Conditions.{weight_of}
-use Rattle.layout_rules.specs.Forms.{total_words, AreForms}
+use Rattle.layout_rules.specs.Forms.{total_words, none_far, AreForms}
 use Rattle.layout_rules.specs.Laid.{entries_from, AreAllForms}
 use Rattle.layout_rules.proofs.Rules.{all_words}
 use Rattle.rv_pieces.specs.declared.piece.Pieces.{Pieces}
@@ -17,7 +17,7 @@ size_of p = weight_of p.code
 
 -- The function that is these pieces has these forms, so many words and so many bytes of descriptors.
 pub record IsLaid (p : Pieces) (own : Laid) : Type 0 where
-  pub forms : AreForms p.code own.forms.items
+  pub forms : AreForms none_far p.code own.forms.items
   pub words : own.words ≡ total_words p.code own.forms.items
   pub descs : own.descs ≡ pieces_size p
 

@@ -8,7 +8,7 @@ use Rattle.image_form.specs.Image.{stub_words}
 use Rattle.image_form.specs.Tables.{Func, Tables}
 use Rattle.layout_rules.specs.declared.form.Form.{Form}
 use Rattle.layout_rules.specs.Forms.{total_words}
-use Rattle.layout_rules.specs.Laid.{AreAllForms, address_of_place, entries_from, rows_from}
+use Rattle.layout_rules.specs.Laid.{AllReach, address_of_place, entries_from, rows_from}
 use Rattle.moving_laws.specs.Values.{function_at}
 use Rattle.rv_machine.specs.Memory.{code_start}
 use Rattle.rv_pieces.specs.declared.piece.Pieces.{Pieces}
@@ -17,7 +17,7 @@ use Rattle.function_stands.specs.Functions.{entry_place}
 
 -- ---- rows that are laid one after the other
 
-function_at_entry : (fs : List FunctionTree) (ps : List Pieces) (forms : List (List Form)) (at k : ℕ) → length ps ≡ length fs → AreAllForms ps forms →
+function_at_entry : (fs : List FunctionTree) (ps : List Pieces) (forms : List (List Form)) (at k : ℕ) → length ps ≡ length fs → AllReach ps forms →
     function_at (rows_from at fs ps forms) k ≡ address_of_place (slice_index (entries_from at ps forms) k)
 function_at_entry [] [] forms at k same are = refl
 function_at_entry [] (p ∷ ps) forms at k same are = absurd (omega (arith, same))
@@ -27,7 +27,7 @@ function_at_entry (f ∷ fs) (p ∷ ps) (g ∷ forms) at zero same are = refl
 function_at_entry (f ∷ fs) (p ∷ ps) (g ∷ forms) at (suc k) same are =
     function_at_entry fs ps forms (at + total_words p.code g) k (omega (arith, same)) are.1
 
-as_many_rows : (fs : List FunctionTree) (ps : List Pieces) (forms : List (List Form)) (at : ℕ) → length ps ≡ length fs → AreAllForms ps forms →
+as_many_rows : (fs : List FunctionTree) (ps : List Pieces) (forms : List (List Form)) (at : ℕ) → length ps ≡ length fs → AllReach ps forms →
     length (rows_from at fs ps forms) ≡ length fs
 as_many_rows [] ps forms at same are = refl
 as_many_rows (f ∷ fs) [] forms at same are = absurd (omega (arith, same))
@@ -62,7 +62,7 @@ module _ (image : Tables) (file : FileTree) (ps : List Pieces) (c : Setting) (it
   pub rows_are : (f : ℕ) → function_at image.funcs f ≡ address_of_place (slice_index entries f)
   rows_are f =
       ap (λ (t : Tables). function_at t.funcs f) it.laid.is
-      ∙ function_at_entry (functions file) ps it.laid.forms stub_words f it.can.each_one it.laid.are
+      ∙ function_at_entry (functions file) ps it.laid.forms stub_words f it.can.each_one it.laid.reach
 
   -- The entry of a function lies where its pieces are laid.
   pub entry_is : (f : ℕ) → entry_place image f ≡ slice_index entries f
@@ -78,4 +78,4 @@ module _ (image : Tables) (file : FileTree) (ps : List Pieces) (c : Setting) (it
   -- There is a row for each function.
   pub as_many : length image.funcs ≡ length (functions file)
   as_many =
-      ap (λ (t : Tables). length t.funcs) it.laid.is ∙ as_many_rows (functions file) ps it.laid.forms stub_words it.can.each_one it.laid.are
+      ap (λ (t : Tables). length t.funcs) it.laid.is ∙ as_many_rows (functions file) ps it.laid.forms stub_words it.can.each_one it.laid.reach

@@ -5,8 +5,8 @@ use Rattle.std.proofs.lemmas.Bool.{ne_eqb, eq-eqb}
 use Rattle.image_form.specs.Image.{EachNext}
 use Rattle.image_form.specs.Tables.{Desc, Tables}
 use Rattle.layout_rules.specs.declared.form.Form.{Form}
-use Rattle.layout_rules.specs.Forms.{AreForms, total_words, words_of}
-use Rattle.layout_rules.specs.Laid.{AreAllForms, desc_at, descs_from, descs_in, entries_from}
+use Rattle.layout_rules.specs.Forms.{Reach, total_words, words_of}
+use Rattle.layout_rules.specs.Laid.{AllReach, desc_at, descs_from, descs_in, entries_from}
 use Rattle.linear_rules.proofs.Homes.{IsIn, is_first, is_later}
 use Rattle.rv_machine.specs.Frames.{descriptor_at}
 use Rattle.rv_machine.specs.Memory.{code_start}
@@ -62,7 +62,7 @@ module _ (image : Tables) (rises : Rising image.descs) where
 -- The forms and the place of function k, and its descriptors among all.
 pub record Shares (at : ℕ) (ps : List Pieces) (forms : List (List Form)) (k : ℕ) (p : Pieces) : Type 0 where
   pub of : List Form
-  pub are : AreForms p.code of
+  pub chosen : slice_get forms k ≡ Some of
   pub place : ℕ
   pub entry : slice_get (entries_from at ps forms) k ≡ Some place
   pub among : (d : Desc) → IsIn d (descs_in place p.code of) → IsIn d (descs_from at ps forms)
@@ -76,7 +76,7 @@ in_back : {d : Desc} (xs ys : List Desc) → IsIn d ys → IsIn d (xs ++ ys)
 in_back [] ys z = z
 in_back (x ∷ xs) ys z = is_later (in_back xs ys z)
 
-pub shares : (at : ℕ) (ps : List Pieces) (forms : List (List Form)) (k : ℕ) (p : Pieces) → AreAllForms ps forms → slice_get ps k ≡ Some p →
+pub shares : (at : ℕ) (ps : List Pieces) (forms : List (List Form)) (k : ℕ) (p : Pieces) → AllReach ps forms → slice_get ps k ≡ Some p →
     Shares at ps forms k p
 shares at [] forms k p are is = cc
 shares at (q ∷ ps) [] k p are is = absurd are
@@ -84,7 +84,7 @@ shares at (q ∷ ps) (g ∷ forms) zero p are is =
     let same : q ≡ p = cc in
     let it : Shares at (q ∷ ps) (g ∷ forms) zero q = record {
       of = g;
-      are = are.0;
+      chosen = refl;
       place = at;
       entry = refl;
       among = λ d z. in_front (descs_in at q.code g) (descs_from (at + total_words q.code g) ps forms) z;
@@ -94,7 +94,7 @@ shares at (q ∷ ps) (g ∷ forms) (suc k) p are is =
     let rest = shares (at + total_words q.code g) ps forms k p are.1 is in
     record {
       of = rest.of;
-      are = rest.are;
+      chosen = rest.chosen;
       place = rest.place;
       entry = rest.entry;
       among = λ d z. in_back (descs_in at q.code g) (descs_from (at + total_words q.code g) ps forms) (rest.among d z);

@@ -2,6 +2,7 @@
 use Rattle.std.proofs.Common.{◌≡◌, ℕ, ◌+◌, ◌≤◌, List, [], ◌∷◌, ◌++◌, length, take, drop, refl, ap, subst, arith}
 use Rattle.emit_rules.specs.Sizes.{least_words, words_at_least}
 use Rattle.layout_rules.specs.declared.form.Form.{Form}
+use Rattle.layout_rules.specs.declared.form.Form.TheVariants.{Near, Middle, Far}
 use Rattle.layout_rules.specs.Forms.{ReachFrom, total_words, words_of}
 use Rattle.layout_rules.specs.Stands.{HasPieces}
 use Rattle.layout_rules.specs.Words.{Named}
@@ -29,8 +30,12 @@ least_of (Branch c a b l) f = branch_some f
 least_of (Jump l) f = jump_some f
 least_of (Row l) f = omega arith
 least_of (LabelAddress r l) f = omega arith
-least_of (Call name) f = omega arith
-least_of (TailCall name) f = omega arith
+least_of (Call name) Near = omega arith
+least_of (Call name) Middle = omega arith
+least_of (Call name) Far = omega arith
+least_of (TailCall name) Near = omega arith
+least_of (TailCall name) Middle = omega arith
+least_of (TailCall name) Far = omega arith
 least_of (SymbolAddress r name) f = omega arith
 least_of (ExternalNumber r row) f = omega arith
 least_of (Descriptor d) f = omega arith

@@ -24,7 +24,6 @@ use Rattle.layout_rules.specs.Stands as layout
 use Rattle.layout_rules.specs.Stands.{HasPieces}
 use Rattle.layout_rules.specs.Words.{Named}
 use Rattle.layout_rules.proofs.Functions.{stands}
-use Rattle.layout_rules.proofs.Relaxing.{forms_once}
 use Rattle.lin_ir.specs.Descriptors.{IsDescr, NamesLives, frame_bytes, has_frame_point}
 use Rattle.lin_ir.specs.Formed.{IsFormed, Locates, WellFormed, labels_in}
 use Rattle.lin_ir.specs.Meaning.{NamedAt, after_label, passes_frame}
@@ -95,11 +94,11 @@ module _ (image : Tables) (file : FileTree) (ps : List Pieces) (c : Setting) (k 
   there : slice_get ps k ≡ Some pieces
   there = is_there ∙ ap Some it.emitted.is
 
-  placed : layout.Stands file entries image k pieces
+  placed : layout.Stands file entries forms image k pieces
   placed =
       let is = of.laid.is in
       let short = subst (λ (t : Tables). 4 * length t.code ≤ code_limit) is of.short in
-      subst (λ (t : Tables). layout.Stands file entries t k pieces) (sym is) (stands file ps forms k pieces of.can of.laid.are short there)
+      subst (λ (t : Tables). layout.Stands file entries forms t k pieces) (sym is) (stands file ps forms k pieces of.can of.laid.reach short there)
 
   abbrev place : ℕ
   place = placed.place
@@ -120,12 +119,12 @@ module _ (image : Tables) (file : FileTree) (ps : List Pieces) (c : Setting) (k 
   reach =
       let e : place + 0 ≡ place = omega arith in
       subst (λ at. ReachFrom (label_place n) at pieces.code fs) e
-      (reach_moved (place_of pieces.code fs) (label_place n) place same_label 0 pieces.code fs placed.are.reach)
+      (reach_moved (place_of pieces.code fs) (label_place n) place same_label 0 pieces.code fs placed.reach)
 
   among : (d : Desc) → IsIn d (descs_in place pieces.code fs) → IsIn d image.descs
   among d z =
-      let share = shares stub_words ps forms k pieces of.laid.are there in
-      let same_forms = forms_once pieces.code share.of placed.forms share.are placed.are in
+      let share = shares stub_words ps forms k pieces of.laid.reach there in
+      let same_forms : share.of ≡ placed.forms = same_Some share.of placed.forms (sym share.chosen ∙ placed.chosen) in
       let same_place : share.place ≡ placed.place = same_Some share.place placed.place (sym share.entry ∙ placed.entry) in
       let z' = subst (λ at. IsIn d (descs_in at pieces.code placed.forms)) (sym same_place) z in
       let z'' = subst (λ gs. IsIn d (descs_in share.place pieces.code gs)) (sym same_forms) z' in

@@ -7,7 +7,7 @@ use Rattle.cmm_tree.specs.Tree.{FileTree}
 use Rattle.image_form.specs.Image.{code_limit}
 use Rattle.image_form.specs.Tables.{Tables}
 use Rattle.layout_rules.specs.Conditions.{CanBeLaid}
-use Rattle.layout_rules.specs.Laid.{IsLaidOut}
+use Rattle.layout_rules.specs.Laid.{IsLaid}
 use Rattle.rv_pieces.specs.declared.piece.Pieces.{Pieces}
 
 -- The image is that of the file, whose functions are these pieces in order, and the setting is the
@@ -15,7 +15,7 @@ use Rattle.rv_pieces.specs.declared.piece.Pieces.{Pieces}
 pub record IsImageOf (image : Tables) (file : FileTree) (ps : List Pieces) (c : Setting) : Type 0
   where
     pub can : CanBeLaid file ps
-    pub laid : IsLaidOut file ps image
+    pub laid : IsLaid file ps image
     -- its code keeps the limit of images
     pub short : 4 * length image.code ≤ code_limit
     pub symbols : (name : List ℕ) → c.symbol name ≡ value_of_symbol file name

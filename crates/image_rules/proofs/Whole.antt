@@ -22,7 +22,7 @@ use Rattle.layout_rules.specs.declared.form.Form.TheVariants.{Near, Middle, Far}
 use Rattle.layout_rules.specs.Conditions.{LeadsTo, IsFunctionLaid, CanBeLaid}
 use Rattle.layout_rules.specs.Externals.{externals}
 use Rattle.layout_rules.specs.Forms.{words_of, total_words, place_of}
-use Rattle.layout_rules.specs.Laid.{address_of_place, entries_from, names_at, function_words, code_from, row_at, rows_from, cell_bytes, data_of, sym_of, laid_out, AreAllForms}
+use Rattle.layout_rules.specs.Laid.{address_of_place, entries_from, names_at, function_words, code_from, row_at, rows_from, cell_bytes, data_of, sym_of, laid_out, AllReach}
 use Rattle.rv_pieces.specs.Named.{PieceFits, has_words}
 use Rattle.layout_rules.specs.TooLarge.{first_too_large}
 use Rattle.layout_rules.specs.Words.{Named, target_of, words_from, code_of}
@@ -85,8 +85,12 @@ some_words (Jump l) Middle some = omega arith
 some_words (Jump l) Far some = omega arith
 some_words (Row l) f some = omega arith
 some_words (LabelAddress r l) f some = omega arith
-some_words (Call name) f some = omega arith
-some_words (TailCall name) f some = omega arith
+some_words (Call name) Near some = omega arith
+some_words (Call name) Middle some = omega arith
+some_words (Call name) Far some = omega arith
+some_words (TailCall name) Near some = omega arith
+some_words (TailCall name) Middle some = omega arith
+some_words (TailCall name) Far some = omega arith
 some_words (SymbolAddress r name) f some = omega arith
 some_words (ExternalNumber r row) f some = omega arith
 some_words (Descriptor d) f some = cc
@@ -116,13 +120,13 @@ first_behind at f p k (g ∷ fs) [] forms some = tt
 first_behind at f p k (g ∷ fs) (q ∷ ps) [] some = tt
 first_behind at f p k (g ∷ fs) (q ∷ ps) (l ∷ forms) some = record { rises = omega (arith, some); apart = omega arith }
 
-funcs_in_order : (file : FileTree) (at : ℕ) (fs : List FunctionTree) (ps : List Pieces) (forms : List (List Form)) → AreAllForms ps forms → AllByRecursion (IsFunctionLaid file) ps →
+funcs_in_order : (file : FileTree) (at : ℕ) (fs : List FunctionTree) (ps : List Pieces) (forms : List (List Form)) → AllReach ps forms → AllByRecursion (IsFunctionLaid file) ps →
     EachNext IsBehind (rows_from at fs ps forms)
 funcs_in_order file at [] ps forms are laid = tt
 funcs_in_order file at (f ∷ fs) [] forms are laid = tt
 funcs_in_order file at (f ∷ fs) (p ∷ ps) [] are laid = tt
 funcs_in_order file at (f ∷ fs) (p ∷ ps) (k ∷ forms) are laid =
-    let long = forms_length (place_of p.code k) 0 p.code k are.0.reach in
+    let long = forms_length (place_of p.code k) 0 p.code k are.0 in
     let some = total_some p.code k long in
     (first_behind at f p k fs ps forms (omega (arith, some, laid.0.nonempty)), funcs_in_order file (at + total_words p.code k) fs ps forms are.1 laid.1)
 
@@ -134,7 +138,7 @@ funcs_in_code len at (f ∷ fs) (p ∷ ps) [] fits = tt
 funcs_in_code len at (f ∷ fs) (p ∷ ps) (k ∷ forms) fits =
     (omega (arith, fits), funcs_in_code len (at + total_words p.code k) fs ps forms (omega (arith, fits)))
 
-names_of_rows : (at : ℕ) (fs : List FunctionTree) (ps : List Pieces) (forms : List (List Form)) → length ps ≡ length fs → AreAllForms ps forms →
+names_of_rows : (at : ℕ) (fs : List FunctionTree) (ps : List Pieces) (forms : List (List Form)) → length ps ≡ length fs → AllReach ps forms →
     func_names (rows_from at fs ps forms) ≡ map (λ (f : FunctionTree). f.name) fs
 names_of_rows at [] ps forms same are = refl
 names_of_rows at (f ∷ fs) [] forms same are = absurd (omega (arith, same))
@@ -198,7 +202,7 @@ length_of_data file entries =
 -- ---- the whole
 
 -- What is laid out keeps the rules of images, where its sections keep their limits.
-pub is_image : (file : FileTree) (ps : List Pieces) (forms : List (List Form)) → CanBeLaid file ps → AreAllForms ps forms → first_too_large (laid_out file ps forms) ≡ None →
+pub is_image : (file : FileTree) (ps : List Pieces) (forms : List (List Form)) → CanBeLaid file ps → AllReach ps forms → first_too_large (laid_out file ps forms) ≡ None →
     AreTables (laid_out file ps forms)
 is_image file ps forms can are none =
     let entries = entries_from stub_words ps forms in

@@ -8,13 +8,13 @@ use Rattle.image_rules.proofs.Whole.{total_some}
 use Rattle.layout_rules.specs.declared.form.Form.{Form}
 use Rattle.layout_rules.specs.Conditions.{CanBeLaid, IsFunctionLaid}
 use Rattle.layout_rules.specs.Forms.{total_words, place_of}
-use Rattle.layout_rules.specs.Laid.{entries_from, function_words, code_from, rows_from, AreAllForms, IsLaidOut}
+use Rattle.layout_rules.specs.Laid.{entries_from, function_words, code_from, rows_from, AllReach, IsLaid}
 use Rattle.layout_rules.proofs.Functions.{forms_length, function_length}
 use Rattle.moving_laws.specs.Values.{HasFunctions, function_at}
 use Rattle.rv_machine.specs.Memory.{code_start}
 use Rattle.rv_pieces.specs.declared.piece.Pieces.{Pieces}
 
-begins_inside : (file : FileTree) (entries : List ℕ) (at : ℕ) (fs : List FunctionTree) (ps : List Pieces) (forms : List (List Form)) (f : ℕ) → AreAllForms ps forms →
+begins_inside : (file : FileTree) (entries : List ℕ) (at : ℕ) (fs : List FunctionTree) (ps : List Pieces) (forms : List (List Form)) (f : ℕ) → AllReach ps forms →
     AllByRecursion (IsFunctionLaid file) ps → f < length (rows_from at fs ps forms) →
     function_at (rows_from at fs ps forms) f < code_start + 4 * (at + length (code_from file entries at ps forms))
 begins_inside file entries at [] ps forms f are laid lt = absurd (omega (arith, lt))
@@ -26,7 +26,7 @@ begins_inside file entries at (g ∷ fs) (p ∷ ps) (k ∷ forms) zero are laid 
     omega (
       arith,
       some,
-      total_some p.code k (forms_length (place_of p.code k) 0 p.code k are.0.reach),
+      total_some p.code k (forms_length (place_of p.code k) 0 p.code k are.0),
       function_length file entries at p k,
       length-append (function_words file entries at p.code k) (code_from file entries next ps forms),
     )
@@ -35,7 +35,7 @@ begins_inside file entries at (g ∷ fs) (p ∷ ps) (k ∷ forms) (suc f) are la
     let later = begins_inside file entries next fs ps forms f are.1 laid.1 (omega (arith, lt)) in
     omega (arith, later, function_length file entries at p k, length-append (function_words file entries at p.code k) (code_from file entries next ps forms))
 
-pub has_functions : (file : FileTree) (ps : List Pieces) (image : Tables) → IsLaidOut file ps image → CanBeLaid file ps → AreTables image → HasFunctions image
+pub has_functions : (file : FileTree) (ps : List Pieces) (image : Tables) → IsLaid file ps image → CanBeLaid file ps → AreTables image → HasFunctions image
 has_functions file ps image laid can tables = record { tables = tables; inside = inside }
   where
     forms : List (List Form)
@@ -49,5 +49,5 @@ has_functions file ps image laid can tables = record { tables = tables; inside =
         let code = code_from file entries stub_words ps laid.forms in
         let rows_are : image.funcs ≡ rows_from stub_words (functions file) ps laid.forms = ap (λ (t : Tables). t.funcs) laid.is in
         let long : length image.code ≡ length (stub ++ code) = ap (λ (t : Tables). length t.code) laid.is in
-        let own = begins_inside file entries stub_words (functions file) ps laid.forms f laid.are can.each (subst (λ (rows : List Func). f < length rows) rows_are lt) in
+        let own = begins_inside file entries stub_words (functions file) ps laid.forms f laid.reach can.each (subst (λ (rows : List Func). f < length rows) rows_are lt) in
         subst (λ (rows : List Func). function_at rows f < code_start + 4 * length image.code) (sym rows_are) (omega (arith, own, long, length-append stub code))

@@ -45,6 +45,21 @@ jump_writes true z e = refl
 jump_writes false true e = absurd (cc)
 jump_writes false false e = refl
 
+-- a register is made by two instructions, and a jump goes through it: its link is that register, or another
+address_reads : (a z : Bool) → (not (a || false) && ((a || false) || (not (a || false) && ((a || false) || (not (z || false) && false))))) ≡ false
+address_reads true z = refl
+address_reads false true = refl
+address_reads false false = refl
+
+address_links : (a : Bool) → ((a || false) || ((a || false) || ((a || false) || false))) ≡ (a || false)
+address_links true = refl
+address_links false = refl
+
+address_writes : (a z : Bool) → z ≡ false → ((a || false) || ((a || false) || ((z || false) || false))) ≡ (a || false)
+address_writes true z e = refl
+address_writes false true e = absurd (cc)
+address_writes false false e = refl
+
 -- a jump with its offset
 near_reads : (z : Bool) → (not (z || false) && false) ≡ false
 near_reads true = refl
@@ -105,6 +120,46 @@ branch_names at to c a b l Far = record {
   memory = λ e. refl;
 }
 
+call_names : (at to : ℕ) (name : List ℕ) (f : Form) → NamesAs (piece.Call name) (code_to at to (piece.Call name) f)
+call_names at to name Near = record {
+  reads = λ n e. made_reads (hits n Ra);
+  writes = λ n e. made_writes (hits n Ra);
+  known = λ j h. absurd (cc);
+  memory = λ e. refl;
+}
+call_names at to name Middle = record {
+  reads = λ n e. address_reads (hits n Ra) (hits n Ra);
+  writes = λ n e. address_links (hits n Ra);
+  known = λ j h. absurd (cc);
+  memory = λ e. refl;
+}
+call_names at to name Far = record {
+  reads = λ n e. address_reads (hits n Ra) (hits n Ra);
+  writes = λ n e. address_links (hits n Ra);
+  known = λ j h. absurd (cc);
+  memory = λ e. refl;
+}
+
+tail_call_names : (at to : ℕ) (name : List ℕ) (f : Form) → NamesAs (piece.TailCall name) (code_to at to (piece.TailCall name) f)
+tail_call_names at to name Near = record {
+  reads = λ n e. by_t1_reads n e;
+  writes = λ n e. by_t1_writes n e;
+  known = λ j h. absurd (cc);
+  memory = λ e. refl;
+}
+tail_call_names at to name Middle = record {
+  reads = λ n e. address_reads (hits n T1) (hits n Zero);
+  writes = λ n e. address_writes (hits n T1) (hits n Zero) (is-apart n e).zero;
+  known = λ j h. absurd (cc);
+  memory = λ e. refl;
+}
+tail_call_names at to name Far = record {
+  reads = λ n e. address_reads (hits n T1) (hits n Zero);
+  writes = λ n e. address_writes (hits n T1) (hits n Zero) (is-apart n e).zero;
+  known = λ j h. absurd (cc);
+  memory = λ e. refl;
+}
+
 pub names_as : (at to : ℕ) (p : Piece) (f : Form) → NamesAs p (code_to at to p f)
 names_as at to (piece.Known j) f = record {
   reads = λ n e. then_nothing (is_among n (sources j)) _ (and-false (not (is_among n (targets j))));
@@ -122,18 +177,8 @@ names_as at to (piece.LabelAddress r l) f = record {
   known = λ j h. absurd (cc);
   memory = λ e. refl;
 }
-names_as at to (piece.Call name) f = record {
-  reads = λ n e. made_reads (hits n Ra);
-  writes = λ n e. made_writes (hits n Ra);
-  known = λ j h. absurd (cc);
-  memory = λ e. refl;
-}
-names_as at to (piece.TailCall name) f = record {
-  reads = λ n e. by_t1_reads n e;
-  writes = λ n e. by_t1_writes n e;
-  known = λ j h. absurd (cc);
-  memory = λ e. refl;
-}
+names_as at to (piece.Call name) f = call_names at to name f
+names_as at to (piece.TailCall name) f = tail_call_names at to name f
 names_as at to (piece.SymbolAddress r name) f = record {
   reads = λ n e. made_reads (hits n r);
   writes = λ n e. made_writes (hits n r);

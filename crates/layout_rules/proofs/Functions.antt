@@ -6,11 +6,11 @@ use Rattle.std.proofs.lemmas.Option.{same_Some}
 use Rattle.cmm_tree.specs.Tree.{FunctionTree, FileTree, functions}
 use Rattle.correctness.specs.Bounds.{FillCode}
 use Rattle.image_form.specs.Image.{stub, stub_words, code_limit}
-use Rattle.image_form.specs.Tables.{Func}
+use Rattle.image_form.specs.Tables.{Func, Tables}
 use Rattle.layout_rules.specs.declared.form.Form.{Form}
 use Rattle.layout_rules.specs.Conditions.{LeadsTo, IsFunctionLaid, CanBeLaid}
-use Rattle.layout_rules.specs.Forms.{words_of, total_words, ReachFrom, AreForms, place_of}
-use Rattle.layout_rules.specs.Laid.{address_of_place, entries_from, names_at, function_words, code_from, rows_from, laid_out, AreAllForms}
+use Rattle.layout_rules.specs.Forms.{words_of, total_words, ReachFrom, Reach, place_of}
+use Rattle.layout_rules.specs.Laid.{address_of_place, entries_from, names_at, function_words, code_from, rows_from, laid_out, AllReach, AreAllForms, IsLaid, IsLaidOut}
 use Rattle.layout_rules.specs.Stands.{StandsAt, Stands}
 use Rattle.layout_rules.specs.Words.{target_of}
 use Rattle.layout_rules.proofs.Standing.{words_length, pieces_stand}
@@ -43,7 +43,8 @@ names_lead file entries at ps fs (Descriptor d) = tt
 -- A function, its forms, and its row where it is.
 pub record Found (file : FileTree) (entries starts code : List ℕ) (forms : List (List Form)) (k : ℕ) (p : Pieces) (row : Func) : Type 0 where
   pub of : List Form
-  pub are : AreForms p.code of
+  pub chosen : slice_get forms k ≡ Some of
+  pub reach : Reach p.code of
   pub place : ℕ
   pub entry : slice_get starts k ≡ Some place
   pub stands : StandsAt file entries code place p of row
@@ -52,7 +53,7 @@ pub function_length : (file : FileTree) (entries : List ℕ) (at : ℕ) (p : Pie
 function_length file entries at p fs = words_length (names_at file entries at p.code fs) (address_of_place at) p.code fs
 
 pub found : (file : FileTree) (entries : List ℕ) (fs : List FunctionTree) (ps : List Pieces) (forms : List (List Form)) (pre : List ℕ) (at k : ℕ) (p : Pieces) (row : Func) →
-    at ≡ length pre → stub_words ≤ at → AreAllForms ps forms → AllByRecursion (IsFunctionLaid file) ps →
+    at ≡ length pre → stub_words ≤ at → AllReach ps forms → AllByRecursion (IsFunctionLaid file) ps →
     address_of_place (length (pre ++ code_from file entries at ps forms)) + 4 < 2 ^ 32 →
     slice_get ps k ≡ Some p → slice_get (rows_from at fs ps forms) k ≡ Some row →
     Found file entries (entries_from at ps forms) (pre ++ code_from file entries at ps forms) forms k p row
@@ -70,11 +71,12 @@ found file entries (f ∷ fs) (q ∷ ps) (g ∷ forms) pre at zero p row e behin
     let own = function_length file entries at q g in
     let inside : at + total_words q.code g ≤ length code = omega (arith, e, long, both, own) in
     let below : address_of_place (at + total_words q.code g) + 4 < 2 ^ 32 = omega (arith, inside, low) in
-    let length-forms = forms_length (place_of q.code g) 0 q.code g are.0.reach in
+    let length-forms = forms_length (place_of q.code g) 0 q.code g are.0 in
     let has = pieces_stand (names_at file entries at q.code g) q.code g pre rest at e length-forms below laid.0.fits (names_lead file entries at q.code g) in
     let here : Found file entries (at ∷ entries_from (at + total_words q.code g) ps forms) code (g ∷ forms) zero q row = record {
       of = g;
-      are = are.0;
+      chosen = refl;
+      reach = are.0;
       place = at;
       entry = refl;
       stands = subst (λ r. StandsAt file entries code at q g r) same_row (record {
@@ -98,7 +100,8 @@ found file entries (f ∷ fs) (q ∷ ps) (g ∷ forms) pre at (suc k) p row e be
     let later = found file entries fs ps forms (pre ++ words) next k p row place (omega (arith, behind)) are.1 laid.1 below is row_is in
     record {
       of = later.of;
-      are = later.are;
+      chosen = later.chosen;
+      reach = later.reach;
       place = later.place;
       entry = later.entry;
       stands = subst (λ code. StandsAt file entries code later.place p later.of row) assoc later.stands;
@@ -107,7 +110,7 @@ found file entries (f ∷ fs) (q ∷ ps) (g ∷ forms) pre at (suc k) p row e be
 -- ---- the functions fill the code
 
 pub fill_code : (file : FileTree) (entries : List ℕ) (fs : List FunctionTree) (ps : List Pieces) (forms : List (List Form)) (at : ℕ) →
-    length ps ≡ length fs → AreAllForms ps forms →
+    length ps ≡ length fs → AllReach ps forms →
     FillCode (4 * at) (4 * (at + length (code_from file entries at ps forms))) (rows_from at fs ps forms)
 fill_code file entries [] [] [] at same are = omega arith
 fill_code file entries [] [] (g ∷ forms) at same are = absurd are
@@ -128,7 +131,7 @@ fill_code file entries (f ∷ fs) (q ∷ ps) (g ∷ forms) at same are =
 
 -- ---- the whole
 
-row_there : (fs : List FunctionTree) (ps : List Pieces) (forms : List (List Form)) (at k : ℕ) (p : Pieces) → length ps ≡ length fs → AreAllForms ps forms → slice_get ps k ≡ Some p →
+row_there : (fs : List FunctionTree) (ps : List Pieces) (forms : List (List Form)) (at k : ℕ) (p : Pieces) → length ps ≡ length fs → AllReach ps forms → slice_get ps k ≡ Some p →
     (row : Func) × (slice_get (rows_from at fs ps forms) k ≡ Some row)
 row_there fs [] forms at k p same are is = cc
 row_there [] (q ∷ ps) forms at k p same are is = absurd (omega (arith, same))
@@ -138,17 +141,17 @@ row_there (f ∷ fs) (q ∷ ps) (g ∷ forms) at (suc k) p same are is =
     row_there fs ps forms (at + total_words q.code g) k p (omega (arith, same)) are.1 is
 
 -- Each function is in the image, where its code keeps its limit.
-pub stands : (file : FileTree) (ps : List Pieces) (forms : List (List Form)) (k : ℕ) (p : Pieces) → CanBeLaid file ps → AreAllForms ps forms →
+pub stands : (file : FileTree) (ps : List Pieces) (forms : List (List Form)) (k : ℕ) (p : Pieces) → CanBeLaid file ps → AllReach ps forms →
     4 * length (laid_out file ps forms).code ≤ code_limit → slice_get ps k ≡ Some p →
-    Stands file (entries_from stub_words ps forms) (laid_out file ps forms) k p
+    Stands file (entries_from stub_words ps forms) forms (laid_out file ps forms) k p
 stands file ps forms k p can are short is =
     let entries = entries_from stub_words ps forms in
     let there = row_there (functions file) ps forms stub_words k p can.each_one are is in
     let it = found file entries (functions file) ps forms stub stub_words k p there.0 refl (omega arith) are can.each (omega (arith, short)) is there.1 in
-    record { forms = it.of; are = it.are; place = it.place; entry = it.entry; row = there.0; row_is = there.1; stands = it.stands }
+    record { forms = it.of; chosen = it.chosen; reach = it.reach; place = it.place; entry = it.entry; row = there.0; row_is = there.1; stands = it.stands }
 
 -- The code is the stub and the functions' words.
-pub filled : (file : FileTree) (ps : List Pieces) (forms : List (List Form)) → CanBeLaid file ps → AreAllForms ps forms →
+pub filled : (file : FileTree) (ps : List Pieces) (forms : List (List Form)) → CanBeLaid file ps → AllReach ps forms →
     FillCode (4 * stub_words) (4 * length (laid_out file ps forms).code) (laid_out file ps forms).funcs
 filled file ps forms can are =
     let entries = entries_from stub_words ps forms in
@@ -156,3 +159,13 @@ filled file ps forms can are =
     let end : 4 * (stub_words + length code) ≡ 4 * length (stub ++ code) = omega (arith, length-append stub code) in
     subst (λ to. FillCode (4 * stub_words) to (rows_from stub_words (functions file) ps forms)) end
     (fill_code file entries (functions file) ps forms stub_words can.each_one are)
+
+-- The least forms reach.
+pub all_reach : (ps : List Pieces) (forms : List (List Form)) → AreAllForms ps forms → AllReach ps forms
+all_reach [] [] are = tt
+all_reach [] (f ∷ forms) are = are
+all_reach (p ∷ ps) [] are = are
+all_reach (p ∷ ps) (f ∷ forms) are = (are.0.suffice, all_reach ps forms are.1)
+
+pub laid : (file : FileTree) (ps : List Pieces) (t : Tables) → IsLaidOut file ps t → IsLaid file ps t
+laid file ps t l = record { forms = l.forms; reach = all_reach ps l.forms l.are; is = l.is }

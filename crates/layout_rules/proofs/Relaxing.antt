@@ -5,7 +5,7 @@ use Rattle.std.proofs.lemmas.Option.{same_Some}
 use Rattle.std.proofs.lemmas.Bool.{and_parts, and_from}
 use Rattle.layout_rules.specs.declared.form.Form.{Form}
 use Rattle.layout_rules.specs.declared.form.Form.TheVariants.{Near, Middle, Far}
-use Rattle.layout_rules.specs.Forms.{branch_words, jump_words, words_of, is_label, label_from, place_or_entry, place_of, branch_reaches, jal_reaches, branch_form, jump_form, needed, rank, ReachFrom, Reach, NoLonger, AreForms, AllNear, longer, grown_from, ranks}
+use Rattle.layout_rules.specs.Forms.{branch_words, jump_words, call_words, words_of, is_label, label_from, place_or_entry, place_of, branch_reaches, jal_reaches, branch_form, jump_form, none_far, needed, rank, SufficeFrom, Suffice, ReachFrom, Reach, NoLonger, AreForms, AllNear, longer, grown_from, ranks}
 use Rattle.rv_pieces.specs.declared.piece.Piece.{Piece}
 use Rattle.rv_pieces.specs.declared.piece.Piece.TheVariants.{Known, Label, Branch, Jump, Row, LabelAddress, Call, TailCall, SymbolAddress, ExternalNumber, Descriptor}
 
@@ -33,6 +33,17 @@ jump_less Far Near h = absurd (omega (arith, h))
 jump_less Far Middle h = absurd (omega (arith, h))
 jump_less Far Far h = omega arith
 
+call_less : (f g : Form) → rank f ≤ rank g → call_words f ≤ call_words g
+call_less Near Near h = omega arith
+call_less Near Middle h = omega arith
+call_less Near Far h = omega arith
+call_less Middle Near h = absurd (omega (arith, h))
+call_less Middle Middle h = omega arith
+call_less Middle Far h = omega arith
+call_less Far Near h = absurd (omega (arith, h))
+call_less Far Middle h = absurd (omega (arith, h))
+call_less Far Far h = omega arith
+
 pub words_less : (p : Piece) (f g : Form) → rank f ≤ rank g → words_of p f ≤ words_of p g
 words_less (Known i) f g h = omega arith
 words_less (Label l) f g h = omega arith
@@ -40,8 +51,8 @@ words_less (Branch c a b l) f g h = branch_less f g h
 words_less (Jump l) f g h = jump_less f g h
 words_less (Row l) f g h = omega arith
 words_less (LabelAddress r l) f g h = omega arith
-words_less (Call name) f g h = omega arith
-words_less (TailCall name) f g h = omega arith
+words_less (Call name) f g h = call_less f g h
+words_less (TailCall name) f g h = call_less f g h
 words_less (SymbolAddress r name) f g h = omega arith
 words_less (ExternalNumber r row) f g h = omega arith
 words_less (Descriptor d) f g h = omega arith
@@ -131,18 +142,43 @@ branch_form_less a b a' b' near =
 jump_form_less : (a b a' b' : ℕ) → Nearer a b a' b' → rank (jump_form a b) ≤ rank (jump_form a' b')
 jump_form_less a b a' b' near = jump_by_less (jal_reaches a b) (jal_reaches a' b') (jal_nearer a b a' b' near)
 
-needed_less : (places places' : ℕ → ℕ) (at at' : ℕ) (p : Piece) → ((l : ℕ) → Nearer at (places l) at' (places' l)) → rank (needed places at p) ≤ rank (needed places' at' p)
-needed_less places places' at at' (Known i) near = omega arith
-needed_less places places' at at' (Label l) near = omega arith
-needed_less places places' at at' (Branch c a b l) near = branch_form_less at (places l) at' (places' l) (near l)
-needed_less places places' at at' (Jump l) near = jump_form_less at (places l) at' (places' l) (near l)
-needed_less places places' at at' (Row l) near = omega arith
-needed_less places places' at at' (LabelAddress r l) near = omega arith
-needed_less places places' at at' (Call name) near = omega arith
-needed_less places places' at at' (TailCall name) near = omega arith
-needed_less places places' at at' (SymbolAddress r name) near = omega arith
-needed_less places places' at at' (ExternalNumber r row) near = omega arith
-needed_less places places' at at' (Descriptor d) near = omega arith
+needed_less : (far : List ℕ → Bool) (places places' : ℕ → ℕ) (at at' : ℕ) (p : Piece) → ((l : ℕ) → Nearer at (places l) at' (places' l)) → rank (needed far places at p) ≤ rank (needed far places' at' p)
+needed_less far places places' at at' (Known i) near = omega arith
+needed_less far places places' at at' (Label l) near = omega arith
+needed_less far places places' at at' (Branch c a b l) near = branch_form_less at (places l) at' (places' l) (near l)
+needed_less far places places' at at' (Jump l) near = jump_form_less at (places l) at' (places' l) (near l)
+needed_less far places places' at at' (Row l) near = omega arith
+needed_less far places places' at at' (LabelAddress r l) near = omega arith
+needed_less far places places' at at' (Call name) near = omega arith
+needed_less far places places' at at' (TailCall name) near = omega arith
+needed_less far places places' at at' (SymbolAddress r name) near = omega arith
+needed_less far places places' at at' (ExternalNumber r row) near = omega arith
+needed_less far places places' at at' (Descriptor d) near = omega arith
+
+-- ---- what suffices where some callees are far reaches all labels
+
+reach_less : (far : List ℕ → Bool) (places : ℕ → ℕ) (at : ℕ) (p : Piece) → rank (needed none_far places at p) ≤ rank (needed far places at p)
+reach_less far places at (Known i) = omega arith
+reach_less far places at (Label l) = omega arith
+reach_less far places at (Branch c a b l) = omega arith
+reach_less far places at (Jump l) = omega arith
+reach_less far places at (Row l) = omega arith
+reach_less far places at (LabelAddress r l) = omega arith
+reach_less far places at (Call name) = omega arith
+reach_less far places at (TailCall name) = omega arith
+reach_less far places at (SymbolAddress r name) = omega arith
+reach_less far places at (ExternalNumber r row) = omega arith
+reach_less far places at (Descriptor d) = omega arith
+
+suffice_reach : (far : List ℕ → Bool) (places : ℕ → ℕ) (at : ℕ) (ps : List Piece) (fs : List Form) → SufficeFrom far places at ps fs → ReachFrom places at ps fs
+suffice_reach far places at [] [] enough = tt
+suffice_reach far places at [] (f ∷ fs) enough = absurd enough
+suffice_reach far places at (p ∷ ps) [] enough = absurd enough
+suffice_reach far places at (p ∷ ps) (f ∷ fs) enough =
+    (omega (arith, reach_less far places at p, enough.0), suffice_reach far places (at + words_of p f) ps fs enough.1)
+
+pub forms_reach : (far : List ℕ → Bool) (ps : List Piece) (fs : List Form) → Suffice far ps fs → Reach ps fs
+forms_reach far ps fs enough = suffice_reach far (place_of ps fs) 0 ps fs enough
 
 -- ---- where labels lie while both lists are walked
 
@@ -239,20 +275,20 @@ longer_less f n g h k = by (nat_lt (rank f) (rank n))
     by true = k
     by false = h
 
-grown_less : (places places' : ℕ → ℕ) (at at' : ℕ) (ps : List Piece) (fs gs : List Form) →
+grown_less : (far : List ℕ → Bool) (places places' : ℕ → ℕ) (at at' : ℕ) (ps : List Piece) (fs gs : List Form) →
     ((l : ℕ) → Knows l (places l) (places' l) at at' ps fs gs) →
-    NoLonger fs gs → ReachFrom places' at' ps gs → NoLonger (grown_from places at ps fs) gs
-grown_less places places' at at' [] [] [] knows less reach = tt
-grown_less places places' at at' [] (f ∷ fs) [] knows less reach = absurd less
-grown_less places places' at at' [] (f ∷ fs) (g ∷ gs) knows less reach = absurd reach
-grown_less places places' at at' [] [] (g ∷ gs) knows less reach = absurd reach
-grown_less places places' at at' (p ∷ ps) [] gs knows less reach = less
-grown_less places places' at at' (p ∷ ps) (f ∷ fs) [] knows less reach = absurd reach
-grown_less places places' at at' (p ∷ ps) (f ∷ fs) (g ∷ gs) knows less reach =
+    NoLonger fs gs → SufficeFrom far places' at' ps gs → NoLonger (grown_from far places at ps fs) gs
+grown_less far places places' at at' [] [] [] knows less reach = tt
+grown_less far places places' at at' [] (f ∷ fs) [] knows less reach = absurd less
+grown_less far places places' at at' [] (f ∷ fs) (g ∷ gs) knows less reach = absurd reach
+grown_less far places places' at at' [] [] (g ∷ gs) knows less reach = absurd reach
+grown_less far places places' at at' (p ∷ ps) [] gs knows less reach = less
+grown_less far places places' at at' (p ∷ ps) (f ∷ fs) [] knows less reach = absurd reach
+grown_less far places places' at at' (p ∷ ps) (f ∷ fs) (g ∷ gs) knows less reach =
     let near : (l : ℕ) → Nearer at (places l) at' (places' l) = λ l. nearer l (places l) (places' l) at at' (p ∷ ps) (f ∷ fs) (g ∷ gs) less (knows l) in
-    let need : rank (needed places at p) ≤ rank g = omega (arith, needed_less places places' at at' p near, reach.0) in (
-      longer_less f (needed places at p) g less.0 need,
-      grown_less places places' (at + words_of p f) (at' + words_of p g) ps fs gs
+    let need : rank (needed far places at p) ≤ rank g = omega (arith, needed_less far places places' at at' p near, reach.0) in (
+      longer_less f (needed far places at p) g less.0 need,
+      grown_less far places places' (at + words_of p f) (at' + words_of p g) ps fs gs
           (λ l. next_knows l (places l) (places' l) at at' p f g ps fs gs less.0 (knows l)) less.1 reach.1,
     )
 
@@ -265,25 +301,25 @@ first_by l ps fs gs (Some b) None e e' a = absurd a
 first_by l ps fs gs (Some b) (Some b') e e' a = inr (record { first = e; second = e' })
 
 -- A round keeps below all forms in which each label is reached.
-pub round_least : (ps : List Piece) (fs gs : List Form) → NoLonger fs gs → Reach ps gs → NoLonger (grown_from (place_of ps fs) 0 ps fs) gs
-round_least ps fs gs less reach =
-    grown_less (place_of ps fs) (place_of ps gs) 0 0 ps fs gs
+pub round_least : (far : List ℕ → Bool) (ps : List Piece) (fs gs : List Form) → NoLonger fs gs → Suffice far ps gs → NoLonger (grown_from far (place_of ps fs) 0 ps fs) gs
+round_least far ps fs gs less reach =
+    grown_less far (place_of ps fs) (place_of ps gs) 0 0 ps fs gs
     (λ l. first_by l ps fs gs (label_from l 0 ps fs) (label_from l 0 ps gs) refl refl (ahead l 0 0 ps fs gs less)) less reach
 
 -- ---- the first forms
 
-no_longer_near : (places : ℕ → ℕ) (at : ℕ) (ps : List Piece) (fs gs : List Form) → length fs ≡ length ps → AllNear fs → ReachFrom places at ps gs → NoLonger fs gs
-no_longer_near places at [] [] [] e near reach = tt
-no_longer_near places at [] [] (g ∷ gs) e near reach = reach
-no_longer_near places at [] (f ∷ fs) gs e near reach = absurd (omega (arith, e))
-no_longer_near places at (p ∷ ps) fs [] e near reach = absurd reach
-no_longer_near places at (p ∷ ps) [] (g ∷ gs) e near reach = absurd (omega (arith, e))
-no_longer_near places at (p ∷ ps) (f ∷ fs) (g ∷ gs) e near reach =
-    (rw near.0 (omega arith), no_longer_near places (at + words_of p g) ps fs gs (omega (arith, e)) near.1 reach.1)
+no_longer_near : (far : List ℕ → Bool) (places : ℕ → ℕ) (at : ℕ) (ps : List Piece) (fs gs : List Form) → length fs ≡ length ps → AllNear fs → SufficeFrom far places at ps gs → NoLonger fs gs
+no_longer_near far places at [] [] [] e near reach = tt
+no_longer_near far places at [] [] (g ∷ gs) e near reach = reach
+no_longer_near far places at [] (f ∷ fs) gs e near reach = absurd (omega (arith, e))
+no_longer_near far places at (p ∷ ps) fs [] e near reach = absurd reach
+no_longer_near far places at (p ∷ ps) [] (g ∷ gs) e near reach = absurd (omega (arith, e))
+no_longer_near far places at (p ∷ ps) (f ∷ fs) (g ∷ gs) e near reach =
+    (rw near.0 (omega arith), no_longer_near far places (at + words_of p g) ps fs gs (omega (arith, e)) near.1 reach.1)
 
 -- The shortest forms are below all.
-pub near_least : (ps : List Piece) (fs : List Form) → length fs ≡ length ps → AllNear fs → (gs : List Form) → Reach ps gs → NoLonger fs gs
-near_least ps fs e near gs reach = no_longer_near (place_of ps gs) 0 ps fs gs e near reach
+pub near_least : (far : List ℕ → Bool) (ps : List Piece) (fs : List Form) → length fs ≡ length ps → AllNear fs → (gs : List Form) → Suffice far ps gs → NoLonger fs gs
+near_least far ps fs e near gs reach = no_longer_near far (place_of ps gs) 0 ps fs gs e near reach
 
 -- ---- a round that changes nothing
 
@@ -309,38 +345,38 @@ longer_same f n h = by (nat_lt (rank f) (rank n)) refl h
     by true e h = let k = ltb-true (rank f) (rank n) e in absurd (omega (arith, h, k))
     by false e h = (refl, ltb-false (rank f) (rank n) e)
 
-pub grown_length : (places : ℕ → ℕ) (at : ℕ) (ps : List Piece) (fs : List Form) → length fs ≡ length ps → length (grown_from places at ps fs) ≡ length ps
-grown_length places at [] fs e = refl
-grown_length places at (p ∷ ps) [] e = absurd (omega (arith, e))
-grown_length places at (p ∷ ps) (f ∷ fs) e =
-    let rest = grown_length places (at + words_of p f) ps fs (omega (arith, e)) in
+pub grown_length : (far : List ℕ → Bool) (places : ℕ → ℕ) (at : ℕ) (ps : List Piece) (fs : List Form) → length fs ≡ length ps → length (grown_from far places at ps fs) ≡ length ps
+grown_length far places at [] fs e = refl
+grown_length far places at (p ∷ ps) [] e = absurd (omega (arith, e))
+grown_length far places at (p ∷ ps) (f ∷ fs) e =
+    let rest = grown_length far places (at + words_of p f) ps fs (omega (arith, e)) in
     omega (arith, rest)
 
-pub grown_more : (places : ℕ → ℕ) (at : ℕ) (ps : List Piece) (fs : List Form) → length fs ≡ length ps → ranks fs ≤ ranks (grown_from places at ps fs)
-grown_more places at [] [] e = omega arith
-grown_more places at [] (f ∷ fs) e = absurd (omega (arith, e))
-grown_more places at (p ∷ ps) [] e = absurd (omega (arith, e))
-grown_more places at (p ∷ ps) (f ∷ fs) e =
-    let rest = grown_more places (at + words_of p f) ps fs (omega (arith, e)) in
-    let own = longer_more f (needed places at p) in
+pub grown_more : (far : List ℕ → Bool) (places : ℕ → ℕ) (at : ℕ) (ps : List Piece) (fs : List Form) → length fs ≡ length ps → ranks fs ≤ ranks (grown_from far places at ps fs)
+grown_more far places at [] [] e = omega arith
+grown_more far places at [] (f ∷ fs) e = absurd (omega (arith, e))
+grown_more far places at (p ∷ ps) [] e = absurd (omega (arith, e))
+grown_more far places at (p ∷ ps) (f ∷ fs) e =
+    let rest = grown_more far places (at + words_of p f) ps fs (omega (arith, e)) in
+    let own = longer_more f (needed far places at p) in
     omega (arith, rest, own)
 
-pub settled : (places : ℕ → ℕ) (at : ℕ) (ps : List Piece) (fs : List Form) → length fs ≡ length ps → ranks (grown_from places at ps fs) ≤ ranks fs → ReachFrom places at ps fs
-settled places at [] [] e h = tt
-settled places at [] (f ∷ fs) e h = absurd (omega (arith, e))
-settled places at (p ∷ ps) [] e h = absurd (omega (arith, e))
-settled places at (p ∷ ps) (f ∷ fs) e h =
-    let more = grown_more places (at + words_of p f) ps fs (omega (arith, e)) in
-    let own = longer_more f (needed places at p) in (
-      (longer_same f (needed places at p) (omega (arith, h, more))).1,
-      settled places (at + words_of p f) ps fs (omega (arith, e)) (omega (arith, h, own)),
+pub settled : (far : List ℕ → Bool) (places : ℕ → ℕ) (at : ℕ) (ps : List Piece) (fs : List Form) → length fs ≡ length ps → ranks (grown_from far places at ps fs) ≤ ranks fs → SufficeFrom far places at ps fs
+settled far places at [] [] e h = tt
+settled far places at [] (f ∷ fs) e h = absurd (omega (arith, e))
+settled far places at (p ∷ ps) [] e h = absurd (omega (arith, e))
+settled far places at (p ∷ ps) (f ∷ fs) e h =
+    let more = grown_more far places (at + words_of p f) ps fs (omega (arith, e)) in
+    let own = longer_more f (needed far places at p) in (
+      (longer_same f (needed far places at p) (omega (arith, h, more))).1,
+      settled far places (at + words_of p f) ps fs (omega (arith, e)) (omega (arith, h, own)),
     )
 
 -- Forms that are below all in which each label is reached, and that a round leaves as they are, are
 -- those of the function.
-pub are_forms : (ps : List Piece) (fs : List Form) → length fs ≡ length ps → ((gs : List Form) → Reach ps gs → NoLonger fs gs) →
-    ranks (grown_from (place_of ps fs) 0 ps fs) ≤ ranks fs → AreForms ps fs
-are_forms ps fs e least h = record { reach = settled (place_of ps fs) 0 ps fs e h; least = least }
+pub are_forms : (far : List ℕ → Bool) (ps : List Piece) (fs : List Form) → length fs ≡ length ps → ((gs : List Form) → Suffice far ps gs → NoLonger fs gs) →
+    ranks (grown_from far (place_of ps fs) 0 ps fs) ≤ ranks fs → AreForms far ps fs
+are_forms far ps fs e least h = record { suffice = settled far (place_of ps fs) 0 ps fs e h; least = least }
 
 -- ---- there is one such list
 
@@ -364,5 +400,5 @@ no_longer_both (f ∷ fs) (g ∷ gs) h k =
     let rest = no_longer_both fs gs h.1 k.1 in
     cc
 
-pub forms_once : (ps : List Piece) (fs gs : List Form) → AreForms ps fs → AreForms ps gs → fs ≡ gs
-forms_once ps fs gs a b = no_longer_both fs gs (a.least gs b.reach) (b.least fs a.reach)
+pub forms_once : (far : List ℕ → Bool) (ps : List Piece) (fs gs : List Form) → AreForms far ps fs → AreForms far ps gs → fs ≡ gs
+forms_once far ps fs gs a b = no_longer_both fs gs (a.least gs b.suffice) (b.least fs a.suffice)

@@ -8,7 +8,7 @@ use Rattle.image_form.specs.Tables.{Desc}
 use Rattle.layout_rules.specs.declared.form.Form.{Form}
 use Rattle.layout_rules.specs.declared.form.Form.TheVariants.{Near, Middle, Far}
 use Rattle.layout_rules.specs.Conditions.{AreDescriptors, IsDescriptor, IsFunctionLaid, IsRowLaid}
-use Rattle.layout_rules.specs.Forms.{branch_words, jump_words, words_of, total_words}
+use Rattle.layout_rules.specs.Forms.{branch_words, jump_words, call_words, words_of, total_words}
 use Rattle.layout_rules.specs.Laid.{rows_from, descs_in, descs_from}
 use Rattle.rv_pieces.specs.declared.piece.Piece.{Piece}
 use Rattle.rv_pieces.specs.declared.piece.Piece.TheVariants.{Known, Label, Branch, Jump, Row, LabelAddress, Call, TailCall, SymbolAddress, ExternalNumber, Descriptor}
@@ -23,6 +23,11 @@ pub jump_some : (f : Form) → 1 ≤ jump_words f
 jump_some Near = omega arith
 jump_some Middle = omega arith
 jump_some Far = omega arith
+
+call_some : (f : Form) → 1 ≤ call_words f
+call_some Near = omega arith
+call_some Middle = omega arith
+call_some Far = omega arith
 
 -- ---- descriptors
 
@@ -81,9 +86,9 @@ descs_rise prev at behind (Row l ∷ ps) (f ∷ fs) rest are h k rises =
 descs_rise prev at behind (LabelAddress r l ∷ ps) (f ∷ fs) rest are h k rises =
     past_words (words_of (LabelAddress r l) f) prev at (total_words ps fs) rest (omega arith) h rises (descs_rise prev (at + words_of (LabelAddress r l) f) true ps fs rest are)
 descs_rise prev at behind (Call name ∷ ps) (f ∷ fs) rest are h k rises =
-    past_words (words_of (Call name) f) prev at (total_words ps fs) rest (omega arith) h rises (descs_rise prev (at + words_of (Call name) f) true ps fs rest are)
+    past_words (words_of (Call name) f) prev at (total_words ps fs) rest (call_some f) h rises (descs_rise prev (at + words_of (Call name) f) true ps fs rest are)
 descs_rise prev at behind (TailCall name ∷ ps) (f ∷ fs) rest are h k rises =
-    past_words (words_of (TailCall name) f) prev at (total_words ps fs) rest (omega arith) h rises (descs_rise prev (at + words_of (TailCall name) f) true ps fs rest are)
+    past_words (words_of (TailCall name) f) prev at (total_words ps fs) rest (call_some f) h rises (descs_rise prev (at + words_of (TailCall name) f) true ps fs rest are)
 descs_rise prev at behind (SymbolAddress r name ∷ ps) (f ∷ fs) rest are h k rises =
     past_words (words_of (SymbolAddress r name) f) prev at (total_words ps fs) rest (omega arith) h rises (descs_rise prev (at + words_of (SymbolAddress r name) f) true ps fs rest are)
 descs_rise prev at behind (ExternalNumber r row ∷ ps) (f ∷ fs) rest are h k rises =
@@ -127,10 +132,10 @@ descs_keep len prev at behind (LabelAddress r l ∷ ps) (f ∷ fs) m h k are in_
     within_words (words_of (LabelAddress r l) f) prev at (total_words ps fs) len (omega arith) h in_code
     (λ x y z. descs_keep len prev (at + words_of (LabelAddress r l) f) true ps fs m x y are z)
 descs_keep len prev at behind (Call name ∷ ps) (f ∷ fs) m h k are in_code =
-    within_words (words_of (Call name) f) prev at (total_words ps fs) len (omega arith) h in_code
+    within_words (words_of (Call name) f) prev at (total_words ps fs) len (call_some f) h in_code
     (λ x y z. descs_keep len prev (at + words_of (Call name) f) true ps fs m x y are z)
 descs_keep len prev at behind (TailCall name ∷ ps) (f ∷ fs) m h k are in_code =
-    within_words (words_of (TailCall name) f) prev at (total_words ps fs) len (omega arith) h in_code
+    within_words (words_of (TailCall name) f) prev at (total_words ps fs) len (call_some f) h in_code
     (λ x y z. descs_keep len prev (at + words_of (TailCall name) f) true ps fs m x y are z)
 descs_keep len prev at behind (SymbolAddress r name ∷ ps) (f ∷ fs) m h k are in_code =
     within_words (words_of (SymbolAddress r name) f) prev at (total_words ps fs) len (omega arith) h in_code

@@ -31,8 +31,12 @@ code_length at to (Jump l) Middle = refl
 code_length at to (Jump l) Far = refl
 code_length at to (Row l) f = refl
 code_length at to (LabelAddress r l) f = refl
-code_length at to (Call name) f = refl
-code_length at to (TailCall name) f = refl
+code_length at to (Call name) Near = refl
+code_length at to (Call name) Middle = refl
+code_length at to (Call name) Far = refl
+code_length at to (TailCall name) Near = refl
+code_length at to (TailCall name) Middle = refl
+code_length at to (TailCall name) Far = refl
 code_length at to (SymbolAddress r name) f = refl
 code_length at to (ExternalNumber r row) f = refl
 code_length at to (Descriptor d) f = refl
@@ -60,8 +64,16 @@ code_fits at to (Jump l) Middle fits a h leads = ((omega arith, omega arith), ((
 code_fits at to (Jump l) Far fits a h leads = ((omega arith, omega arith), ((omega arith, omega arith, omega arith), tt))
 code_fits at to (Row l) f fits a h leads = ((omega arith, omega arith), ((omega arith, omega arith, omega arith), tt))
 code_fits at to (LabelAddress r l) f fits a h leads = ((number-below r, omega arith), ((number-below r, number-below r, omega arith), tt))
-code_fits at to (Call name) f fits a h leads = ((omega arith, omega arith), ((omega arith, omega arith, omega arith), tt))
-code_fits at to (TailCall name) f fits a h leads = ((omega arith, omega arith), ((omega arith, omega arith, omega arith), tt))
+code_fits at to (Call name) Near fits a h leads = ((omega arith, omega arith), ((omega arith, omega arith, omega arith), tt))
+code_fits at to (Call name) Middle fits a h leads =
+    ((omega arith, omega arith), ((omega arith, omega arith, omega arith), ((omega arith, omega arith, omega arith), tt)))
+code_fits at to (Call name) Far fits a h leads =
+    ((omega arith, omega arith), ((omega arith, omega arith, omega arith), ((omega arith, omega arith, omega arith), tt)))
+code_fits at to (TailCall name) Near fits a h leads = ((omega arith, omega arith), ((omega arith, omega arith, omega arith), tt))
+code_fits at to (TailCall name) Middle fits a h leads =
+    ((omega arith, omega arith), ((omega arith, omega arith, omega arith), ((omega arith, omega arith, omega arith), tt)))
+code_fits at to (TailCall name) Far fits a h leads =
+    ((omega arith, omega arith), ((omega arith, omega arith, omega arith), ((omega arith, omega arith, omega arith), tt)))
 code_fits at to (SymbolAddress r name) f fits a h leads = ((number-below r, omega arith), ((number-below r, number-below r, omega arith), tt))
 code_fits at to (ExternalNumber r row) f fits a h leads = ((number-below r, omega arith), ((number-below r, number-below r, omega arith), tt))
 code_fits at to (Descriptor d) f fits a h leads = tt

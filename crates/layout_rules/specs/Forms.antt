@@ -22,6 +22,13 @@ jump_words Near = 1
 jump_words Middle = 2
 jump_words Far = 2
 
+-- auipc and jalr, however far the callee is from here; or its address by lui and addi, and jalr,
+-- where no distance is known before the code is linked
+abbrev pub call_words : Form → ℕ
+call_words Near = 2
+call_words Middle = 3
+call_words Far = 3
+
 abbrev pub words_of : Piece → Form → ℕ
 words_of (Known i) form = 1
 words_of (Label l) form = 0
@@ -29,8 +36,8 @@ words_of (Branch c a b l) form = branch_words form
 words_of (Jump l) form = jump_words form
 words_of (Row l) form = 2
 words_of (LabelAddress r l) form = 2
-words_of (Call name) form = 2
-words_of (TailCall name) form = 2
+words_of (Call name) form = call_words form
+words_of (TailCall name) form = call_words form
 words_of (SymbolAddress r name) form = 2
 words_of (ExternalNumber r row) form = 2
 words_of (Descriptor d) form = 0
@@ -80,11 +87,22 @@ branch_form from to =
 abbrev pub jump_form : (from to : ℕ) → Form
 jump_form from to = cond (jal_reaches from to) Near Far
 
--- the shortest form in which a piece at this word reaches its label, where labels have these places
-abbrev pub needed : (places : ℕ → ℕ) → (at : ℕ) → Piece → Form
-needed places at (Branch c a b l) = branch_form at (places l)
-needed places at (Jump l) = jump_form at (places l)
-needed places at _ = Near
+-- a call goes by address where its callee is far, that is where no distance to it is known
+abbrev pub call_form : (is_far : Bool) → Form
+call_form is_far = cond is_far Far Near
+
+-- nothing is far: so it is in an image
+abbrev pub none_far : List ℕ → Bool
+none_far name = false
+
+-- the shortest form in which a piece at this word reaches its label or its callee, where labels
+-- have these places
+abbrev pub needed : (far : List ℕ → Bool) → (places : ℕ → ℕ) → (at : ℕ) → Piece → Form
+needed far places at (Branch c a b l) = branch_form at (places l)
+needed far places at (Jump l) = jump_form at (places l)
+needed far places at (Call name) = call_form (far name)
+needed far places at (TailCall name) = call_form (far name)
+needed far places at _ = Near
 
 abbrev pub rank : Form → ℕ
 rank Near = 0
@@ -93,16 +111,26 @@ rank Far = 2
 
 -- each piece is in a form that reaches, where the first is at `at`: in the shortest one that
 -- does or in a longer one
-abbrev pub ReachFrom : (places : ℕ → ℕ) → (at : ℕ) → List Piece → List Form → Type 0
-ReachFrom places at [] [] = ⊤
-ReachFrom places at [] (f ∷ forms) = ⊥
-ReachFrom places at (p ∷ ps) [] = ⊥
-ReachFrom places at (p ∷ ps) (f ∷ forms) =
-    (rank (needed places at p) ≤ rank f) × ReachFrom places (at + words_of p f) ps forms
+abbrev pub SufficeFrom :
+    (far : List ℕ → Bool) → (places : ℕ → ℕ) → (at : ℕ) → List Piece → List Form → Type 0
+SufficeFrom far places at [] [] = ⊤
+SufficeFrom far places at [] (f ∷ forms) = ⊥
+SufficeFrom far places at (p ∷ ps) [] = ⊥
+SufficeFrom far places at (p ∷ ps) (f ∷ forms) =
+    (rank (needed far places at p) ≤ rank f)
+    × SufficeFrom far places (at + words_of p f) ps forms
 
--- In these forms each branch and jump of the function reaches its label.
+-- In these forms each branch and jump of the function reaches its label, and each call its callee.
+abbrev pub Suffice : (far : List ℕ → Bool) → List Piece → List Form → Type 0
+Suffice far ps forms = SufficeFrom far (place_of ps forms) 0 ps forms
+
+-- In these forms each branch and jump of the function reaches its label: all that a run needs of
+-- them, since a call in any form comes to its callee.
+abbrev pub ReachFrom : (places : ℕ → ℕ) → (at : ℕ) → List Piece → List Form → Type 0
+ReachFrom places at ps forms = SufficeFrom none_far places at ps forms
+
 abbrev pub Reach : List Piece → List Form → Type 0
-Reach ps forms = ReachFrom (place_of ps forms) 0 ps forms
+Reach ps forms = Suffice none_far ps forms
 
 -- no form of the first list is longer than that of the second
 abbrev pub NoLonger : List Form → List Form → Type 0
@@ -111,11 +139,11 @@ NoLonger [] (g ∷ others) = ⊥
 NoLonger (f ∷ forms) [] = ⊥
 NoLonger (f ∷ forms) (g ∷ others) = (rank f ≤ rank g) × NoLonger forms others
 
--- The forms of a function: each branch and jump reaches its label, and wherever each does, no form is
--- shorter than here.
-pub record AreForms (ps : List Piece) (forms : List Form) : Type 0 where
-  pub reach : Reach ps forms
-  pub least : (others : List Form) → Reach ps others → NoLonger forms others
+-- The forms of a function: each branch and jump reaches its label and each call its callee, and
+-- wherever each does, no form is shorter than here.
+pub record AreForms (far : List ℕ → Bool) (ps : List Piece) (forms : List Form) : Type 0 where
+  pub suffice : Suffice far ps forms
+  pub least : (others : List Form) → Suffice far ps others → NoLonger forms others
 
 -- ---- making forms longer
 
@@ -124,11 +152,12 @@ abbrev pub longer : Form → Form → Form
 longer f g = cond (nat_lt (rank f) (rank g)) g f
 
 -- each form, or the longer one that its piece needs, where labels have these places
-abbrev pub grown_from : (places : ℕ → ℕ) → (at : ℕ) → List Piece → List Form → List Form
-grown_from places at [] forms = []
-grown_from places at (p ∷ ps) [] = []
-grown_from places at (p ∷ ps) (f ∷ forms) =
-    longer f (needed places at p) ∷ grown_from places (at + words_of p f) ps forms
+abbrev pub grown_from :
+    (far : List ℕ → Bool) → (places : ℕ → ℕ) → (at : ℕ) → List Piece → List Form → List Form
+grown_from far places at [] forms = []
+grown_from far places at (p ∷ ps) [] = []
+grown_from far places at (p ∷ ps) (f ∷ forms) =
+    longer f (needed far places at p) ∷ grown_from far places (at + words_of p f) ps forms
 
 -- every form is the shortest
 abbrev pub AllNear : List Form → Type 0

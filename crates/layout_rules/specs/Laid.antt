@@ -14,7 +14,7 @@ use Rattle.image_form.specs.Image.{stub, stub_words}
 use Rattle.image_form.specs.Tables.{Tables, Func, Sym, Desc}
 use Rattle.layout_rules.specs.declared.form.Form.{Form}
 use Rattle.layout_rules.specs.Externals.{externals, number_of}
-use Rattle.layout_rules.specs.Forms.{words_of, total_words, place_of, AreForms}
+use Rattle.layout_rules.specs.Forms.{words_of, total_words, place_of, none_far, AreForms, Reach}
 use Rattle.layout_rules.specs.Words.{Named, words_from}
 use Rattle.rv_pieces.specs.Known.{Descr}
 use Rattle.rv_machine.specs.Memory.{code_start}
@@ -135,11 +135,22 @@ laid_out file ps forms =
       descs = descs_from stub_words ps forms;
     }
 
--- the forms of each function
+-- the forms of each function of an image: nothing is far
 abbrev pub AreAllForms : List Pieces → List (List Form) → Type 0
-AreAllForms ps forms = AllZip (λ (p : Pieces) k. AreForms p.code k) ps forms
+AreAllForms ps forms = AllZip (λ (p : Pieces) k. AreForms none_far p.code k) ps forms
 
--- The tables are those of the file, whose functions are these pieces, each in its forms.
+-- in which each branch and jump reaches its label
+abbrev pub AllReach : List Pieces → List (List Form) → Type 0
+AllReach ps forms = AllZip (λ (p : Pieces) k. Reach p.code k) ps forms
+
+-- The tables are those of the file, whose functions are these pieces, in forms that reach: what a
+-- run of the image needs to know. The forms may be longer than the least ones.
+pub record IsLaid (file : FileTree) (ps : List Pieces) (t : Tables) : Type 0 where
+  pub forms : List (List Form)
+  pub reach : AllReach ps forms
+  pub is : t ≡ laid_out file ps forms
+
+-- The tables are those of the file, whose functions are these pieces, each in its least forms.
 pub record IsLaidOut (file : FileTree) (ps : List Pieces) (t : Tables) : Type 0 where
   pub forms : List (List Form)
   pub are : AreAllForms ps forms

@@ -4,7 +4,7 @@ use Rattle.cmm_tree.specs.Tree.{FileTree}
 use Rattle.image_form.specs.Image.{stub_words}
 use Rattle.image_form.specs.Tables.{Tables, Func}
 use Rattle.layout_rules.specs.declared.form.Form.{Form}
-use Rattle.layout_rules.specs.Forms.{words_of, total_words, AreForms}
+use Rattle.layout_rules.specs.Forms.{words_of, total_words, Reach}
 use Rattle.layout_rules.specs.Laid.{address_of_place, names_at}
 use Rattle.layout_rules.specs.Words.{Named, code_of}
 use Rattle.rv_isa.specs.Encoding.{InstrFits, encoded}
@@ -39,9 +39,11 @@ pub record StandsAt (file : FileTree) (entries code : List ℕ) (place : ℕ) (p
   pub has : HasPieces code (names_at file entries place p.code forms) place p.code forms
 
 -- Function k of the file is in the image: what a run of its pieces needs to know of the code.
-pub record Stands (file : FileTree) (entries : List ℕ) (t : Tables) (k : ℕ) (p : Pieces) : Type 0 where
+pub record Stands (file : FileTree) (entries : List ℕ) (all : List (List Form)) (t : Tables) (k : ℕ)
+    (p : Pieces) : Type 0 where
   pub forms : List Form
-  pub are : AreForms p.code forms
+  pub chosen : slice_get all k ≡ Some forms
+  pub reach : Reach p.code forms
   pub place : ℕ
   pub entry : slice_get entries k ≡ Some place
   pub row : Func

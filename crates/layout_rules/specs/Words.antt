@@ -73,6 +73,12 @@ branch_code Middle c a b at to =
 branch_code Far c a b at to =
     instr.Branch (inverted c) (number a) (number b) 12 ∷ far_jump 0 t1 (at + 4) to
 
+-- A call by the distance to its callee, or by the address of that.
+abbrev pub call_code : Form → (link through at to : ℕ) → List Instr
+call_code Near link through at to = far_jump link through at to
+call_code Middle link through at to = number_into through to ++ instr.Jalr link through 0 ∷ []
+call_code Far link through at to = number_into through to ++ instr.Jalr link through 0 ∷ []
+
 abbrev pub jump_code : Form → (at to : ℕ) → List Instr
 jump_code Near at to = instr.Jal 0 (jal_offset at to) ∷ []
 jump_code Middle at to = far_jump 0 t1 at to
@@ -106,8 +112,8 @@ code_to at to (Branch c a b l) form = branch_code form c a b at to
 code_to at to (Jump l) form = jump_code form at to
 code_to at to (Row l) form = far_jump 0 t1 at to
 code_to at to (LabelAddress r l) form = address_into (number r) at to
-code_to at to (Call name) form = far_jump ra ra at to
-code_to at to (TailCall name) form = far_jump 0 t1 at to
+code_to at to (Call name) form = call_code form ra ra at to
+code_to at to (TailCall name) form = call_code form 0 t1 at to
 code_to at to (SymbolAddress r name) form = number_into (number r) to
 code_to at to (ExternalNumber r row) form = number_into (number r) to
 code_to at to (Descriptor d) form = []

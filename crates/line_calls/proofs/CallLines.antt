@@ -49,7 +49,7 @@ use Rattle.line_values.proofs.Operands.{fetches}
 use Rattle.lin_laws.proofs.Forms.{same_machine}
 use Rattle.line_calls.specs.Calls.{CalledSo, FollowsSo}
 use Rattle.line_calls.specs.Points.{EntriesStand}
-use Rattle.line_calls.proofs.CallWords.{call_leads, call_words_are, named_leads}
+use Rattle.line_calls.proofs.CallWords.{call_leads, named_leads}
 use Rattle.line_calls.proofs.Calling.{below, callee_begins, resumes_with, resumes_without, vals_held}
 use Rattle.line_calls.proofs.Leaving.{no_offset}
 use Rattle.line_calls.proofs.Seats.{arguments_read, first_seated, was_read}
@@ -197,11 +197,10 @@ module _ (s : Fixed) (n : Named) (laid : Laid) (live : List Line → Type 0) (en
           let known = symbol (Function f) is_f in
           let address : n.symbol name ≡ code_start + 4 * entry f = known.is ∙ entries.is f known.known in
           let low = entry_near s entry f entries known.known in
-          let two = call_words_are s n v within.own.are name (v.place + k) (entry f) address low part in
-          let same : v.place + 2 ≡ v.place + k = sym two in
-          calls_at_view (callee.Symbol name) args f xs v 0 2 (omega (arith, two)) (omega arith) (stays s v) within
-          (subst (λ p. Leads s 2 v (record v { place = entry f; registers = slice_set v.registers 1 (address_of_place p) })) same
-          (named_leads s n v within.own.are name (v.place + k) (entry f) address low part)) fits whole (passed_on args xs seats h)
+          let by = named_leads s n v within.own.are name (v.place + k) (entry f) address low part in
+          let past = by.past in
+          calls_at_view (callee.Symbol name) args f xs v 0 by.count (omega (arith, past)) by.some (stays s v) within by.leads fits whole
+          (passed_on args xs seats h)
 
       by_fit : (xs : List Value) → values place.setting.end file args ≡ Some xs → (t : Bool) → are_vals place.setting.end (named (length next)) file ≡ t →
           FollowsSo k s laid live entry c v (laid.frame + 16 * length a.tries) (unless_misnamed t (on_act place m (does (callee.Symbol name) args) next

@@ -2,31 +2,36 @@
 use Rattle.std.proofs.Common.{◌≡◌, ◌≢◌, ℕ, ◌+◌, ◌*◌, ◌^◌, ◌<◌, inl, inr, true, List, [], ◌∷◌, ◌++◌, length, map, Some, None, slice_get, slice_index, refl, ap, arith, ◌∙◌, sym, subst, ⊎_elim}
 use Rattle.std.proofs.lemmas.Option.{slice_get_within}
 use Rattle.bs_words.specs.Word.{add_word}
-use Rattle.bs_words.proofs.Below.{add_word-below}
+use Rattle.bs_words.proofs.Below.{add_word-below, sext_word-below}
 use Rattle.bs_words.specs.declared.types.Loc.TheVariants as loc
 use Rattle.bs_words.specs.declared.values.Value.{Value}
 use Rattle.emit_rules.specs.Entry.{given_back}
 use Rattle.layout_rules.specs.Laid.{address_of_place}
-use Rattle.layout_rules.specs.Words.{Named, distance, upper}
+use Rattle.layout_rules.specs.Words.{Named, call_code, distance, upper}
+use Rattle.layout_rules.specs.declared.form.Form.{Form}
+use Rattle.layout_rules.specs.declared.form.Form.TheVariants.{Near, Middle, Far}
+use Rattle.layout_rules.specs.Forms.{call_words}
 use Rattle.emit_rules.specs.Instructions.{low_12}
-use Rattle.layout_rules.proofs.Offsets.{far_lands}
+use Rattle.layout_rules.proofs.Offsets.{far_lands, number_lands}
 use Rattle.lin_ir.specs.Meaning.{Locations}
 use Rattle.mach_ir.specs.Acts.{Around, is_complete}
 use Rattle.mach_ir.specs.Runs.{entered}
 use Rattle.rv_isa.specs.Encoding.{encoded}
 use Rattle.rv_isa.specs.declared.instr.Instr.{Instr}
-use Rattle.rv_isa.specs.declared.instr.Instr.TheVariants.{Auipc}
+use Rattle.rv_isa.specs.declared.instr.Instr.TheVariants.{Auipc, Jalr, Lui, OpImm}
+use Rattle.rv_isa.specs.declared.instr.AluImmOp.TheVariants.{Addi}
 use Rattle.rv_machine.specs.Arithmetic.{imm_i, imm_u}
 use Rattle.rv_machine.specs.Hart.{Placed}
 use Rattle.rv_machine.specs.Memory.{code_start}
 use Rattle.rv_pieces.specs.declared.piece.Piece.TheVariants.{TailCall}
+use Rattle.moving_laws.specs.Stands.{Among}
 use Rattle.moving_laws.specs.Values.{function_at}
 use Rattle.moving_laws.specs.Waiting.{traps_at}
 use Rattle.linear_machine.specs.Moments.{AtEntry}
 use Rattle.linear_machine.specs.Relation.{AreCarried, Below, HeapStands, Laid, StandsFor, TrapsStand, Waits, Within, all_of}
 use Rattle.linear_machine.specs.Straight.{Differs}
-use Rattle.linear_machine.specs.View.{Fixed, IsCode, View}
-use Rattle.linear_machine.proofs.Formats.{sets_auipc}
+use Rattle.linear_machine.specs.View.{Fixed, HasCode, IsCode, View}
+use Rattle.linear_machine.proofs.Formats.{sets_auipc, sets_imm, sets_lui}
 use Rattle.linear_machine.proofs.Frames.{heap_whole}
 use Rattle.linear_machine.proofs.Sequences.{sets_as}
 use Rattle.linear_machine.proofs.Standing.{own_past}
@@ -38,7 +43,7 @@ use Rattle.line_calls.specs.Leading.{Leaves}
 use Rattle.line_calls.specs.Points.{EntriesStand}
 use Rattle.line_calls.specs.Reaches.{Reaches}
 use Rattle.line_calls.specs.Laws.{frame_in}
-use Rattle.line_calls.proofs.Leaving.{given_back_reaches, jump_behind}
+use Rattle.line_calls.proofs.Leaving.{given_back_reaches, jump_behind, no_offset}
 use Rattle.line_calls.proofs.Reaching.{arrived, reaches_as, reaches_more, reaches_set}
 
 -- ---- places of the code
@@ -107,44 +112,146 @@ module _ (s : Fixed) (n : Named) (laid : Laid) (v : View) (young : List Placed) 
     (entry : ℕ → ℕ) (f : ℕ) (entries : EntriesStand s entry) (inside : f < length s.image.funcs) where
   -- ---- by name
 
+  abbrev rs : List ℕ
+  rs = 1 ∷ 2 ∷ 6 ∷ 7 ∷ []
+
+  -- the frame is given back, at a place
+  abbrev Given : View → Type 0
+  Given w = (slice_index w.registers 2 ≡ c.top) × (slice_index w.registers 1 ≡ c.back)
+
+  -- t1 holds where the callee is, but for what the jump adds
+  abbrev Holds : ℕ → View → Type 0
+  Holds imm w = (add_word (slice_index w.registers 6) (imm_i imm) ≡ code_start + 4 * entry f) × Given w
+
+  record Jumps (to : ℕ) : Type 0 where
+    at : ℕ
+    past : to ≡ at + 1
+    imm : ℕ
+    reaches : Reaches s v at rs v.memory (Holds imm)
+    code : IsCode s at (Jalr 0 6 imm)
+
+  module _ (middle to address : ℕ) (wide : Reaches s v middle rs v.memory Given) (is : address ≡ code_start + 4 * entry f) where
+    low : code_start + 4 * entry f < 2 ^ 28
+    low = entry_near s entry f entries inside
+
+    abbrev u : View
+    u = wide.changes.view
+
+    here : u.place ≡ middle
+    here = arrived s v middle rs v.memory _ wide
+
+    -- t1 gets a value by one more instruction
+    abbrev Sixth : ℕ → View → View → Type 0
+    Sixth value z w = (slice_index w.registers 6 ≡ value) × ((q : ℕ) → (Among q (6 ∷ []) → ⊥) → slice_index w.registers q ≡ slice_index z.registers q)
+
+    apart_six : (q : ℕ) → q ≢ 6 → Among q (6 ∷ []) → ⊥
+    apart_six q n i = ⊎_elim n (λ z. z) i
+
+    among_six : (q : ℕ) → Among q (6 ∷ []) → Among q rs
+    among_six q i = ⊎_elim (λ h. inr (inr (inl h))) (λ z. absurd z) i
+
+    -- ---- by the distance
+
+    by_distance : HasCode s middle (call_code Near 0 6 (address_of_place middle) address) → to ≡ middle + 2 → Jumps to
+    by_distance code past =
+        let near = place_near s middle _ code.0 in
+        let d : ℕ = distance (address_of_place middle) address in
+        let half : ℕ = add_word (code_start + 4 * middle) (imm_u (upper d)) in
+        let same : add_word (code_start + 4 * u.place) (imm_u (upper d)) ≡ half = ap (λ p. add_word (code_start + 4 * p) (imm_u (upper d))) here in
+        let both : Reaches s v (middle + 1) rs v.memory (Sixth half u) =
+        reaches_more s v middle (middle + 1) rs (6 ∷ []) v.memory _ _ wide among_six
+        (reaches_set s u (middle + 1) (Auipc 6 (upper d)) 5 half (subst (λ p. IsCode s p (Auipc 6 (upper d))) (sym here) code.0) (omega
+        (arith, here))
+        (inl (λ q. omega (arith, q))) (sets_as s u (Auipc 6 (upper d)) 6 _ half same (sets_auipc s u 6 (upper d))) wide.changes.past.are (omega arith)
+        (add_word-below _ _)) in
+        let lands : add_word half (imm_i (low_12 d)) ≡ code_start + 4 * entry f =
+        far_lands (address_of_place middle) address (omega (arith, near)) (omega (arith, is, low)) ∙ is in
+        record {
+          at = middle + 1;
+          past = omega (arith, past);
+          imm = low_12 d;
+          reaches = reaches_as s v (middle + 1) rs rs v.memory (Sixth half u) (Holds (low_12 d)) (λ q i. i)
+              (λ w n p h. (
+                ap (λ x. add_word x (imm_i (low_12 d))) h.0 ∙ lands,
+                (h.1 2 (apart_six 2 (λ q. omega (arith, q))) ∙ wide.changes.holds.0, h.1 1 (apart_six 1 (λ q. omega (arith, q))) ∙ wide.changes.holds.1),
+              )) both;
+          code = code.1.0;
+        }
+
+    -- ---- by the address
+
+    abbrev Sixes : ℕ → View → Type 0
+    Sixes value w = (slice_index w.registers 6 ≡ value) × Given w
+
+    high_there : IsCode s middle (Lui 6 (upper address)) → Reaches s v (middle + 1) rs v.memory (Sixes (imm_u (upper address)))
+    high_there code =
+        let high : ℕ = imm_u (upper address) in
+        let first : Reaches s v (middle + 1) rs v.memory (Sixth high u) =
+        reaches_more s v middle (middle + 1) rs (6 ∷ []) v.memory _ _ wide among_six
+        (reaches_set s u (middle + 1) (Lui 6 (upper address)) 5 high (subst (λ p. IsCode s p (Lui 6 (upper address))) (sym here) code) (omega
+        (arith, here))
+        (inl (λ q. omega (arith, q))) (sets_lui s u 6 (upper address)) wide.changes.past.are (omega arith) (sext_word-below _ 32)) in
+        reaches_as s v (middle + 1) rs rs v.memory (Sixth high u) (Sixes high) (λ q i. i)
+        (λ w n p h. (
+          h.0,
+          (h.1 2 (apart_six 2 (λ q. omega (arith, q))) ∙ wide.changes.holds.0, h.1 1 (apart_six 1 (λ q. omega (arith, q))) ∙ wide.changes.holds.1),
+        )) first
+
+    by_address : HasCode s middle (call_code Far 0 6 (address_of_place middle) address) → to ≡ middle + 3 → Jumps to
+    by_address code past =
+        let high : ℕ = imm_u (upper address) in
+        let first = high_there code.0 in
+        let z = first.changes.view in
+        let there : z.place ≡ middle + 1 = arrived s v (middle + 1) rs v.memory _ first in
+        let value : add_word (slice_index z.registers 6) (imm_i (low_12 address)) ≡ address =
+        ap (λ x. add_word x (imm_i (low_12 address))) first.changes.holds.0 ∙ number_lands address (omega (arith, is, low)) in
+        let both : Reaches s v (middle + 2) rs v.memory (Sixth address z) =
+        reaches_more s v (middle + 1) (middle + 2) rs (6 ∷ []) v.memory _ _ first among_six
+        (reaches_set s z (middle + 2) (OpImm Addi 6 6 (low_12 address)) 5 address (subst (λ p. IsCode s p (OpImm Addi 6 6 (low_12 address))) (sym there)
+        code.1.0) (omega (arith, there))
+        (inl (λ q. omega (arith, q)))
+        (sets_as s z (OpImm Addi 6 6 (low_12 address)) 6 _ address value (sets_imm s z Addi 6 6 (low_12 address))) first.changes.past.are (omega arith)
+        (omega (arith, is, low))) in
+        let e : middle + 1 + 1 ≡ middle + 2 = omega arith in
+        record {
+          at = middle + 2;
+          past = omega (arith, past);
+          imm = 0;
+          reaches = reaches_as s v (middle + 2) rs rs v.memory (Sixth address z) (Holds 0) (λ q i. i)
+              (λ w n p h. (
+                no_offset (slice_index w.registers 6) (code_start + 4 * entry f) (h.0 ∙ is) (omega (arith, low)),
+                (h.1 2 (apart_six 2 (λ q. omega (arith, q))) ∙ first.changes.holds.1.0, h.1 1 (apart_six 1 (λ q. omega (arith, q))) ∙ first.changes.holds.1.1),
+              )) both;
+          code = subst (λ p. IsCode s p (Jalr 0 6 0)) e code.1.1.0;
+        }
+
+    by_form : (g : Form) → HasCode s middle (call_code g 0 6 (address_of_place middle) address) → to ≡ middle + call_words g → Jumps to
+    by_form Near code past = by_distance code past
+    by_form Middle code past = by_address code past
+    by_form Far code past = by_address code past
+
   pub named_replaces :
       (name : List ℕ) (to : ℕ) → n.symbol name ≡ function_at s.image.funcs f → PartStands s n v.place to (given_back (frame_in laid) ++ TailCall name ∷ []) →
       Leaves s v to (λ w. AtEntry s w young (entry f) arguments a.memory c)
   named_replaces name to is st =
       let parts = splits s n v.place to (given_back (frame_in laid)) (TailCall name ∷ []) st in
       let call = begins s n parts.middle to (TailCall name) [] parts.second in
-      let past = nothing_more s n (parts.middle + 2) to call.rest in
+      let past = nothing_more s n (parts.middle + call_words call.form) to call.rest in
       let first = given_back_reaches s n laid v young held a c within left parts.middle parts.first in
-      let wide : Reaches s v parts.middle (1 ∷ 2 ∷ 6 ∷ 7 ∷ []) v.memory (λ w. (slice_index w.registers 2 ≡ c.top) × (slice_index w.registers 1 ≡ c.back)) =
-      reaches_as s v parts.middle (1 ∷ 2 ∷ 7 ∷ []) (1 ∷ 2 ∷ 6 ∷ 7 ∷ []) v.memory _ _
+      let wide : Reaches s v parts.middle rs v.memory Given =
+      reaches_as s v parts.middle (1 ∷ 2 ∷ 7 ∷ []) rs v.memory _ _
       (λ q i. ⊎_elim (λ h. inl h) (λ j. ⊎_elim (λ h. inr (inl h)) (λ h. inr (inr (inr h))) j) i) (λ w m p h. h) first in
-      let u = wide.changes.view in
-      let here = arrived s v parts.middle (1 ∷ 2 ∷ 6 ∷ 7 ∷ []) v.memory _ wide in
-      let from : ℕ = address_of_place parts.middle in
-      let address : n.symbol name ≡ code_start + 4 * entry f = is ∙ entries.is f inside in
-      let near = place_near s parts.middle _ call.code.0 in
-      let far = entry_near s entry f entries inside in
-      let d : ℕ = distance from (n.symbol name) in
-      let half : ℕ = add_word (code_start + 4 * parts.middle) (imm_u (upper d)) in
-      let same : add_word (code_start + 4 * u.place) (imm_u (upper d)) ≡ half = ap (λ p. add_word (code_start + 4 * p) (imm_u (upper d))) here in
-      let both = reaches_more s v parts.middle (parts.middle + 1) (1 ∷ 2 ∷ 6 ∷ 7 ∷ []) (6 ∷ []) v.memory _ _ wide
-      (λ q i. ⊎_elim (λ h. inr (inr (inl h))) (λ z. absurd z) i)
-      (reaches_set s u (parts.middle + 1) (Auipc 6 (upper d)) 5 half (subst (λ p. IsCode s p (Auipc 6 (upper d))) (sym here) call.code.0) (omega
-      (arith, here))
-      (inl (λ q. omega (arith, q))) (sets_as s u (Auipc 6 (upper d)) 6 _ half same (sets_auipc s u 6 (upper d))) wide.changes.past.are (omega arith)
-      (add_word-below _ _)) in
+      let j = by_form parts.middle to (n.symbol name) wide (is ∙ entries.is f inside) call.form call.code past in
+      let both = j.reaches in
       let z = both.changes.view in
-      let six : slice_index z.registers 6 ≡ half = both.changes.holds.0 in
-      let lands : add_word (slice_index z.registers 6) (imm_i (low_12 d)) ≡ code_start + 4 * entry f =
-      subst (λ x. add_word x (imm_i (low_12 d)) ≡ add_word half (imm_i (low_12 d))) (sym six) refl ∙ far_lands from (n.symbol name) (omega (arith, near))
-      (omega (arith, address, far)) ∙ address in
       let k = both.lands in
+      let p = j.past in
       record {
         count = both.count + 1;
-        lands = omega (arith, past, k);
+        lands = omega (arith, p, k);
         some = omega arith;
         view = at_place (entry f) z;
-        leads = jump_behind s v (parts.middle + 1) (1 ∷ 2 ∷ 6 ∷ 7 ∷ []) v.memory _ both 6 (low_12 d) (entry f) call.code.1.0 lands;
+        leads = jump_behind s v j.at rs v.memory _ both 6 j.imm (entry f) j.code both.changes.holds.0;
         holds = replaces s laid v (at_place (entry f) z) young held a c within
             (record {
               are = both.changes.past.are;
@@ -152,6 +259,5 @@ module _ (s : Fixed) (n : Named) (laid : Laid) (v : View) (young : List Placed) 
               memory = both.changes.past.memory;
               blocks = both.changes.past.blocks;
             })
-            (both.changes.holds.1 2 (λ i. ⊎_elim (λ q. omega (arith, q)) (λ z. z) i) ∙ wide.changes.holds.0)
-            (both.changes.holds.1 1 (λ i. ⊎_elim (λ q. omega (arith, q)) (λ z. z) i) ∙ wide.changes.holds.1) none left whole (entry f) arguments refl args;
+            both.changes.holds.1.0 both.changes.holds.1.1 none left whole (entry f) arguments refl args;
       }

@@ -1,6 +1,6 @@
 -- Parts are read piece by piece.
 use Rattle.std.proofs.Common.{◌≡◌, ℕ, ◌+◌, ◌≤◌, List, [], ◌∷◌, ◌++◌, arith, subst, sym}
-use Rattle.layout_rules.specs.Forms.{ReachFrom, needed, rank, total_words, words_of}
+use Rattle.layout_rules.specs.Forms.{ReachFrom, none_far, needed, rank, total_words, words_of}
 use Rattle.layout_rules.specs.Laid.{address_of_place}
 use Rattle.layout_rules.specs.Stands.{HasPieces}
 use Rattle.layout_rules.specs.Stands as layout
@@ -58,7 +58,7 @@ module _ (s : Fixed) (n : Named) where
   pub record Begins (at to : ℕ) (x : Piece) (ys : List Piece) : Type 0 where
     pub form : Form
     pub code : HasCode s at (code_of n (address_of_place at) x form)
-    pub reaches : rank (needed (label_place n) at x) ≤ rank form
+    pub reaches : rank (needed none_far (label_place n) at x) ≤ rank form
     pub rest : PartStands s n (at + words_of x form) to ys
 
   begins_by : (x : Piece) (ys : List Piece) (forms : List Form) (at to : ℕ) → HasPieces s.image.code n at (x ∷ ys) forms →
@@ -160,7 +160,7 @@ module _ (s : Fixed) (n : Named) where
   pub record Starts (at k : ℕ) (x : Piece) (ys : List Piece) : Type 0 where
     pub form : Form
     pub code : HasCode s at (code_of n (address_of_place at) x form)
-    pub reaches : rank (needed (label_place n) at x) ≤ rank form
+    pub reaches : rank (needed none_far (label_place n) at x) ≤ rank form
     pub others : ℕ
     pub sum : k ≡ words_of x form + others
     pub rest : PartStands s n (at + words_of x form) (at + words_of x form + others) ys

@@ -4,7 +4,7 @@ use Rattle.std.specs.List.{AllZip}
 use Rattle.cmm_tree.specs.Tree.{FunctionTree, FileTree, functions}
 use Rattle.image_form.specs.Tables.{Tables}
 use Rattle.laid_parts.specs.Laid.{IsLaidOutAs}
-use Rattle.line_stands.specs.Known.{IsLaidOut}
+use Rattle.line_stands.specs.Known.{IsLaid}
 use Rattle.lin_ir.specs.declared.descr.Descr.{Descr}
 use Rattle.lin_ir.specs.declared.lin.Lin.{Lin}
 use Rattle.made_functions.specs.Chained.{IsChained}
@@ -27,5 +27,5 @@ pub record IsFunctionExact (tree : FunctionTree) (pieces : Pieces) : Type 0 wher
 -- The image is laid out of such pieces, one for each function of the file, in order.
 pub record IsExact (file : FileTree) (image : Tables) : Type 0 where
   pub pieces : List Pieces
-  pub laid : IsLaidOut file pieces image
+  pub laid : IsLaid file pieces image
   pub each : AllZip IsFunctionExact (functions file) pieces

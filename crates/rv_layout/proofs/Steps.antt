@@ -3,7 +3,7 @@ use Rattle.std.proofs.Common.{◌≡◌, ℕ, zero, suc, ◌+◌, ◌≤◌, ◌
 use Rattle.std.proofs.lemmas.List.{drop_all, append-nil}
 use Rattle.layout_rules.specs.declared.form.Form.{Form}
 use Rattle.layout_rules.specs.declared.form.Form.TheVariants.{Near}
-use Rattle.layout_rules.specs.Forms.{words_of, needed, longer, grown_from, AllNear, ranks}
+use Rattle.layout_rules.specs.Forms.{words_of, none_far, needed, longer, grown_from, AllNear, ranks}
 use Rattle.layout_rules.specs.Laid.{desc_at, descs_in}
 use Rattle.rv_layout.specs.Descs.{desc_in}
 use Rattle.rv_layout.specs.Tables.{LabelBelow, LabelsBelow}
@@ -23,7 +23,7 @@ below_step c i ps p h e own rest = subst (LabelsBelow c) (sym (drop_step ps i p 
 
 -- ---- forms
 
-pub needed_same : (places places' : ℕ → ℕ) (at : ℕ) (p : Piece) → ((l : ℕ) → places l ≡ places' l) → needed places at p ≡ needed places' at p
+pub needed_same : (places places' : ℕ → ℕ) (at : ℕ) (p : Piece) → ((l : ℕ) → places l ≡ places' l) → needed none_far places at p ≡ needed none_far places' at p
 needed_same places places' at (Known i) e = refl
 needed_same places places' at (Label k) e = refl
 needed_same places places' at (Branch c a b k) e = rw (e k) refl
@@ -36,7 +36,7 @@ needed_same places places' at (SymbolAddress r name) e = refl
 needed_same places places' at (ExternalNumber r row) e = refl
 needed_same places places' at (Descriptor d) e = refl
 
-pub grown_same : (places places' : ℕ → ℕ) (at : ℕ) (ps : List Piece) (fs : List Form) → ((l : ℕ) → places l ≡ places' l) → grown_from places at ps fs ≡ grown_from places' at ps fs
+pub grown_same : (places places' : ℕ → ℕ) (at : ℕ) (ps : List Piece) (fs : List Form) → ((l : ℕ) → places l ≡ places' l) → grown_from none_far places at ps fs ≡ grown_from none_far places' at ps fs
 grown_same places places' at [] fs e = refl
 grown_same places places' at (p ∷ ps) [] e = refl
 grown_same places places' at (p ∷ ps) (f ∷ fs) e =
@@ -46,19 +46,19 @@ grown_same places places' at (p ∷ ps) (f ∷ fs) e =
 
 pub grown_step : (places : ℕ → ℕ) (code : List Piece) (forms next all : List Form) (i at : ℕ) (p : Piece) (d : Form) →
     i < length code → p ≡ get_or code i p → i < length forms →
-    next ++ grown_from places at (drop i code) (drop i forms) ≡ all →
-    (next ++ longer (get_or forms i d) (needed places at p) ∷ []) ++ grown_from places (at + words_of p (get_or forms i d)) (drop (i + 1) code) (drop (i + 1) forms) ≡ all
+    next ++ grown_from none_far places at (drop i code) (drop i forms) ≡ all →
+    (next ++ longer (get_or forms i d) (needed none_far places at p) ∷ []) ++ grown_from none_far places (at + words_of p (get_or forms i d)) (drop (i + 1) code) (drop (i + 1) forms) ≡ all
 grown_step places code forms next all i at p d h e k so_far =
     let f = get_or forms i d in
-    let here : grown_from places at (drop i code) (drop i forms) ≡ longer f (needed places at p) ∷ grown_from places (at + words_of p f) (drop (i + 1) code) (drop (i + 1) forms) =
+    let here : grown_from none_far places at (drop i code) (drop i forms) ≡ longer f (needed none_far places at p) ∷ grown_from none_far places (at + words_of p f) (drop (i + 1) code) (drop (i + 1) forms) =
     rw (drop_step code i p h e, drop_from forms i d k) refl in
-    append_assoc next (longer f (needed places at p) ∷ []) (grown_from places (at + words_of p f) (drop (i + 1) code) (drop (i + 1) forms))
+    append_assoc next (longer f (needed none_far places at p) ∷ []) (grown_from none_far places (at + words_of p f) (drop (i + 1) code) (drop (i + 1) forms))
     ∙ (ap (λ rest. next ++ rest) (sym here) ∙ so_far)
 
 pub grown_end : (places : ℕ → ℕ) (code : List Piece) (forms next all : List Form) (i at : ℕ) → length code ≤ i →
-    next ++ grown_from places at (drop i code) (drop i forms) ≡ all → next ≡ all
+    next ++ grown_from none_far places at (drop i code) (drop i forms) ≡ all → next ≡ all
 grown_end places code forms next all i at h so_far =
-    let none : grown_from places at (drop i code) (drop i forms) ≡ [] = rw (drop_all i code h) refl in
+    let none : grown_from none_far places at (drop i code) (drop i forms) ≡ [] = rw (drop_all i code h) refl in
     sym (append-nil next) ∙ (ap (λ rest. next ++ rest) (sym none) ∙ so_far)
 
 pub all_near : (n : ℕ) → AllNear (replicate n Near)

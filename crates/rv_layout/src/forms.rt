@@ -1,7 +1,7 @@
 //! The forms in which the pieces of a function are laid.
 ghost use Rattle.std.specs.Prelude.{◌≡◌, ◌*◌, ◌<◌, ◌≤◌, ◌^◌, length, IfOk};
-ghost use Rattle.layout_rules.specs.Forms.{branch_words, jump_words, words_of, branch_reaches, jal_reaches};
-ghost use Rattle.layout_rules.specs.Forms.{branch_form, jump_form, needed, rank, ranks, longer, grown_from};
+ghost use Rattle.layout_rules.specs.Forms.{branch_words, jump_words, call_words, words_of, branch_reaches, jal_reaches};
+ghost use Rattle.layout_rules.specs.Forms.{branch_form, jump_form, none_far, needed, rank, ranks, longer, grown_from};
 ghost use Rattle.layout_rules.specs.Forms.{AreForms};
 ghost use Rattle.rv_layout.specs.Tables.{places_of};
 
@@ -32,6 +32,17 @@ fn jump_words(form: Form) -> u64
     }
 }
 
+fn call_words(form: Form) -> u64
+    ensures exact { result ≡ call_words form }
+    ensures most { result ≤ 3 }
+{
+    match form {
+        Form::Near => 2,
+        Form::Middle => 3,
+        Form::Far => 3,
+    }
+}
+
 /// The words of a piece in a form.
 pub fn words_of(piece: &Piece, form: Form) -> u64
     ensures exact { result ≡ words_of piece.now form }
@@ -49,8 +60,8 @@ pub fn words_of(piece: &Piece, form: Form) -> u64
         Piece::Jump(_) => jump_words(form),
         Piece::Row(_) => 2,
         Piece::LabelAddress { to: _, label: _ } => 2,
-        Piece::Call(_) => 2,
-        Piece::TailCall(_) => 2,
+        Piece::Call(_) => call_words(form),
+        Piece::TailCall(_) => call_words(form),
         Piece::SymbolAddress { to: _, name: _ } => 2,
         Piece::ExternalNumber { to: _, row: _ } => 2,
         Piece::Descriptor(_) => 0,
@@ -123,10 +134,10 @@ fn jump_form(from: u64, to: u64) -> Form
     }
 }
 
-/// The shortest form in which a piece at this word reaches its label.
+/// The shortest form in which a piece at this word reaches its label. In an image no callee is far.
 fn needed(labels: &Labels, at: u64, piece: &Piece) -> Form
     requires { at < 2 ^ 59 }
-    ensures { result ≡ needed (places_of labels.now) at piece.now }
+    ensures { result ≡ needed none_far (places_of labels.now) at piece.now }
 {
     match piece {
         Piece::Branch {
@@ -160,7 +171,7 @@ fn grow(alloc: Global, code: &[Piece], forms: &[Form], labels: &Labels) -> Resul
     requires few { length code.now < 2 ^ 48 }
     requires same { length forms.now ≡ length code.now }
     ensures grown { IfOk result (λ grown.
-        grown.forms.items ≡ grown_from (places_of labels.now) 0 code.now forms.now) }
+        grown.forms.items ≡ grown_from none_far (places_of labels.now) 0 code.now forms.now) }
     ensures ranks { IfOk result (λ grown. grown.ranks ≡ ranks grown.forms.items) }
 {
     let mut next = Vec::new(alloc);
@@ -180,11 +191,11 @@ fn grow(alloc: Global, code: &[Piece], forms: &[Form], labels: &Labels) -> Resul
     })
 }
 
-/// The forms of a function's pieces: the least in which each branch and jump reaches its label.
-/// The only error is want of memory.
+/// The forms of a function's pieces in an image: the least in which each branch and jump reaches its
+/// label. Each call is near. The only error is want of memory.
 pub fn forms_of(alloc: Global, code: &[Piece]) -> Result<Vec<Form>, AllocError>
     requires { length code.now < 2 ^ 48 }
-    ensures { IfOk result (λ forms. AreForms code.now forms.items) }
+    ensures { IfOk result (λ forms. AreForms none_far code.now forms.items) }
 {
     let bound = label_bound(code);
     let mut forms = vec![in alloc; Form::Near; code.len()]?;

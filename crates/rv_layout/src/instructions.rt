@@ -4,7 +4,7 @@ ghost use Rattle.layout_rules.specs.Conditions.{LeadsTo};
 ghost use Rattle.rv_pieces.specs.Named.{PieceFits};
 ghost use Rattle.layout_rules.specs.Words.{distance, branch_offset, jal_offset, upper, inverted, far_jump};
 ghost use Rattle.layout_rules.specs.Known.{low_12};
-ghost use Rattle.layout_rules.specs.Words.{number_into, address_into, branch_code, jump_code, code_to};
+ghost use Rattle.layout_rules.specs.Words.{number_into, address_into, branch_code, jump_code, call_code, code_to};
 ghost use Rattle.rv_isa.specs.Encoding.{encoded, InstrFits};
 ghost use Rattle.rv_isa.specs.Registers.{number};
 
@@ -239,6 +239,49 @@ fn jump(words: &mut Vec<u32>, form: Form, at: u64, to: u64) -> Result<(), AllocE
     }
 }
 
+/// A call, or a tail call, by the distance to the callee or by its address, with the link in one
+/// register and through another.
+fn call(
+    words: &mut Vec<u32>,
+    form: Form,
+    link: Register,
+    through: Register,
+    at: u64,
+    to: u32,
+) -> Result<(), AllocError>
+    requires from_fits { at < 2 ^ 32 }
+    ensures { OnOk result (words.new.items ≡ words.old.items
+        ++ map encoded (call_code form (number link) (number through) at to)) }
+{
+    match form {
+        Form::Near => far_jump(words, link, through, at, u64::from(to)),
+        Form::Middle => address_jump(words, link, through, to),
+        Form::Far => address_jump(words, link, through, to),
+    }
+}
+
+/// Goes to an address, through a register, with the link in another.
+fn address_jump(
+    words: &mut Vec<u32>,
+    link: Register,
+    through: Register,
+    to: u32,
+) -> Result<(), AllocError>
+    ensures { OnOk result (words.new.items ≡ words.old.items
+        ++ map encoded (number_into (number through) to
+        ++ Instr.Jalr (number link) (number through) 0 ∷ [])) }
+{
+    number_into(words, through, to)?;
+    put(
+        words,
+        Instr::Jalr {
+            rd: link.number(),
+            rs1: through.number(),
+            imm: 0,
+        },
+    )
+}
+
 /// Puts the words of a piece that is at an address, in its form. `to` is what its name stands for:
 /// an address, or the number of an external call. The only error is want of memory.
 pub fn put_piece(
@@ -280,8 +323,8 @@ pub fn put_piece(
             to: register,
             label: _,
         } => address_into(words, *register, at, place),
-        Piece::Call(_) => far_jump(words, Register::Ra, Register::Ra, at, place),
-        Piece::TailCall(_) => far_jump(words, Register::Zero, THROUGH, at, place),
+        Piece::Call(_) => call(words, form, Register::Ra, Register::Ra, at, to),
+        Piece::TailCall(_) => call(words, form, Register::Zero, THROUGH, at, to),
         Piece::SymbolAddress {
             to: register,
             name: _,

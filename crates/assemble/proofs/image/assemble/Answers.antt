@@ -13,6 +13,7 @@ use Rattle.image_rules.proofs.Whole.{is_image}
 use Rattle.layout_rules.specs.Conditions.{CanBeLaid}
 use Rattle.layout_rules.specs.Laid.{laid_out}
 use Rattle.layout_rules.specs.TooLarge.{first_too_large}
+use Rattle.layout_rules.proofs.Functions.{all_reach}
 use Rattle.assemble.proofs.image.assemble.Goals as goal
 
 same_large : {T : Type 0} (a b : Large) → ◌≡◌ {A = Result T BuildError} (Err (error.TooLarge a)) (Err (error.TooLarge b)) → a ≡ b
@@ -45,4 +46,4 @@ returns-clause-is_image g c =
     let forms = forms_in c.in_ok-places.places in
     let can = subst (λ (f : File). CanBeLaid (file_view f) ps) (sym c.file-file.ensures.same) c.requires.can in
     subst AreTables (sym c.in_ok-image.ensures)
-    (is_image (file_view c.file-file.result.now) ps forms can c.in_ok-places.ensures.forms (sym (c.too_large.ensures _ c.sizes.ensures) ∙ c.in_default.is))
+    (is_image (file_view c.file-file.result.now) ps forms can (all_reach ps forms c.in_ok-places.ensures.forms) (sym (c.too_large.ensures _ c.sizes.ensures) ∙ c.in_default.is))

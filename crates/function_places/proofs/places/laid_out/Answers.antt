@@ -2,7 +2,7 @@ use Rattle.std.proofs.Common.{length, ap, ap₂, ◌∙◌, subst, arith}
 use Rattle.std.specs.Prelude.{sum_by}
 use Rattle.function_places.specs.Sizes.{piece_size}
 use Rattle.function_places.proofs.Bounds.{length_most, code_most}
-use Rattle.layout_rules.specs.Forms.{total_words, place_of, AreForms}
+use Rattle.layout_rules.specs.Forms.{total_words, place_of, none_far, AreForms}
 use Rattle.layout_rules.proofs.Functions.{forms_length}
 use Rattle.function_places.proofs.places.laid_out.Goals as goal
 
@@ -16,7 +16,7 @@ pub total_words-words-requires-clause-same : goal.total_words-words-requires-cla
 total_words-words-requires-clause-same c =
     let code = c.as_slice-code.result.now in
     let own = c.in_ok-forms.forms.items in
-    ap length c.as_slice.ensures.value ∙ forms_length (place_of code own) 0 code own c.in_ok-forms.ensures.reach
+    ap length c.as_slice.ensures.value ∙ forms_length (place_of code own) 0 code own c.in_ok-forms.ensures.suffice
 
 pub code_size-descs-requires : goal.code_size-descs-requires
 code_size-descs-requires c =
@@ -26,7 +26,7 @@ pub returns : goal.returns
 returns c =
     let is = c.as_slice-code.ensures in
     record {
-      forms = subst (λ code. AreForms code c.in_ok-forms.forms.items) is c.in_ok-forms.ensures;
+      forms = subst (λ code. AreForms none_far code c.in_ok-forms.forms.items) is c.in_ok-forms.ensures;
       words = c.total_words-words.ensures.exact ∙ ap₂ total_words is c.as_slice.ensures.value;
       descs = c.code_size-descs.ensures ∙ ap (sum_by piece_size) is;
     }
