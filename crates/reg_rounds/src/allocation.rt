@@ -12,7 +12,7 @@ use crate::copies::copy;
 use crate::slots::rest_in_slots;
 use colouring::colour;
 use interfere::graph;
-use liveness::first_free;
+use liveness::{LiveFlow, first_free, live_flow};
 use mach_ir::Mach;
 use reload::reload;
 use std::alloc::{AllocError, Global};
@@ -41,7 +41,8 @@ fn round(alloc: Global, mach: Mach, fresh: u32) -> Result<(Mach, bool), AllocErr
     requires room { HasRoom (with_copies (other_operands mach.code)) mach }
     ensures { IfOk result (λ made. IsRound fresh mach made.0 made.1) }
 {
-    let graph = graph(alloc, &mach)?;
+    let LiveFlow { flow, live } = live_flow(alloc, &mach)?;
+    let graph = graph(alloc, &mach, &live, &flow)?;
     let colours = colour(alloc, &graph, fresh)?;
     reload(alloc, mach, &colours)
 }

@@ -4,6 +4,9 @@ use Rattle.pass_rules.specs.Measures.{other_operands}
 use Rattle.rounds_rules.proofs.Known.{room_counts}
 use Rattle.reg_rounds.proofs.allocation.round.Goals as goal
 
+pub live_flow-requires : goal.live_flow-requires
+live_flow-requires c = record { countable = room_counts (other_operands c.args.mach.code) c.requires.room }
+
 pub graph-requires-clause-countable : goal.graph-requires-clause-countable
 graph-requires-clause-countable c = room_counts (other_operands c.args.mach.code) c.requires.room
 
