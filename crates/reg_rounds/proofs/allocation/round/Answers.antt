@@ -16,4 +16,4 @@ colour-requires c = colourable c.args.mach c.in_ok-graph.graph c.in_ok-graph.ens
 pub reload-requires-clause-colouring : goal.reload-requires-clause-colouring
 reload-requires-clause-colouring c =
     colouring_of c.args.mach c.in_ok-graph.graph c.in_ok-graph.ensures (place_in c.in_ok-colours.colours)
-    c.in_ok-colours.ensures.colours.colouring
+    c.in_ok-colours.ensures.safe
