@@ -6,7 +6,7 @@ use Rattle.std.proofs.lemmas.Bool.{eq-eqb, ne_eqb, cases_eq}
 use Rattle.bs_words.specs.declared.types.Loc.{Loc}
 use Rattle.bs_words.specs.declared.types.Loc.TheVariants as loc
 use Rattle.bs_words.proofs.Lists.{none_in, first_in, later_in, in_cons, pairs_later}
-use Rattle.mach_ir.specs.Graph.{IsColourable, InGraph, JoinedIn, ColoursGraph, place_in}
+use Rattle.mach_ir.specs.Graph.{IsColourable, InGraph, JoinedIn, place_in}
 use Rattle.mach_ir.specs.Placed.{Colouring, colours, IsPlaced, in_colour, in_slot, MayShare, placed_by, IsColouring, NoNeedlessSlot}
 use Rattle.mach_ir.specs.declared.reg.Reg.{Reg}
 use Rattle.mach_ir.specs.declared.graph.Node.{Node}
@@ -294,17 +294,24 @@ module _ (g : Graph) (h : IsColourable g) where
       apart = is_apart;
     }
 
-  -- what is coloured by the definition is a colouring with no needless slot
-  pub colours_the_graph : (fresh : ℕ) (c : Colours) → IsColouredBy fresh g c → ColoursGraph g c
-  colours_the_graph fresh c by =
-      let place : Colouring = coloured g (fixed g) by.order in
-      let good : Good g [] place = all_chosen fresh by.order (fixed g) (start by.order by.ordered)
-      (λ x i. (by.ordered.exact x).0 i) by.ordered.sorted in
-      let same : place ≡ place_in c = sym (fun_ext by.places) in
-      record {
-        colouring = subst (λ p. IsColouring (InGraph g) (JoinedIn g) p) same (is_colouring place good);
-        full = subst (λ p. NoNeedlessSlot (InGraph g) (JoinedIn g) p) same (record { full = is_full place good });
-      }
+  module _ {fresh : ℕ} {c : Colours} (by : IsColouredBy fresh g c) where
+    all_places : Colouring
+    all_places = coloured g (fixed g) by.order
+
+    all_good : Good g [] all_places
+    all_good = all_chosen fresh by.order (fixed g) (start by.order by.ordered) (λ x i. (by.ordered.exact x).0 i) by.ordered.sorted
+
+    same_places : all_places ≡ place_in c
+    same_places = sym (fun_ext by.places)
+
+    -- what is coloured by the definition is a colouring
+    pub is_safe : IsColouring (InGraph g) (JoinedIn g) (place_in c)
+    is_safe = subst (λ p. IsColouring (InGraph g) (JoinedIn g) p) same_places (is_colouring all_places all_good)
+
+    -- with no needless slot
+    pub no_needless_slot : NoNeedlessSlot (InGraph g) (JoinedIn g) (place_in c)
+    no_needless_slot =
+        subst (λ p. NoNeedlessSlot (InGraph g) (JoinedIn g) p) same_places (record { full = is_full all_places all_good })
 
 -- ---- numbers of no register
 

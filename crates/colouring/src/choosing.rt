@@ -1,6 +1,7 @@
 //! The choice of places, one after the other.
 ghost use Rattle.std.specs.Prelude.{◌≡◌, IfOk};
-ghost use Rattle.mach_ir.specs.Graph.{IsColourable, ColoursGraph};
+ghost use Rattle.mach_ir.specs.Graph.{IsColourable, InGraph, JoinedIn, place_in};
+ghost use Rattle.mach_ir.specs.Placed.{IsColouring, NoNeedlessSlot};
 ghost use Rattle.colouring.specs.Chosen.{chosen, IsColouredBy};
 ghost use Rattle.colouring.specs.Tables.{IsTableOf, places_by};
 
@@ -32,7 +33,10 @@ fn choose(graph: &Graph, table: &NodeTable, places: &[Loc], node: &Node) -> Loc
 /// error is want of memory.
 pub fn colour(alloc: Global, graph: &Graph, fresh: u32) -> Result<Colours, AllocError>
     requires { IsColourable graph.now }
-    ensures colours { IfOk result (ColoursGraph graph.now) }
+    ensures safe { IfOk result (λ colours.
+        IsColouring (InGraph graph.now) (JoinedIn graph.now) (place_in colours)) }
+    ensures full { IfOk result (λ colours.
+        NoNeedlessSlot (InGraph graph.now) (JoinedIn graph.now) (place_in colours)) }
     ensures value { IfOk result (IsColouredBy fresh graph.now) }
 {
     let table = NodeTable::new(alloc, graph)?;

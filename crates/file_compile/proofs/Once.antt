@@ -12,6 +12,7 @@ use Rattle.mach_ir.specs.declared.mach.Mach.{Mach}
 use Rattle.prepare.proofs.Known.{one_without_repeats, one_cleaned, one_with_slots, one_prepared}
 use Rattle.prepare.specs.Known.{HasSlots}
 use Rattle.file_promise.specs.Made.{IsFunctionMade}
+use Rattle.choices.specs.declared.choices.Alloc.TheVariants.{Colour}
 use Rattle.reg_rounds.specs.Known.{IsAllocated}
 use Rattle.reg_rounds.proofs.Known.{allocated_once}
 use Rattle.rv_pieces.specs.declared.piece.Pieces.{Pieces}
@@ -29,7 +30,7 @@ module _ (tree : FunctionTree) where
   one_allocated : (m n : Mach) → IsAllocatedFor tree m → IsAllocatedFor tree n → m ≡ n
   one_allocated m n a b =
       let prepared = one_prepared (selected tree) a.prepared b.prepared a.is_prepared b.is_prepared in
-      allocated_once a.allocated (subst (λ (p : Mach). IsAllocated p n) (sym prepared) b.allocated)
+      allocated_once a.allocated (subst (λ (p : Mach). IsAllocated Colour p n) (sym prepared) b.allocated)
 
   one_linear : (l k : Lin) → IsLinearFor tree l → IsLinearFor tree k → l ≡ k
   one_linear l k a b =

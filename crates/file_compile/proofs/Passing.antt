@@ -18,6 +18,7 @@ use Rattle.file_promise.specs.Made.{IsFunctionMade}
 use Rattle.file_promise.proofs.Bounds.{IsPlacedFor, HasLineRoom}
 use Rattle.file_promise.proofs.Bounds.{selected_preparable, selected_room, ready, prepared_room, carried, placed_for, line_room}
 use Rattle.places_rules.specs.Places.{ColoursLow}
+use Rattle.choices.specs.declared.choices.Alloc.TheVariants.{Colour}
 use Rattle.reg_rounds.specs.Known.{IsAllocatedIn, IsAllocated, allocated_size}
 use Rattle.rv_pieces.specs.declared.piece.Pieces.{Pieces}
 use Rattle.selection_rules.specs.Select.{selected}
@@ -53,8 +54,8 @@ module _ (tree : FunctionTree) (accepted : IsAcceptedFunction tree) (mach : Mach
     pub prepared_has_room : HasRoom allocated_size prepared
     prepared_has_room = prepared_room known of_selected
 
-    module _ (placed : Mach) (rounds : ℕ) (rest : Bool) (in_rounds : IsAllocatedIn prepared placed rounds rest) where
-      allocated : IsAllocated prepared placed
+    module _ (placed : Mach) (rounds : ℕ) (rest : Bool) (in_rounds : IsAllocatedIn Colour prepared placed rounds rest) where
+      allocated : IsAllocated Colour prepared placed
       allocated = record { rounds = rounds; rest = rest; allocated = in_rounds }
 
       pub is_placed : IsPlacedFor tree placed

@@ -14,6 +14,7 @@ use Rattle.mach_ir.specs.Text.{mach_text}
 use Rattle.mach_ir.specs.declared.mach.Mach.{Mach}
 use Rattle.prepare.specs.Known.{IsPrepared, HasNoRepeats, IsCleaned, HasSlots}
 use Rattle.file_promise.specs.Made.{IsFunctionMade, IsMadeFor}
+use Rattle.choices.specs.declared.choices.Alloc.TheVariants.{Colour}
 use Rattle.reg_rounds.specs.Known.{IsAllocated}
 use Rattle.rv_pieces.specs.declared.piece.Pieces.{Pieces}
 use Rattle.selection_rules.specs.Select.{selected}
@@ -26,7 +27,7 @@ use Rattle.stages.specs.declared.stage.Stage.TheVariants.{Select, CombAlloc, Cse
 pub record IsAllocatedFor (tree : FunctionTree) (m : Mach) : Type 0 where
   pub prepared : Mach
   pub is_prepared : IsPrepared (selected tree) prepared
-  pub allocated : IsAllocated prepared m
+  pub allocated : IsAllocated Colour prepared m
 
 -- It is that as lines.
 pub record IsLinearFor (tree : FunctionTree) (l : Lin) : Type 0 where

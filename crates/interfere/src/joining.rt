@@ -4,7 +4,6 @@ ghost use Rattle.bs_bits.specs.Set.{has};
 ghost use Rattle.bs_words.specs.Contents.{contents};
 ghost use Rattle.dataflow.specs.Flow.{WellFormed};
 ghost use Rattle.mach_ir.specs.Graph.{IsLiveMap};
-ghost use Rattle.mach_ir.specs.Sizes.{IsCountable};
 ghost use Rattle.mach_ir.specs.Walks.{IsRegister, Joined};
 ghost use Rattle.mach_ir.specs.declared.reg.Reg.{Reg};
 ghost use Rattle.mach_laws.specs.Graph.{IsFlowOf};
@@ -15,7 +14,6 @@ use crate::members::members_of;
 use crate::moves::{Move, is_from_to, move_of};
 use bs_bits::Bits;
 use dataflow::{Flow, Place};
-use liveness::{LiveFlow, live_flow};
 use mach_ir::{LiveMap, Mach, Reg};
 use std::alloc::{AllocError, Global};
 
@@ -108,8 +106,8 @@ fn join_params(
 }
 
 /// The pairs of registers of a function that are joined, by its flow graph and what is live in it; their
-/// numbers are below `size`.
-fn joined_in(
+/// numbers are below `size`. The only error is want of memory.
+pub fn joined_in(
     alloc: Global,
     mach: &Mach,
     flow: &Flow,
@@ -131,17 +129,4 @@ fn joined_in(
         join_writes(alloc, &mut joined, move_of(instr), live, node)?;
     }
     Ok(joined)
-}
-
-/// The pairs of registers of a function that are joined; their numbers are below `size`. The flow graph
-/// and what is live in it are made once, and are gone when the pairs are there.
-/// The only error is want of memory.
-pub fn joined_of(alloc: Global, mach: &Mach, size: u32) -> Result<Matrix, AllocError>
-    requires numbers { (r : Reg) → IsRegister mach.now r → r.number < size }
-    requires countable { IsCountable mach.now }
-    ensures len { IfOk result (λ joined. length joined ≡ size) }
-    ensures pairs { IfOk result (λ joined. (n k : ℕ) → Has joined n k ↔ Joined mach.now n k) }
-{
-    let LiveFlow { flow, live } = live_flow(alloc, mach)?;
-    joined_in(alloc, mach, &flow, &live, size)
 }

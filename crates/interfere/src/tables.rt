@@ -1,17 +1,21 @@
 //! What is known of each register of a function, by number.
 ghost use Rattle.std.specs.Prelude.{◌≡◌, ◌+◌, ◌<◌, length, slice_index, IfOk};
+ghost use Rattle.dataflow.specs.Flow.{WellFormed};
+ghost use Rattle.mach_ir.specs.Graph.{IsLiveMap};
 ghost use Rattle.mach_ir.specs.Sizes.{IsCountable};
+ghost use Rattle.mach_laws.specs.Graph.{IsFlowOf};
 ghost use Rattle.interfere.specs.Partners.{partners_in};
 ghost use Rattle.interfere.specs.Tables.{AreTables, IsNode, AreByNumber, AreNodesBelow};
 
-use crate::joining::joined_of;
+use crate::joining::joined_in;
 use crate::matrix::Matrix;
 use crate::members::members_of;
 use crate::partners::{Partners, partners_of};
 use crate::registers::registers_of;
 use crate::uses::uses_of;
+use dataflow::Flow;
 use liveness::first_free;
-use mach_ir::{Mach, Node, Reg, Seq};
+use mach_ir::{LiveMap, Mach, Node, Reg, Seq};
 use std::alloc::{AllocError, Global};
 
 /// The registers of a function at their numbers, and for each number what it is joined with, its moves
@@ -49,15 +53,23 @@ fn uses_at(uses: &[u32], number: u32) -> u32
 }
 
 impl Tables {
-    /// The tables of a function. The only error is want of memory.
-    pub fn of_function(alloc: Global, mach: &Mach) -> Result<Tables, AllocError>
+    /// The tables of a function, by what is live in it and its flow graph. The only error is want of memory.
+    pub fn of_function(
+        alloc: Global,
+        mach: &Mach,
+        live: &LiveMap,
+        flow: &Flow,
+    ) -> Result<Tables, AllocError>
         requires countable { IsCountable mach.now }
+        requires live { IsLiveMap mach.now live.now }
+        requires flow { IsFlowOf mach.now flow.now }
+        requires edges { WellFormed flow.now }
         ensures { IfOk result (AreTables mach.now) }
     {
         let size = first_free(mach);
         let code = mach.code.as_slice();
         let registers = registers_of(alloc, mach, size)?;
-        let joined = joined_of(alloc, mach, size)?;
+        let joined = joined_in(alloc, mach, flow, live, size)?;
         let partners = partners_of(alloc, code, size)?;
         let uses = uses_of(alloc, code, size)?;
         Ok(Tables {

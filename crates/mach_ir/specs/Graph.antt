@@ -3,7 +3,7 @@ use Rattle.std.specs.Prelude.{◌≡◌, ◌↔◌, ℕ, suc, ◌+◌, ◌<◌, 
 use Rattle.bs_words.specs.declared.types.Loc.TheVariants as loc
 use Rattle.dataflow.specs.Known.{has}
 use Rattle.dataflow.specs.Rows.{row}
-use Rattle.mach_ir.specs.Placed.{Colouring, PlacesAgree, IsColouring, NoNeedlessSlot}
+use Rattle.mach_ir.specs.Placed.{Colouring, PlacesAgree}
 use Rattle.mach_ir.specs.Walks.{Live, IsRegister, Joined}
 use Rattle.mach_ir.specs.declared.op.Op.{Op}
 use Rattle.mach_ir.specs.declared.op.Op.TheVariants as op
@@ -97,8 +97,3 @@ pub record IsColourable (g : Graph) : Type 0 where
 -- a register that the table does not have is open
 abbrev pub place_in : Colours → Colouring
 place_in c n = slice_index_or c.places n loc.Unset
-
--- what colouring gives
-pub record ColoursGraph (g : Graph) (c : Colours) : Type 0 where
-  pub colouring : IsColouring (InGraph g) (JoinedIn g) (place_in c)
-  pub full : NoNeedlessSlot (InGraph g) (JoinedIn g) (place_in c)

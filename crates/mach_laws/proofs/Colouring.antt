@@ -3,7 +3,7 @@ use Rattle.std.proofs.Common.{◌≡◌, ℕ, Bool, true, false, cond, not, ◌&
 use Rattle.std.specs.List.{Contains}
 use Rattle.mach_ir.specs.Graph.{InGraph, JoinedIn, IsGraph, IsColourable}
 use Rattle.mach_ir.specs.Meaning.{Destroyed, Nothing, Temporaries, Everything, destroyed_by, is_destroyed, is_at_one_of, killed_among, killed_by, killed, written}
-use Rattle.mach_ir.specs.Placed.{Colouring, IsColouring, NoNeedlessSlot, WellPlaced}
+use Rattle.mach_ir.specs.Placed.{Colouring, IsColouring, WellPlaced}
 use Rattle.mach_ir.specs.Walks.{Among, first, later, goes, raises, Live, read, on, aside, LiveAfter, after_step, InCode, in_args, in_results, further, IsRegister, is_param, is_colour, is_in_code, Meets, at_write, at_params, Joined, one_way, other_way}
 use Rattle.mach_ir.specs.declared.graph.Node.{Node}
 use Rattle.mach_ir.specs.declared.graph.Graph.{Graph}
@@ -148,14 +148,4 @@ module _ (m : Mach) where
           fixed = λ r i. h.fixed r ((is.registers r).1 i);
           places = λ r i. h.places r ((is.registers r).1 i);
           apart = λ r q i j e. h.apart r q ((is.registers r).1 i) ((is.registers q).1 j) (to_edge r.number q.number e);
-        }
-
-    -- with no needless slot, too
-    pub full_of : (place : Colouring) → NoNeedlessSlot (InGraph g) (JoinedIn g) place →
-        NoNeedlessSlot (IsRegister m) (Joined m) place
-    full_of place h =
-        record {
-          full = λ r i open_place k e n c.
-              let x = h.full r ((is.registers r).1 i) open_place k e n c in
-              (x.0, (is.registers x.0).0 x.1, of_edge r.number (x.0).number x.2, x.3);
         }

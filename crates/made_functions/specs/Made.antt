@@ -1,6 +1,7 @@
 -- What the compiler makes of one function of a text: its Mach function, what the passes over Mach and
 -- register allocation make of that, its Linear function, its frame descriptors and its pieces of code.
 use Rattle.std.specs.Prelude.{◌≡◌, List, length}
+use Rattle.choices.specs.declared.choices.Alloc.TheVariants.{Colour}
 use Rattle.cmm_tree.specs.Tree.{FunctionTree}
 use Rattle.selection_rules.specs.Select.{selected}
 use Rattle.mach_ir.specs.declared.mach.Mach.{Mach}
@@ -20,7 +21,7 @@ pub record IsMadeOf (tree : FunctionTree) (m : Lin) (ds : List Descr) (pieces : 
     pub is_prepared : IsPrepared (selected tree) prepared
     -- its registers at places
     pub mach : Mach
-    pub allocated : IsAllocated prepared mach
+    pub allocated : IsAllocated Colour prepared mach
     -- as tidy lines
     pub linear : IsLinearOf mach m
     -- a descriptor for each frame point, which names what is live after it

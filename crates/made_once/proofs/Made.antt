@@ -5,6 +5,7 @@ use Rattle.lin_ir.specs.Descriptors.{AreExact}
 use Rattle.lin_ir.specs.declared.descr.Descr.{Descr}
 use Rattle.lin_ir.specs.declared.lin.Lin.{Lin}
 use Rattle.lin_laws.proofs.Unique.{exact_unique}
+use Rattle.choices.specs.declared.choices.Alloc.TheVariants.{Colour}
 use Rattle.made_functions.specs.Known.{IsLinearOf, IsAllocated}
 use Rattle.made_functions.proofs.Known.{linear_once, allocated_once}
 use Rattle.mach_ir.specs.declared.mach.Mach.{Mach}
@@ -21,7 +22,7 @@ module _ {tree : FunctionTree} {m n : Lin} {ds es : List Descr} {p q : Pieces} (
   prepared_once = one_prepared (selected tree) h.prepared k.prepared h.is_prepared k.is_prepared
 
   pub places_once : h.mach ≡ k.mach
-  places_once = allocated_once h.allocated (subst (λ (p : Mach). IsAllocated p k.mach) (sym prepared_once) k.allocated)
+  places_once = allocated_once h.allocated (subst (λ (p : Mach). IsAllocated Colour p k.mach) (sym prepared_once) k.allocated)
 
   -- one Linear function
   pub lines_once : m ≡ n

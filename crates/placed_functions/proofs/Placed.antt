@@ -17,6 +17,7 @@ use Rattle.mach_passes.proofs.Whole.{prepared_kept}
 use Rattle.pass_rules.specs.Carried.{IsCarried}
 use Rattle.pass_rules.proofs.Operands.{others_few}
 use Rattle.pass_rules.specs.Measures.{copy_words}
+use Rattle.choices.specs.declared.choices.Alloc.TheVariants.{Colour}
 use Rattle.rounds_rules.specs.Rounds.{IsAllocated, allocated_size}
 use Rattle.rounds_rules.specs.Rounds as rounds
 use Rattle.rounds_rules.proofs.Kept.{allocated_kept}
@@ -93,7 +94,7 @@ module _ {defined : List ℕ → Option DefinedSymbol} {tree : FunctionTree} (ac
         };
       }
 
-  module _ {p q : Mach} (is : IsPrepared (selected tree) p) (allocated : IsAllocated p q) where
+  module _ {p q : Mach} (is : IsPrepared (selected tree) p) (allocated : IsAllocated Colour p q) where
     kept : rounds.IsKept p q
     kept =
         let made = ready is in

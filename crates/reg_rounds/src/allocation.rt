@@ -1,5 +1,6 @@
 //! Register allocation, whole.
 ghost use Rattle.std.specs.Prelude.{IfOk};
+ghost use Rattle.choices.specs.declared.choices.Alloc.TheVariants.{Colour};
 ghost use Rattle.mach_ir.specs.Formed.{WellFormed};
 ghost use Rattle.mach_ir.specs.Placed.{WellPlaced};
 ghost use Rattle.mach_ir.specs.Sizes.{HasRoom};
@@ -10,9 +11,10 @@ ghost use Rattle.rounds_rules.specs.Rounds.{IsRound, IsAllocatedIn, allocated_si
 
 use crate::copies::copy;
 use crate::slots::rest_in_slots;
+use choices::Alloc;
 use colouring::colour;
 use interfere::graph;
-use liveness::first_free;
+use liveness::{LiveFlow, first_free, live_flow};
 use mach_ir::Mach;
 use reload::reload;
 use std::alloc::{AllocError, Global};
@@ -25,43 +27,43 @@ const MOST_ROUNDS: u32 = 50;
 pub struct Allocated {
     /// The function.
     pub mach: Mach,
-    /// How many rounds of colouring there were.
+    /// How many rounds there were.
     pub rounds: u32,
     /// Whether it gave up: the function as it was before the first round then has a slot for each register
     /// whose place is open.
     pub rest: bool,
 }
 
-/// One round: the graph of what must be apart, its colouring, and the copies for what that
-/// put into slots. The answer says whether another round is asked for. Registers numbered `fresh` or above
-/// were made by earlier rounds.
-fn round(alloc: Global, mach: Mach, fresh: u32) -> Result<(Mach, bool), AllocError>
+/// One round: what is live, the graph of what must be apart, places by the choice, and the copies for what
+/// that put into slots. The answer says whether another round is asked for. Registers numbered `fresh` or
+/// above were made by earlier rounds.
+fn round(alloc: Global, mach: Mach, by: Alloc, fresh: u32) -> Result<(Mach, bool), AllocError>
     requires formed { WellFormed mach }
     requires placed { WellPlaced mach }
     requires room { HasRoom (with_copies (other_operands mach.code)) mach }
-    ensures { IfOk result (λ made. IsRound fresh mach made.0 made.1) }
+    ensures { IfOk result (λ made. IsRound by fresh mach made.0 made.1) }
 {
-    let graph = graph(alloc, &mach)?;
-    let colours = colour(alloc, &graph, fresh)?;
+    let LiveFlow { flow, live } = live_flow(alloc, &mach)?;
+    let graph = graph(alloc, &mach, &live, &flow)?;
+    let colours = match by {
+        Alloc::Colour => colour(alloc, &graph, fresh)?,
+    };
     reload(alloc, mach, &colours)
 }
 
-/// A place for each register of a function, in how many rounds, and whether it gave up.
-///
-/// The time is that of the rounds, each of them that of liveness, of the graph and of its colouring. The
-/// only error is want of memory.
-pub fn allocate(alloc: Global, mach: Mach) -> Result<Allocated, AllocError>
+/// A place for each register of a function by the choice, in how many rounds, and whether it gave up.
+fn rounds(alloc: Global, mach: Mach, by: Alloc) -> Result<Allocated, AllocError>
     requires formed { WellFormed mach }
     requires placed { WellPlaced mach }
     requires low { ColoursLow mach }
     requires room { HasRoom allocated_size mach }
-    ensures { IfOk result (λ made. IsAllocatedIn mach made.mach made.rounds made.rest) }
+    ensures { IfOk result (λ made. IsAllocatedIn by mach made.mach made.rounds made.rest) }
 {
     let fresh = first_free(&mach);
     let first = copy(alloc, &mach)?;
     let mut current = mach;
     for rounds in 0..MOST_ROUNDS {
-        let (made, asks) = round(alloc, current, fresh)?;
+        let (made, asks) = round(alloc, current, by, fresh)?;
         if !asks {
             return Ok(Allocated {
                 mach: made,
@@ -76,4 +78,18 @@ pub fn allocate(alloc: Global, mach: Mach) -> Result<Allocated, AllocError>
         rounds: MOST_ROUNDS,
         rest: true,
     })
+}
+
+/// A place for each register of a function by colouring, in how many rounds, and whether it gave up.
+///
+/// The time is that of the rounds, each of them that of liveness, of the graph and of its colouring. The
+/// only error is want of memory.
+pub fn allocate(alloc: Global, mach: Mach) -> Result<Allocated, AllocError>
+    requires formed { WellFormed mach }
+    requires placed { WellPlaced mach }
+    requires low { ColoursLow mach }
+    requires room { HasRoom allocated_size mach }
+    ensures { IfOk result (λ made. IsAllocatedIn Colour mach made.mach made.rounds made.rest) }
+{
+    rounds(alloc, mach, Alloc::Colour)
 }

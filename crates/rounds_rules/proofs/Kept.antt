@@ -5,6 +5,7 @@ use Rattle.std.proofs.Math.Nat.{mul-le-mul_right, suc-mul}
 use Rattle.std.proofs.lemmas.List.Elements.{All-nil, All-cons, All-head, All-tail}
 use Rattle.bs_words.specs.declared.types.Loc.{Loc}
 use Rattle.bs_words.specs.declared.types.Loc.TheVariants as loc
+use Rattle.choices.specs.declared.choices.Alloc.{Alloc}
 use Rattle.mach_ir.specs.Formed.{WellFormed, IsFormed}
 use Rattle.mach_ir.specs.Graph.{place_in}
 use Rattle.mach_ir.specs.Keeps.{Keeps}
@@ -258,12 +259,12 @@ reload_instrs {m} place (asks_again {free = free} e h) =
     let count = placed_others (to_slots place) m.code in
     omega (arith, text, long, same, count)
 
-module _ {fresh : ℕ} where
-  chosen : {m q : Mach} {asks : Bool} (r : IsRound fresh m q asks) → IsColouring (IsRegister m) (Joined m) (place_in r.colours)
-  chosen {m} r = colouring_of m r.graph r.of_function (place_in r.colours) (r.fine).colouring
+module _ {alloc : Alloc} {fresh : ℕ} where
+  chosen : {m q : Mach} {asks : Bool} (r : IsRound alloc fresh m q asks) → IsColouring (IsRegister m) (Joined m) (place_in r.colours)
+  chosen {m} r = colouring_of m r.graph r.of_function (place_in r.colours) r.fine
 
   module _ {first : Mach} (formed : WellFormed first) (well : WellPlaced first) (low : ColoursLow first) where
-    next_round : {rounds : ℕ} {m q : Mach} → Standing first rounds m → IsRound fresh m q true → Standing first (suc rounds) q
+    next_round : {rounds : ℕ} {m q : Mach} → Standing first rounds m → IsRound alloc fresh m q true → Standing first (suc rounds) q
     next_round {rounds} {m} {q} s r =
         let place : Colouring = place_in r.colours in
         let kept = reloaded_kept m q place true s.formed s.well s.low (chosen r) r.reloaded in
@@ -292,7 +293,7 @@ module _ {fresh : ℕ} where
         by : (k c n t : ℕ) {a b o : ℕ} → a ≤ b + o → b ≤ c + k → o ≡ n → t ≡ k + n → a ≤ c + t
         by k c n t one two same all = omega (arith, one, two, same, all)
 
-    standing : {rounds : ℕ} {m : Mach} → Asked fresh first rounds m → Standing first rounds m
+    standing : {rounds : ℕ} {m : Mach} → Asked alloc fresh first rounds m → Standing first rounds m
     standing none_yet = record {
       keeps = keeps_itself first;
       formed = formed;
@@ -307,19 +308,19 @@ module _ {fresh : ℕ} where
     standing (one_more a r) = next_round (standing a) r
 
     -- what a round needs of a function, after rounds that asked for another
-    pub still_formed : {rounds : ℕ} {m : Mach} → Asked fresh first rounds m → WellFormed m
+    pub still_formed : {rounds : ℕ} {m : Mach} → Asked alloc fresh first rounds m → WellFormed m
     still_formed a = let s = standing a in s.formed
 
-    pub still_placed : {rounds : ℕ} {m : Mach} → Asked fresh first rounds m → WellPlaced m
+    pub still_placed : {rounds : ℕ} {m : Mach} → Asked alloc fresh first rounds m → WellPlaced m
     still_placed a = let s = standing a in s.well
 
     -- how large it is
-    pub still_within : {rounds : ℕ} {m : Mach} → Asked fresh first rounds m → (s : Size) → HasSize first s →
+    pub still_within : {rounds : ℕ} {m : Mach} → Asked alloc fresh first rounds m → (s : Size) → HasSize first s →
         HasSize m (with_copies (rounds * other_operands first.code) s)
     still_within a = let s = standing a in s.size
 
     -- and that there is room for one round more, if there is for all
-    pub still_room : {rounds : ℕ} {m : Mach} → Asked fresh first rounds m → rounds < most_rounds → HasRoom allocated_size first →
+    pub still_room : {rounds : ℕ} {m : Mach} → Asked alloc fresh first rounds m → rounds < most_rounds → HasRoom allocated_size first →
         HasRoom (with_copies (other_operands m.code)) m
     still_room {rounds} {m} a few room =
         let s = standing a in
@@ -357,7 +358,7 @@ module _ {first : Mach} (formed : WellFormed first) where
     few_rounds : (n k : ℕ) → n ≤ most_rounds → n * k ≤ most_rounds * k
     few_rounds n k le = mul-le-mul_right k le
 
-    ended : {fresh : ℕ} {q : Mach} {rounds : ℕ} {rest : Bool} → Ends fresh first q rounds rest → IsKept first q
+    ended : {alloc : Alloc} {fresh : ℕ} {q : Mach} {rounds : ℕ} {rest : Bool} → Ends alloc fresh first q rounds rest → IsKept first q
     ended {q = q} (asks_no_more {rounds = rounds} {m = m} few a r) =
         let s = standing formed well low a in
         let place : Colouring = place_in r.colours in
@@ -394,5 +395,5 @@ module _ {first : Mach} (formed : WellFormed first) where
         }
 
 -- What allocation makes of a function is kept.
-pub allocated_kept : (m q : Mach) → WellFormed m → WellPlaced m → ColoursLow m → IsAllocated m q → IsKept m q
+pub allocated_kept : {alloc : Alloc} (m q : Mach) → WellFormed m → WellPlaced m → ColoursLow m → IsAllocated alloc m q → IsKept m q
 allocated_kept m q formed well low a = ended formed well low ((a.allocated).ends)

@@ -2,4 +2,4 @@ use Rattle.rounds_rules.proofs.Once.{allocated_once}
 use Rattle.rounds_rules.proofs.allocations_are_one.Goals as goal
 
 pub returns : goal.returns
-returns c = λ m q k a b. allocated_once a b
+returns c = λ alloc m q k a b. allocated_once a b

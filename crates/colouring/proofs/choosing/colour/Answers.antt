@@ -4,7 +4,7 @@ use Rattle.bs_words.specs.declared.types.Loc.{Loc}
 use Rattle.mach_ir.specs.declared.graph.Node.{Node}
 use Rattle.colouring.specs.Chosen.{fixed, chosen, coloured, IsOrder}
 use Rattle.colouring.specs.Tables.{places_by, referred}
-use Rattle.colouring.proofs.Fold.{colours_the_graph}
+use Rattle.colouring.proofs.Fold.{is_safe, no_needless_slot}
 use Rattle.colouring.proofs.Turn.{is_within, goes_on, is_coloured}
 use Rattle.colouring.proofs.choosing.colour.Goals as goal
 
@@ -38,12 +38,22 @@ loop-node-preserved c =
       len = length-set _ _ _ ∙ len;
     }
 
-pub returns-clause-colours : goal.returns-clause-colours
-returns-clause-colours c =
+pub returns-clause-safe : goal.returns-clause-safe
+returns-clause-safe c =
     let ordered = subst (λ (l : List (Bor Node)). IsOrder c.args.fresh c.args.graph.now (referred l))
     (sym c.deref-node-items.ensures.value) c.in_ok-order.ensures in
     let all : length c.deref-node-items.result.now ≤ c.loop-node.node-index = omega arith in
-    colours_the_graph c.args.graph.now c.requires c.args.fresh (record { places = c.from_vec.result })
+    is_safe c.args.graph.now c.requires
+    (is_coloured c.args.graph.now c.loop-node.places.items c.deref-node-items.result.now c.loop-node.node-index
+    (record { places = c.from_vec.result })
+    ordered all c.from_vec.ensures c.loop-node.invariant.on)
+
+pub returns-clause-full : goal.returns-clause-full
+returns-clause-full c =
+    let ordered = subst (λ (l : List (Bor Node)). IsOrder c.args.fresh c.args.graph.now (referred l))
+    (sym c.deref-node-items.ensures.value) c.in_ok-order.ensures in
+    let all : length c.deref-node-items.result.now ≤ c.loop-node.node-index = omega arith in
+    no_needless_slot c.args.graph.now c.requires
     (is_coloured c.args.graph.now c.loop-node.places.items c.deref-node-items.result.now c.loop-node.node-index
     (record { places = c.from_vec.result })
     ordered all c.from_vec.ensures c.loop-node.invariant.on)

@@ -4,6 +4,9 @@ use Rattle.pass_rules.specs.Measures.{other_operands}
 use Rattle.rounds_rules.proofs.Known.{room_counts}
 use Rattle.reg_rounds.proofs.allocation.round.Goals as goal
 
+pub live_flow-requires : goal.live_flow-requires
+live_flow-requires c = record { countable = room_counts (other_operands c.args.mach.code) c.requires.room }
+
 pub graph-requires-clause-countable : goal.graph-requires-clause-countable
 graph-requires-clause-countable c = room_counts (other_operands c.args.mach.code) c.requires.room
 
@@ -13,4 +16,4 @@ colour-requires c = colourable c.args.mach c.in_ok-graph.graph c.in_ok-graph.ens
 pub reload-requires-clause-colouring : goal.reload-requires-clause-colouring
 reload-requires-clause-colouring c =
     colouring_of c.args.mach c.in_ok-graph.graph c.in_ok-graph.ensures (place_in c.in_ok-colours.colours)
-    c.in_ok-colours.ensures.colours.colouring
+    c.in_ok-colours.ensures.safe

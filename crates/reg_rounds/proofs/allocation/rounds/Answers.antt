@@ -4,7 +4,7 @@ use Rattle.rounds_rules.proofs.Kept.{still_formed, still_placed, still_room}
 use Rattle.places_rules.specs.Places.{rest_in_slots}
 use Rattle.rounds_rules.proofs.Known.{room_counts}
 use Rattle.reg_rounds.proofs.Turns.{next_asked, no_other, given_up}
-use Rattle.reg_rounds.proofs.allocation.allocate.Goals as goal
+use Rattle.reg_rounds.proofs.allocation.rounds.Goals as goal
 
 pub first_free-fresh-requires : goal.first_free-fresh-requires
 first_free-fresh-requires c =
@@ -37,6 +37,6 @@ returns-then-not-asks c =
 
 pub returns : goal.returns
 returns c =
-    subst (λ q. IsAllocatedIn c.args.mach q 50 true) (sym (c.in_ok-rest_in_slots.ensures ∙ ap rest_in_slots c.in_ok-first.ensures))
+    subst (λ q. IsAllocatedIn c.args.by c.args.mach q 50 true) (sym (c.in_ok-rest_in_slots.ensures ∙ ap rest_in_slots c.in_ok-first.ensures))
     (given_up c.loop-rounds.rounds (record { above = c.first_free-fresh.ensures.above; least = c.first_free-fresh.ensures.least })
     c.loop-rounds.invariant c.loop-rounds.auto.rounds-end c.loop-rounds-test.false)
