@@ -9,8 +9,9 @@ use Rattle.lin_ir.specs.declared.lin.Lin.{Lin}
 use Rattle.linear_pass.specs.Linear.{IsLinearOf}
 use Rattle.linear_pass.proofs.Once.{linear_once}
 use Rattle.mach_ir.specs.declared.mach.Mach.{Mach}
-use Rattle.prepare.proofs.Known.{one_without_repeats, one_cleaned, one_with_slots, one_prepared}
-use Rattle.prepare.specs.Known.{HasSlots}
+use Rattle.prepare.proofs.Known.{one_passed, one_prepared, repeated_passed, dropped_passed, spilled_passed, passed}
+use Rattle.prepare.specs.Known.{selects, combines}
+use Rattle.combine_rules.specs.Combined.{combined}
 use Rattle.file_promise.specs.Made.{IsFunctionMade}
 use Rattle.choices.specs.declared.choices.Alloc.TheVariants.{Colour}
 use Rattle.reg_rounds.specs.Known.{IsAllocated}
@@ -38,32 +39,24 @@ module _ (tree : FunctionTree) where
       linear_once a.linear (subst (λ (p : Mach). IsLinearOf p k) (sym same) b.linear)
 
   pass_once : (stage : Stage) (a b : List ℕ) → IsPassText stage tree a → IsPassText stage tree b → a ≡ b
-  pass_once Select a b of it = of ∙ sym it
-  pass_once CombAlloc a b of it = of ∙ sym it
-  pass_once Cse a b of it = one_text a b (one_without_repeats (selected tree)) of it
-  pass_once Dead a b of it = one_text a b (one_cleaned (selected tree)) of it
-  pass_once Spill a b of it = one_text a b (one_with_slots (selected tree)) of it
-  pass_once Split a b of it = one_text a b (one_prepared (selected tree)) of it
   pass_once Alloc a b of it = one_text a b one_allocated of it
   pass_once Linear a b of it = one_text a b one_linear of it
   pass_once Frames a b of it = of ∙ sym it
   pass_once Code a b of it = of ∙ sym it
+  pass_once stage a b of it = one_text a b (λ m n x y. one_passed x y) of it
 
   module _ {pieces : Pieces} (of : IsFunctionMade tree pieces) where
     is_allocated : IsAllocatedFor tree of.made.mach
     is_allocated = record { prepared = of.made.prepared; is_prepared = of.made.is_prepared; allocated = of.made.allocated }
 
-    abbrev slots : HasSlots (selected tree) of.made.is_prepared.spilled
-    slots = of.made.is_prepared.has_slots
-
     -- what the code is made of is what the passes make
     code_passed : (stage : Stage) → IsPassText stage tree (function_text stage tree of)
-    code_passed Select = refl
-    code_passed CombAlloc = refl
-    code_passed Cse = record { made = slots.is_readied.is_cleaned.repeated; is = slots.is_readied.is_cleaned.has_no_repeats; spelled = refl }
-    code_passed Dead = record { made = slots.is_readied.dropped; is = slots.is_readied.is_cleaned; spelled = refl }
-    code_passed Spill = record { made = of.made.is_prepared.spilled; is = slots; spelled = refl }
-    code_passed Split = record { made = of.made.prepared; is = of.made.is_prepared; spelled = refl }
+    code_passed Select = record { made = selected tree; is = selects refl; spelled = refl }
+    code_passed CombAlloc = record { made = combined (selected tree); is = combines refl; spelled = refl }
+    code_passed Cse = record { made = of.made.is_prepared.common_again; is = repeated_passed of.made.is_prepared; spelled = refl }
+    code_passed Dead = record { made = of.made.is_prepared.dropped; is = dropped_passed of.made.is_prepared; spelled = refl }
+    code_passed Spill = record { made = of.made.is_prepared.spilled; is = spilled_passed of.made.is_prepared; spelled = refl }
+    code_passed Split = record { made = of.made.prepared; is = passed of.made.is_prepared; spelled = refl }
     code_passed Alloc = record { made = of.made.mach; is = is_allocated; spelled = refl }
     code_passed Linear = record {
       made = of.lin;

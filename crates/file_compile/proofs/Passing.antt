@@ -1,7 +1,7 @@
 -- What the passes ask of a function of an accepted file, and what they make of it.
-use Rattle.std.proofs.Common.{◌≡◌, ℕ, Bool, List, length, subst, sym}
+use Rattle.std.proofs.Common.{◌≡◌, ℕ, Bool, List, length, refl, subst, sym}
 use Rattle.file_promise.proofs.Bounds.{within}
-use Rattle.cmm_tree.specs.Tree.{FunctionTree}
+use Rattle.cmm_tree.specs.Tree.{FunctionTree, FileTree, functions}
 use Rattle.file_promise.proofs.Bounds.{frame_fits}
 use Rattle.emit_rules.specs.Emitted.{IsEmitted}
 use Rattle.lin_ir.specs.Descriptors.{AreExact, IsWithin, frame_points}
@@ -13,7 +13,10 @@ use Rattle.mach_ir.specs.Placed.{WellPlaced}
 use Rattle.mach_ir.specs.Sizes.{HasRoom}
 use Rattle.mach_ir.specs.Text.{mach_text}
 use Rattle.mach_ir.specs.declared.mach.Mach.{Mach}
-use Rattle.prepare.specs.Known.{IsPreparable, IsPrepared, prepared_size}
+use Rattle.prepare.specs.Known.{IsPreparable, IsPrepared, IsOverMach, IsPassedTo, prepared_size}
+use Rattle.prepare.proofs.Known as preparing
+use Rattle.stages.specs.declared.stage.Stage.{Stage}
+use Rattle.stages.specs.declared.stage.Stage.TheVariants.{Select, CombAlloc, Cse, Dead, Spill, Split, Alloc, Linear, Frames, Code}
 use Rattle.file_promise.specs.Made.{IsFunctionMade}
 use Rattle.file_promise.proofs.Bounds.{IsPlacedFor, HasLineRoom}
 use Rattle.file_promise.proofs.Bounds.{selected_preparable, selected_room, ready, prepared_room, carried, placed_for, line_room}
@@ -26,7 +29,7 @@ use Rattle.selection_places.proofs.Placed.{selected_low}
 use Rattle.file_promise.specs.Known.{IsAccepted}
 use Rattle.file_promise.proofs.Known.{function_accepted, IsSelectable, selection_room, definitions}
 use Rattle.file_compile.specs.Accepted.{IsAcceptedFunction}
-use Rattle.file_compile.specs.Listed.{IsAllocatedFor, IsTextOf}
+use Rattle.file_compile.specs.Listed.{IsAllocatedFor, IsTextOf, IsPassText, AreFunctionTexts, IsStageText}
 
 module _ (tree : FunctionTree) (accepted : IsAcceptedFunction tree) (mach : Mach) (is : mach ≡ selected tree) where
   known : IsAccepted (definitions accepted.file) tree
@@ -38,9 +41,9 @@ module _ (tree : FunctionTree) (accepted : IsAcceptedFunction tree) (mach : Mach
   pub room : HasRoom (prepared_size (length mach.params)) mach
   room = subst (λ (m : Mach). HasRoom (prepared_size (length m.params)) m) (sym is) (selected_room known)
 
-  module _ (prepared : Mach) (made : IsPrepared mach prepared) where
-    of_selected : IsPrepared (selected tree) prepared
-    of_selected = subst (λ (m : Mach). IsPrepared m prepared) is made
+  module _ (prepared : Mach) (made : IsPassedTo mach Split prepared) where
+    pub of_selected : IsPrepared (selected tree) prepared
+    of_selected = preparing.prepared (subst (λ (m : Mach). IsPassedTo m Split prepared) is made)
 
     pub prepared_formed : WellFormed prepared
     prepared_formed = (ready known of_selected).formed
@@ -100,8 +103,32 @@ pub allocated_line_room : (tree : FunctionTree) → IsAcceptedFunction tree → 
 allocated_line_room tree accepted m a =
     line_room (function_accepted accepted.of_file.text accepted.file accepted.of_file.is_file tree accepted.among) (allocated_placed tree accepted m a)
 
--- the text of what a pass makes of a selected function is one of that
-pub of_selected_text : (Is : Mach → Mach → Type 0) (tree : FunctionTree) (mach passed : Mach) (text : List ℕ) → mach ≡ selected tree → Is mach passed → text ≡ mach_text passed →
-    IsTextOf mach_text (Is (selected tree)) text
-of_selected_text Is tree mach passed text is made spelled =
-    record { made = passed; is = subst (λ (m : Mach). Is m passed) is made; spelled = spelled }
+-- the text of what the passes up to a stage make of a selected function is one of that
+pub of_selected_text : (stage : Stage) (tree : FunctionTree) (mach passed : Mach) (text : List ℕ) → mach ≡ selected tree → IsPassedTo mach stage passed → text ≡ mach_text passed →
+    IsTextOf mach_text (IsPassedTo (selected tree) stage) text
+of_selected_text stage tree mach passed text is made spelled =
+    record { made = passed; is = subst (λ (m : Mach). IsPassedTo m stage passed) is made; spelled = spelled }
+
+-- ---- stages that are not named
+
+-- what is no later stage is over Mach, before allocation
+pub over_mach : (s : Stage) → (s ≡ Alloc → ⊥) → (s ≡ Linear → ⊥) → (s ≡ Frames → ⊥) → (s ≡ Code → ⊥) → IsOverMach s
+over_mach Alloc a b c d = absurd (a refl)
+over_mach Linear a b c d = absurd (b refl)
+over_mach Frames a b c d = absurd (c refl)
+over_mach Code a b c d = absurd (d refl)
+over_mach s a b c d = tt
+
+-- its text is what the passes make
+pub over_mach_text : (s : Stage) (tree : FunctionTree) (text : List ℕ) → IsOverMach s → IsTextOf mach_text (IsPassedTo (selected tree) s) text → IsPassText s tree text
+over_mach_text Alloc tree text over is = absurd over
+over_mach_text Linear tree text over is = absurd over
+over_mach_text Frames tree text over is = absurd over
+over_mach_text Code tree text over is = absurd over
+over_mach_text s tree text over is = is
+
+-- what is no stage of the image has the texts of the functions
+pub functions_stage : (s : Stage) (file : FileTree) (text : List ℕ) → (s ≡ Frames → ⊥) → (s ≡ Code → ⊥) → AreFunctionTexts s (functions file) text → IsStageText file s text
+functions_stage Frames file text a b are = absurd (a refl)
+functions_stage Code file text a b are = absurd (b refl)
+functions_stage s file text a b are = are

@@ -12,7 +12,7 @@ use Rattle.lin_ir.specs.declared.lin.Lin.{Lin}
 use Rattle.linear_pass.specs.Linear.{IsLinearOf}
 use Rattle.mach_ir.specs.Text.{mach_text}
 use Rattle.mach_ir.specs.declared.mach.Mach.{Mach}
-use Rattle.prepare.specs.Known.{IsPrepared, HasNoRepeats, IsCleaned, HasSlots}
+use Rattle.prepare.specs.Known.{IsPrepared, IsPassedTo}
 use Rattle.file_promise.specs.Made.{IsFunctionMade, IsMadeFor}
 use Rattle.choices.specs.declared.choices.Alloc.TheVariants.{Colour}
 use Rattle.reg_rounds.specs.Known.{IsAllocated}
@@ -43,23 +43,18 @@ pub record IsTextOf {X : Type 0} (text_of : X → List ℕ) (Is : X → Type 0) 
 
 -- the text of what the passes up to a stage make of a function; a stage of the image has none
 abbrev pub IsPassText : Stage → FunctionTree → List ℕ → Type 0
-IsPassText Select tree text = text ≡ mach_text (selected tree)
-IsPassText CombAlloc tree text = text ≡ mach_text (combined (selected tree))
-IsPassText Cse tree text = IsTextOf mach_text (HasNoRepeats (selected tree)) text
-IsPassText Dead tree text = IsTextOf mach_text (IsCleaned (selected tree)) text
-IsPassText Spill tree text = IsTextOf mach_text (HasSlots (selected tree)) text
-IsPassText Split tree text = IsTextOf mach_text (IsPrepared (selected tree)) text
 IsPassText Alloc tree text = IsTextOf mach_text (IsAllocatedFor tree) text
 IsPassText Linear tree text = IsTextOf lin_text (IsLinearFor tree) text
 IsPassText Frames tree text = text ≡ []
 IsPassText Code tree text = text ≡ []
+IsPassText stage tree text = IsTextOf mach_text (IsPassedTo (selected tree) stage) text
 
 -- the text of a function at a stage, by what its code is made of
 abbrev pub function_text : Stage → (tree : FunctionTree) {pieces : Pieces} → IsFunctionMade tree pieces → List ℕ
 function_text Select tree of = mach_text (selected tree)
 function_text CombAlloc tree of = mach_text (combined (selected tree))
-function_text Cse tree of = mach_text of.made.is_prepared.has_slots.is_readied.is_cleaned.repeated
-function_text Dead tree of = mach_text of.made.is_prepared.has_slots.is_readied.dropped
+function_text Cse tree of = mach_text of.made.is_prepared.common_again
+function_text Dead tree of = mach_text of.made.is_prepared.dropped
 function_text Spill tree of = mach_text of.made.is_prepared.spilled
 function_text Split tree of = mach_text of.made.prepared
 function_text Alloc tree of = mach_text of.made.mach

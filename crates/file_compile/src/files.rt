@@ -194,14 +194,6 @@ pub fn stage<R: Threads + Sync>(
         × (IsMadeFor (file_view checked.now) t × (first_too_large t ≡ Some large)) }
 {
     match stage {
-        Stage::Select => Ok(functions_text(alloc, checked, Stage::Select)?),
-        Stage::CombAlloc => Ok(functions_text(alloc, checked, Stage::CombAlloc)?),
-        Stage::Cse => Ok(functions_text(alloc, checked, Stage::Cse)?),
-        Stage::Dead => Ok(functions_text(alloc, checked, Stage::Dead)?),
-        Stage::Spill => Ok(functions_text(alloc, checked, Stage::Spill)?),
-        Stage::Split => Ok(functions_text(alloc, checked, Stage::Split)?),
-        Stage::Alloc => Ok(functions_text(alloc, checked, Stage::Alloc)?),
-        Stage::Linear => Ok(functions_text(alloc, checked, Stage::Linear)?),
         Stage::Frames => {
             let image = compile(rt, alloc, checked, 1, &OpenGate)?;
             Ok(frames_text(alloc, &image)?)
@@ -210,5 +202,6 @@ pub fn stage<R: Threads + Sync>(
             let image = compile(rt, alloc, checked, 1, &OpenGate)?;
             Ok(code_text(alloc, &image)?)
         }
+        _ => Ok(functions_text(alloc, checked, stage)?),
     }
 }

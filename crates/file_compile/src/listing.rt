@@ -5,88 +5,37 @@ ghost use Rattle.cmm_tree.specs.View.{function_view};
 ghost use Rattle.cmm_types.specs.Typing.{IsFunctionAnnotated};
 ghost use Rattle.file_compile.specs.Accepted.{IsAcceptedFunction};
 ghost use Rattle.stages.specs.declared.stage.Stage.{Stage};
-ghost use Rattle.file_compile.specs.Listed.{IsAllocatedFor, IsLinearFor, IsPassText, IsFunctionText};
+ghost use Rattle.file_compile.specs.Listed.{IsAllocatedFor, IsLinearFor, IsTextOf, IsPassText};
+ghost use Rattle.file_compile.specs.Listed.{IsFunctionText};
+ghost use Rattle.mach_ir.specs.Text.{mach_text};
+ghost use Rattle.prepare.specs.Known.{IsOverMach, IsPassedTo};
+ghost use Rattle.selection_rules.specs.Select.{selected};
 
 use bs_words::List;
 use cmm_tree::Function;
-use comballoc::combine;
 use lin_ir::Lin;
 use linear_pass::linear;
 use mach_ir::Mach;
-use prepare::{prepared, with_slots, without_dead, without_repeats};
+use prepare::passed_to;
 use reg_rounds::{Allocated, allocate};
 use selection::select_function;
 use stages::Stage;
 use std::alloc::{AllocError, Global};
 
-/// The text of a function as it is selected.
-fn selected_text(alloc: Global, function: &Function) -> Result<List<u8>, AllocError>
+/// The text of what the passes over Mach up to a stage make of a function.
+fn passed_text(
+    alloc: Global,
+    function: &Function,
+    stage: Stage,
+) -> Result<List<u8>, AllocError>
     requires typed { IsFunctionAnnotated function.now }
     requires accepted { IsAcceptedFunction (function_view function.now) }
-    ensures { IfOk result (λ text.
-        IsPassText Stage.Select (function_view function.now) (contents text)) }
+    requires over_mach { IsOverMach stage }
+    ensures { IfOk result (λ text. IsTextOf mach_text
+        (IsPassedTo (selected (function_view function.now)) stage) (contents text)) }
 {
     let mach = select_function(alloc, function)?;
-    mach_ir::text(alloc, &mach)
-}
-
-/// The text of a function with its allocations combined.
-fn combined_text(alloc: Global, function: &Function) -> Result<List<u8>, AllocError>
-    requires typed { IsFunctionAnnotated function.now }
-    requires accepted { IsAcceptedFunction (function_view function.now) }
-    ensures { IfOk result (λ text.
-        IsPassText Stage.CombAlloc (function_view function.now) (contents text)) }
-{
-    let mach = select_function(alloc, function)?;
-    let passed = combine(alloc, mach)?;
-    mach_ir::text(alloc, &passed)
-}
-
-/// The text of a function with moves for what is computed again.
-fn repeats_text(alloc: Global, function: &Function) -> Result<List<u8>, AllocError>
-    requires typed { IsFunctionAnnotated function.now }
-    requires accepted { IsAcceptedFunction (function_view function.now) }
-    ensures { IfOk result (λ text.
-        IsPassText Stage.Cse (function_view function.now) (contents text)) }
-{
-    let mach = select_function(alloc, function)?;
-    let passed = without_repeats(alloc, mach)?;
-    mach_ir::text(alloc, &passed)
-}
-
-/// The text of a function without what only computes and is not used.
-fn dead_text(alloc: Global, function: &Function) -> Result<List<u8>, AllocError>
-    requires typed { IsFunctionAnnotated function.now }
-    requires accepted { IsAcceptedFunction (function_view function.now) }
-    ensures { IfOk result (λ text.
-        IsPassText Stage.Dead (function_view function.now) (contents text)) }
-{
-    let mach = select_function(alloc, function)?;
-    let passed = without_dead(alloc, mach)?;
-    mach_ir::text(alloc, &passed)
-}
-
-/// The text of a function with slots for what lives over calls.
-fn slots_text(alloc: Global, function: &Function) -> Result<List<u8>, AllocError>
-    requires typed { IsFunctionAnnotated function.now }
-    requires accepted { IsAcceptedFunction (function_view function.now) }
-    ensures { IfOk result (λ text.
-        IsPassText Stage.Spill (function_view function.now) (contents text)) }
-{
-    let mach = select_function(alloc, function)?;
-    let passed = with_slots(alloc, mach)?;
-    mach_ir::text(alloc, &passed)
-}
-
-/// The text of a function with a number of its own for each web of writes.
-fn webs_text(alloc: Global, function: &Function) -> Result<List<u8>, AllocError>
-    requires typed { IsFunctionAnnotated function.now }
-    requires accepted { IsAcceptedFunction (function_view function.now) }
-    ensures { IfOk result (λ text.
-        IsPassText Stage.Split (function_view function.now) (contents text)) }
-{
-    let mach = select_function(alloc, function)?;
-    let passed = prepared(alloc, mach)?;
+    let passed = passed_to(alloc, mach, stage)?;
     mach_ir::text(alloc, &passed)
 }
 
@@ -97,7 +46,7 @@ fn allocated(alloc: Global, function: &Function) -> Result<Mach, AllocError>
     ensures { IfOk result (IsAllocatedFor (function_view function.now)) }
 {
     let mach = select_function(alloc, function)?;
-    let prepared = prepared(alloc, mach)?;
+    let prepared = passed_to(alloc, mach, Stage::Split)?;
     let Allocated {
         mach: placed,
         rounds: _,
@@ -146,16 +95,11 @@ fn pass_text(alloc: Global, function: &Function, stage: Stage) -> Result<List<u8
         IsPassText stage (function_view function.now) (contents text)) }
 {
     match stage {
-        Stage::Select => selected_text(alloc, function),
-        Stage::CombAlloc => combined_text(alloc, function),
-        Stage::Cse => repeats_text(alloc, function),
-        Stage::Dead => dead_text(alloc, function),
-        Stage::Spill => slots_text(alloc, function),
-        Stage::Split => webs_text(alloc, function),
         Stage::Alloc => places_text(alloc, function),
         Stage::Linear => lines_text(alloc, function),
         Stage::Frames => Ok(List::new(alloc)),
         Stage::Code => Ok(List::new(alloc)),
+        _ => passed_text(alloc, function, stage),
     }
 }
 

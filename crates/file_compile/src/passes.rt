@@ -8,11 +8,12 @@ ghost use Rattle.file_compile.specs.Accepted.{IsAcceptedFunction};
 use cmm_tree::Function;
 use frame_tables::descriptors;
 use linear_pass::linear;
-use prepare::prepared;
+use prepare::passed_to;
 use reg_rounds::allocate;
 use rv_emit::emit;
 use rv_pieces::Pieces;
 use selection::select_function;
+use stages::Stage;
 use std::alloc::{AllocError, Global};
 
 /// The pieces of a function: it is selected and prepared, every register gets a place, its operations become
@@ -25,7 +26,7 @@ pub fn function_pieces(alloc: Global, function: &Function) -> Result<Pieces, All
     ensures { IfOk result (IsFunctionMade (function_view function.now)) }
 {
     let mach = select_function(alloc, function)?;
-    let prepared = prepared(alloc, mach)?;
+    let prepared = passed_to(alloc, mach, Stage::Split)?;
     let allocated = allocate(alloc, prepared)?;
     let lin = linear(alloc, &allocated.mach)?;
     let descrs = descriptors(alloc, &lin)?;

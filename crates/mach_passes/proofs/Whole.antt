@@ -8,7 +8,6 @@ use Rattle.combine_rules.proofs.Sizes.{size, register_before}
 use Rattle.combine_rules.proofs.Whole as combining
 use Rattle.combine_rules.specs.Combined.{combined}
 use Rattle.combine_rules.specs.Kept.{IsCombinable}
-use Rattle.copy_rules.proofs.Form as copies
 use Rattle.copy_rules.proofs.One.{one_propagated}
 use Rattle.copy_rules.proofs.Whole.{propagated_kept}
 use Rattle.copy_rules.specs.Propagated.{IsPropagated}
@@ -35,10 +34,11 @@ use Rattle.sink_rules.specs.Known.{ParamsPlaced, IsSpilled, IsChosenKept, spille
 use Rattle.split_rules.proofs.One.{one_split}
 use Rattle.split_rules.proofs.Whole.{split_kept}
 use Rattle.split_rules.specs.Split.{IsSplit, split_size}
+use Rattle.stages.specs.declared.stage.Stage.{Stage}
+use Rattle.stages.specs.declared.stage.Stage.TheVariants.{CombAlloc, Cse, Dead, Spill, Split}
 use Rattle.bs_words.proofs.Lists.{none_in, in_cons}
 use Rattle.mach_passes.specs.Prepared.{IsPrepared, IsPreparable, IsKept}
-use Rattle.mach_passes.specs.Stages.{IsCommoned, HasNoRepeats, IsCleaned, IsReadied, HasSlots}
-use Rattle.repeat_rules.proofs.Form as repeats
+use Rattle.mach_passes.specs.Stages.{IsPassedTo, selects, combines, commons, drops, spills, splits}
 use Rattle.repeat_rules.proofs.One.{one_repeated}
 use Rattle.repeat_rules.proofs.Whole.{repeated_kept}
 use Rattle.repeat_rules.specs.Kept.{OwnOrigins}
@@ -220,19 +220,6 @@ fewer_operands {m = m} stage = (stage.size (own_size m) (has_own_size m)).operan
 abbrev pub sunk_size : Size → Size
 sunk_size s = record s { instrs = s.instrs + s.registers; operands = s.operands + 2 * s.registers }
 
-pub hoist_stage : (m q : Mach) → WellFormed m → WellPlaced m → HasConstantsFirst m q → Smaller m q
-hoist_stage m q formed placed s =
-    let k = constants_first_kept m q formed s in
-    record {
-      keeps = k.keeps;
-      formed = k.formed;
-      placed = k.placed placed;
-      seated = k.seated;
-      params = k.params;
-      size = k.size;
-      carried = k.carried;
-    }
-
 more_than : (a n r : ℕ) → n ≤ r → a + n ≤ a + r
 more_than a n r le = omega (arith, le)
 
@@ -290,187 +277,191 @@ all_words n r a b few le = by n r a b few le
     by : (n r a b : ℕ) → n ≤ r → a ≤ b + 2 * n → ((0 + 6 * n) + 6 * a) + 0 ≤ 6 * (b + 3 * r)
     by n r a b few le = omega (arith, few, le)
 
-combine_stage : (m : Mach) → IsCombinable m → WellPlaced m → Smaller m (combined m)
-combine_stage m is placed =
-    record {
-      keeps = combining.keeps m is;
-      formed = combined_formed m is;
-      placed = combined_placed m is placed;
-      seated = combined_seated m;
-      params = refl;
-      size = size m;
-      carried = combined_carried m is.formed;
-    }
+-- What the passes before late stores make of a function is no larger, and none of its registers is new: so none is made from
+-- another.
+pub record IsCut (m q : Mach) : Type 0 where
+  pub stage : Smaller m q
+  pub registers : (r : Reg) → IsRegister q r → IsRegister m r
 
-drop_stage : (m q : Mach) → WellFormed m → WellPlaced m → IsDropped m q → Smaller m q
-drop_stage m q formed placed s =
-    let k = dropped_kept m q formed placed s in
-    record {
-      keeps = k.keeps;
-      formed = k.formed;
-      placed = k.placed;
-      seated = k.seated;
-      params = k.params;
-      size = k.size;
-      carried = dropped_carried formed s;
-    }
+module _ {m : Mach} (is : IsPreparable m) where
+  pub cut_own : {q : Mach} → IsCut m q → OwnOrigins q
+  cut_own cut r i = is.combinable.origins r (cut.registers r i)
 
-propagate_stage : (m q : Mach) → WellFormed m → WellPlaced m → OwnOrigins m → IsPropagated m q → Smaller m q
-propagate_stage m q formed placed own s =
-    let k = propagated_kept m q formed placed own s in
-    record {
-      keeps = k.keeps;
-      formed = k.formed;
-      placed = k.placed;
-      seated = k.seated;
-      params = k.params;
-      size = k.size;
-      carried = propagated_carried k s;
-    }
+  cut_then : {p q : Mach} → IsCut m p → Smaller p q → ((r : Reg) → IsRegister q r → IsRegister p r) → IsCut m q
+  cut_then cut one registers = record { stage = stage_then cut.stage one; registers = λ r i. cut.registers r (registers r i) }
 
-repeat_stage : (m q : Mach) → WellFormed m → WellPlaced m → OwnOrigins m → IsRepeated m q → Smaller m q
-repeat_stage m q formed placed own s =
-    let k = repeated_kept m q formed placed own s in
-    record {
-      keeps = k.keeps;
-      formed = k.formed;
-      placed = k.placed;
-      seated = k.seated;
-      params = k.params;
-      size = k.size;
-      carried = repeated_carried k s;
-    }
+  pub combine_cut : {q : Mach} → q ≡ combined m → IsCut m q
+  combine_cut e =
+      subst (IsCut m) (sym e)
+      (record {
+        stage = record {
+          keeps = combining.keeps m is.combinable;
+          formed = combined_formed m is.combinable;
+          placed = combined_placed m is.combinable is.placed;
+          seated = combined_seated m;
+          params = refl;
+          size = size m;
+          carried = combined_carried m is.combinable.formed;
+        };
+        registers = register_before m;
+      })
 
--- combining makes no register from another
-combined_own : (m : Mach) → IsCombinable m → OwnOrigins (combined m)
-combined_own m is r i = is.origins r (register_before m r i)
+  pub propagate_cut : {p q : Mach} → IsCut m p → IsPropagated p q → IsCut m q
+  propagate_cut {p} {q} cut s =
+      let k = propagated_kept p q cut.stage.formed cut.stage.placed (cut_own cut) s in
+      cut_then cut
+      (record {
+        keeps = k.keeps;
+        formed = k.formed;
+        placed = k.placed;
+        seated = k.seated;
+        params = k.params;
+        size = k.size;
+        carried = propagated_carried k s;
+      })
+      k.registers
 
--- nor does propagating copies, or making repeats moves
-propagated_own : (m q : Mach) → WellFormed m → WellPlaced m → OwnOrigins m → IsPropagated m q → OwnOrigins q
-propagated_own m q formed placed own made r i = own r ((propagated_kept m q formed placed own made).registers r i)
+  pub repeat_cut : {p q : Mach} → IsCut m p → IsRepeated p q → IsCut m q
+  repeat_cut {p} {q} cut s =
+      let k = repeated_kept p q cut.stage.formed cut.stage.placed (cut_own cut) s in
+      cut_then cut
+      (record {
+        keeps = k.keeps;
+        formed = k.formed;
+        placed = k.placed;
+        seated = k.seated;
+        params = k.params;
+        size = k.size;
+        carried = repeated_carried k s;
+      })
+      k.registers
 
-repeated_own : (m q : Mach) → WellFormed m → WellPlaced m → OwnOrigins m → IsRepeated m q → OwnOrigins q
-repeated_own m q formed placed own made r i = own r ((repeated_kept m q formed placed own made).registers r i)
+  pub drop_cut : {p q : Mach} → IsCut m p → IsDropped p q → IsCut m q
+  drop_cut {p} {q} cut s =
+      let k = dropped_kept p q cut.stage.formed cut.stage.placed s in
+      cut_then cut
+      (record {
+        keeps = k.keeps;
+        formed = k.formed;
+        placed = k.placed;
+        seated = k.seated;
+        params = k.params;
+        size = k.size;
+        carried = dropped_carried cut.stage.formed s;
+      })
+      k.registers
 
-pub propagated_formed : (m q : Mach) → WellFormed m → IsPropagated m q → WellFormed q
-propagated_formed m q formed p = subst WellFormed (sym p.is) (copies.form_kept m p.plan p.reads formed).formed
+  pub hoist_cut : {p q : Mach} → IsCut m p → HasConstantsFirst p q → IsCut m q
+  hoist_cut {p} {q} cut s =
+      let k = constants_first_kept p q cut.stage.formed s in
+      cut_then cut
+      (record {
+        keeps = k.keeps;
+        formed = k.formed;
+        placed = k.placed cut.stage.placed;
+        seated = k.seated;
+        params = k.params;
+        size = k.size;
+        carried = k.carried;
+      })
+      k.registers
 
-pub commoned_formed : (m q : Mach) → WellFormed m → IsCommoned m q → WellFormed q
-commoned_formed m q formed c =
-    (repeats.form_kept c.propagated q (propagated_formed m c.propagated formed c.is_propagated) c.is_repeated).formed
+  -- so it is up to the stages without repeats and without dead code
+  pub combined_cut : {q : Mach} → IsPassedTo m CombAlloc q → IsCut m q
+  combined_cut (combines e) = combine_cut e
 
--- a round of both, on a function of which no register is made from another
-module _ (m q : Mach) (formed : WellFormed m) (placed : WellPlaced m) (own : OwnOrigins m) (c : IsCommoned m q) where
-  read : Smaller m c.propagated
-  read = propagate_stage m c.propagated formed placed own c.is_propagated
+  pub repeated_cut : {q : Mach} → IsPassedTo m Cse q → IsCut m q
+  repeated_cut (commons before a b c d) = repeat_cut (propagate_cut (repeat_cut (propagate_cut (combined_cut before) a) b) c) d
 
-  read_own : OwnOrigins c.propagated
-  read_own = propagated_own m c.propagated formed placed own c.is_propagated
+  pub dropped_cut : {q : Mach} → IsPassedTo m Dead q → IsCut m q
+  dropped_cut (drops before a) = drop_cut (repeated_cut before) a
 
-  common_stage : Smaller m q
-  common_stage = stage_then read (repeat_stage c.propagated q read.formed read.placed read_own c.is_repeated)
-
-  common_own : OwnOrigins q
-  common_own = repeated_own c.propagated q read.formed read.placed read_own c.is_repeated
-
-  common_registers : (r : Reg) → IsRegister q r → IsRegister m r
-  common_registers r i =
-      (propagated_kept m c.propagated formed placed own c.is_propagated).registers r
-      ((repeated_kept c.propagated q read.formed read.placed read_own c.is_repeated).registers r i)
-
--- the passes that do not enlarge the function, and make no register
-pub repeats_own : (m q : Mach) → IsPreparable m → HasNoRepeats m q → OwnOrigins q
-repeats_own m q is made =
-    let one = combine_stage m is.combinable is.placed in
-    let own = combined_own m is.combinable in
-    let first = common_stage (combined m) made.once one.formed one.placed own made.first in
-    common_own made.once q first.formed first.placed (common_own (combined m) made.once one.formed one.placed own made.first) made.second
-
-repeats_registers : (m q : Mach) → IsPreparable m → HasNoRepeats m q → (r : Reg) → IsRegister q r → IsRegister m r
-repeats_registers m q is made r i =
-    let one = combine_stage m is.combinable is.placed in
-    let own = combined_own m is.combinable in
-    let first = common_stage (combined m) made.once one.formed one.placed own made.first in
-    let own_once = common_own (combined m) made.once one.formed one.placed own made.first in
-    register_before m r
-    (common_registers (combined m) made.once one.formed one.placed own made.first r
-    (common_registers made.once q first.formed first.placed own_once made.second r i))
-
-pub repeats_stage : (m q : Mach) → IsPreparable m → HasNoRepeats m q → Smaller m q
-repeats_stage m q is made =
-    let one = combine_stage m is.combinable is.placed in
-    let own = combined_own m is.combinable in
-    let first = common_stage (combined m) made.once one.formed one.placed own made.first in
-    let own_once = common_own (combined m) made.once one.formed one.placed own made.first in
-    stage_then (stage_then one first) (common_stage made.once q first.formed first.placed own_once made.second)
-
-pub small_stage : (m q : Mach) → IsPreparable m → IsCleaned m q → Smaller m q
-small_stage m q is made =
-    let one = repeats_stage m made.repeated is made.has_no_repeats in
-    stage_then one (drop_stage made.repeated q one.formed one.placed made.is_dropped)
-
--- none of them makes a register from another
-pub cleaned_own : (m q : Mach) → IsPreparable m → IsCleaned m q → OwnOrigins q
-cleaned_own m q is made r i =
-    let one = repeats_stage m made.repeated is made.has_no_repeats in
-    repeats_own m made.repeated is made.has_no_repeats r ((dropped_kept made.repeated q one.formed one.placed made.is_dropped).registers r i)
-
-cleaned_registers : (m q : Mach) → IsPreparable m → IsCleaned m q → (r : Reg) → IsRegister q r → IsRegister m r
-cleaned_registers m q is made r i =
-    let one = repeats_stage m made.repeated is made.has_no_repeats in
-    repeats_registers m made.repeated is made.has_no_repeats r ((dropped_kept made.repeated q one.formed one.placed made.is_dropped).registers r i)
-
--- and those that make it ready for spilling
-module _ (m q : Mach) (is : IsPreparable m) (made : IsReadied m q) where
-  pub cleaned_stage : Smaller m made.dropped
-  cleaned_stage = small_stage m made.dropped is made.is_cleaned
-
-  pub hoisted_stage : Smaller m made.hoisted
-  hoisted_stage =
-      stage_then cleaned_stage (hoist_stage made.dropped made.hoisted cleaned_stage.formed cleaned_stage.placed made.has_constants_first)
-
-  no_addr_left : NoAddrLive made.hoisted
-  no_addr_left = (hoisted_stage.keeps).addrs is.no_addr
+-- and late stores
+module _ {m hoisted q : Mach} (is : IsPreparable m) (cut : IsCut m hoisted) (made : IsSunk hoisted q) where
+  no_addr_left : NoAddrLive hoisted
+  no_addr_left = (cut.stage.keeps).addrs is.no_addr
 
   abbrev pub moves : ℕ
-  moves = length (made.is_sunk).plan.registers
+  moves = length made.plan.registers
 
-  pub ready_stage : IsStage (0 + copy_words * moves) sunk_size m q
-  ready_stage = stage_then hoisted_stage (sink_stage made.hoisted q hoisted_stage.formed hoisted_stage.placed no_addr_left made.is_sunk)
+  pub sunk_stage : IsStage (0 + copy_words * moves) sunk_size m q
+  sunk_stage = stage_then cut.stage (sink_stage hoisted q cut.stage.formed cut.stage.placed no_addr_left made)
 
-  hoisted_registers : (r : Reg) → IsRegister made.hoisted r → IsRegister m r
-  hoisted_registers r i =
-      cleaned_registers m made.dropped is made.is_cleaned r
-      ((constants_first_kept made.dropped made.hoisted cleaned_stage.formed made.has_constants_first).registers r i)
-
-  sunk : sinks.IsKept made.hoisted q (made.is_sunk).plan
-  sunk = sinking.kept made.hoisted q hoisted_stage.formed no_addr_left made.is_sunk
+  sunk : sinks.IsKept hoisted q made.plan
+  sunk = sinking.kept hoisted q cut.stage.formed no_addr_left made
 
   -- a move for each open register at the most
   pub few_moves : (k : ℕ) → OpenAtMost m k → moves ≤ k
-  few_moves k h = sunk.few_open k (record { numbers = h.numbers; few = h.few; all = λ r i e. h.all r (hoisted_registers r i) e })
+  few_moves k h = sunk.few_open k (record { numbers = h.numbers; few = h.few; all = λ r i e. h.all r (cut.registers r i) e })
 
   -- each has an operand and a result
   pub more_operands : operand_count q.code ≤ operand_count m.code + 2 * moves
   more_operands =
-      grows (operand_count m.code) (operand_count made.hoisted.code) (operand_count q.code) moves (fewer_operands hoisted_stage)
-      (sunk.size (own_size made.hoisted) (has_own_size made.hoisted)).operands
+      grows (operand_count m.code) (operand_count hoisted.code) (operand_count q.code) moves (fewer_operands cut.stage)
+      (sunk.size (own_size hoisted) (has_own_size hoisted)).operands
     where
       grows : (a b c n : ℕ) → b ≤ a → c ≤ b + 2 * n → c ≤ a + 2 * n
       grows a b c n p q = omega (arith, p, q)
 
--- and spilling after them
-pub slots_stage : (m q : Mach) (is : IsPreparable m) (made : HasSlots m q) →
-    IsStage (0 + copy_words * moves m made.readied is made.is_readied + copy_words * operand_count (made.readied).code) (λ s. spilled_size (sunk_size s)) m q
-slots_stage m q is made =
-    let one = ready_stage m made.readied is made.is_readied in
-    stage_then one
-    (spill_stage made.readied q one.formed one.placed (seated_params made.readied (one.seated is.seated)) made.is_spilled)
+  -- and spilling after them
+  pub slots_stage : {r : Mach} → IsSpilled q r →
+      IsStage (0 + copy_words * moves + copy_words * operand_count q.code) (λ s. spilled_size (sunk_size s)) m r
+  slots_stage {r} spilled =
+      stage_then sunk_stage (spill_stage q r sunk_stage.formed sunk_stage.placed (seated_params q (sunk_stage.seated is.seated)) spilled)
+
+-- ---- all of them
+
+-- a prepared function is passed to the last of these stages, and what it is made of to those before
+module _ {m q : Mach} (made : IsPrepared m q) where
+  pub repeated_passed : IsPassedTo m Cse made.common_again
+  repeated_passed = commons (combines refl) made.is_propagated made.is_common made.is_propagated_again made.is_common_again
+
+  pub dropped_passed : IsPassedTo m Dead made.dropped
+  dropped_passed = drops repeated_passed made.is_dropped
+
+  pub spilled_passed : IsPassedTo m Spill made.spilled
+  spilled_passed = spills dropped_passed made.has_constants_first made.is_sunk made.is_spilled
+
+  pub passed : IsPassedTo m Split q
+  passed = splits spilled_passed made.is_split
+
+-- and what is passed there is prepared
+pub prepared : {m q : Mach} → IsPassedTo m Split q → IsPrepared m q
+prepared (splits {start = spilled} (spills {start = dropped} {a = hoisted} {b = sunk} (drops {start = repeated} (commons {a = a} {b = b} {c = c} (combines e) one two three four) five) six seven eight) nine) =
+    record {
+      propagated = a;
+      is_propagated = subst (λ (p : Mach). IsPropagated p a) e one;
+      common = b;
+      is_common = two;
+      propagated_again = c;
+      is_propagated_again = three;
+      common_again = repeated;
+      is_common_again = four;
+      dropped = dropped;
+      is_dropped = five;
+      hoisted = hoisted;
+      has_constants_first = six;
+      sunk = sunk;
+      is_sunk = seven;
+      spilled = spilled;
+      is_spilled = eight;
+      is_split = nine;
+    }
+
+-- what is passed to the stages before spilling and before splitting
+pub hoisted_cut : {m : Mach} → IsPreparable m → (q : Mach) (made : IsPrepared m q) → IsCut m made.hoisted
+hoisted_cut is q made =
+    hoist_cut is
+    (drop_cut is
+    (repeat_cut is
+    (propagate_cut is (repeat_cut is (propagate_cut is (combine_cut is refl) made.is_propagated) made.is_common) made.is_propagated_again) made.is_common_again)
+    made.is_dropped)
+    made.has_constants_first
 
 pub prepared_kept : (m q : Mach) → IsPreparable m → IsPrepared m q → IsKept m q
 prepared_kept m q is made =
-    let readied = made.has_slots.readied in
-    let slots = slots_stage m made.spilled is made.has_slots in
+    let cut = hoisted_cut is q made in
+    let slots = slots_stage is cut made.is_sunk made.is_spilled in
     let all = stage_then slots (split_stage made.spilled q (length m.params) (ap length slots.params) slots.formed slots.placed made.is_split) in
     record {
       keeps = all.keeps;
@@ -480,41 +471,28 @@ prepared_kept m q is made =
       size = all.size;
       carried = λ k h.
           carried_within
-          (all_words (moves m readied is made.has_slots.is_readied) k (operand_count readied.code) (operand_count m.code)
-          (few_moves m readied is made.has_slots.is_readied k h) (more_operands m readied is made.has_slots.is_readied)) all.carried;
+          (all_words (moves is cut made.is_sunk) k (operand_count (made.sunk).code) (operand_count m.code) (few_moves is cut made.is_sunk k h)
+          (more_operands is cut made.is_sunk)) all.carried;
     }
 
 -- ---- one result
 
-one_commoned : (m q k : Mach) → IsCommoned m q → IsCommoned m k → q ≡ k
-one_commoned m q k a b =
-    let propagated = one_propagated m a.propagated b.propagated a.is_propagated b.is_propagated in
-    one_repeated b.propagated q k (subst (λ (c : Mach). IsRepeated c q) propagated a.is_repeated) b.is_repeated
+-- where a pass makes one function, it does so of functions that are one
+one_made : (P : Mach → Mach → Type 0) → ((m q k : Mach) → P m q → P m k → q ≡ k) → {p o q k : Mach} → p ≡ o → P p q → P o k → q ≡ k
+one_made P one {p} {o} {q} {k} same a b = one o q k (subst (λ (x : Mach). P x q) same a) b
 
-pub one_without_repeats : (m q k : Mach) → HasNoRepeats m q → HasNoRepeats m k → q ≡ k
-one_without_repeats m q k a b =
-    let once = one_commoned (combined m) a.once b.once a.first b.first in
-    one_commoned b.once q k (subst (λ (c : Mach). IsCommoned c q) once a.second) b.second
-
-pub one_cleaned : (m q k : Mach) → IsCleaned m q → IsCleaned m k → q ≡ k
-one_cleaned m q k a b =
-    let repeated = one_without_repeats m a.repeated b.repeated a.has_no_repeats b.has_no_repeats in
-    one_dropped b.repeated q k (subst (λ (d : Mach). IsDropped d q) repeated a.is_dropped) b.is_dropped
-
-pub one_readied : (m q k : Mach) → IsReadied m q → IsReadied m k → q ≡ k
-one_readied m q k a b =
-    let cleaned = one_cleaned m a.dropped b.dropped a.is_cleaned b.is_cleaned in
-    let hoisted =
-    one_constants_first b.dropped a.hoisted b.hoisted (subst (λ (d : Mach). HasConstantsFirst d a.hoisted) cleaned a.has_constants_first)
-    b.has_constants_first in
-    one_sunk b.hoisted q k (subst (λ (d : Mach). IsSunk d q) hoisted a.is_sunk) b.is_sunk
-
-pub one_with_slots : (m q k : Mach) → HasSlots m q → HasSlots m k → q ≡ k
-one_with_slots m q k a b =
-    let readied = one_readied m a.readied b.readied a.is_readied b.is_readied in
-    one_spilled b.readied q k (subst (λ (d : Mach). IsSpilled d q) readied a.is_spilled) b.is_spilled
+-- The passes up to a stage make one function of each.
+pub one_passed : {m q k : Mach} {stage : Stage} → IsPassedTo m stage q → IsPassedTo m stage k → q ≡ k
+one_passed (selects a) (selects b) = a ∙ sym b
+one_passed (combines a) (combines b) = a ∙ sym b
+one_passed (commons x a b c d) (commons y e f g h) =
+    one_made IsRepeated one_repeated
+    (one_made IsPropagated one_propagated
+    (one_made IsRepeated one_repeated (one_made IsPropagated one_propagated (one_passed x y) a e) b f) c g) d h
+one_passed (drops x a) (drops y b) = one_made IsDropped one_dropped (one_passed x y) a b
+one_passed (spills x a b c) (spills y d e f) =
+    one_made IsSpilled one_spilled (one_made IsSunk one_sunk (one_made HasConstantsFirst one_constants_first (one_passed x y) a d) b e) c f
+one_passed (splits x a) (splits y b) = one_made IsSplit one_split (one_passed x y) a b
 
 pub one_prepared : (m q k : Mach) → IsPrepared m q → IsPrepared m k → q ≡ k
-one_prepared m q k a b =
-    let spilled = one_with_slots m a.spilled b.spilled a.has_slots b.has_slots in
-    one_split b.spilled q k (subst (λ (s : Mach). IsSplit s q) spilled a.is_split) b.is_split
+one_prepared m q k a b = one_passed (passed a) (passed b)

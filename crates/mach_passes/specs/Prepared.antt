@@ -1,7 +1,11 @@
 -- What the passes before register allocation make of a Mach function (OCaml's `asmcomp/asmgen.ml`,
 -- with two more right before spilling).
 use Rattle.std.specs.Prelude.{ℕ, ◌+◌, ◌*◌, length}
+use Rattle.combine_rules.specs.Combined.{combined}
 use Rattle.combine_rules.specs.Kept.{IsCombinable}
+use Rattle.copy_rules.specs.Propagated.{IsPropagated}
+use Rattle.hoist_rules.specs.Chosen.{HasConstantsFirst}
+use Rattle.hoist_rules.specs.Known.{IsDropped}
 use Rattle.mach_ir.specs.Formed.{WellFormed}
 use Rattle.mach_ir.specs.Keeps.{Keeps}
 use Rattle.mach_ir.specs.Placed.{WellPlaced}
@@ -11,15 +15,38 @@ use Rattle.mach_ir.specs.Walks.{NoAddrLive}
 use Rattle.mach_ir.specs.declared.mach.Mach.{Mach}
 use Rattle.hoist_rules.specs.Known.{IsCarried, copy_words}
 use Rattle.places_rules.specs.Places.{ColoursLow}
+use Rattle.repeat_rules.specs.Repeated.{IsRepeated}
+use Rattle.sink_rules.specs.Chosen.{IsSunk}
+use Rattle.sink_rules.specs.Known.{IsSpilled}
 use Rattle.split_rules.specs.Split.{IsSplit}
-use Rattle.mach_passes.specs.Stages.{HasSlots}
 
--- Its allocations are combined, operands are read from what they are copies of, repeats become moves,
--- what only computes and is not used goes, constants of loops are made at the entry, what lives over
--- calls goes to slots, some of it late, and each web of writes gets a number of its own.
+-- Each pass in its order, with what it makes.
 pub record IsPrepared (m q : Mach) : Type 0 where
+  -- allocations combined, and operands read from what they are copies of
+  pub propagated : Mach
+  pub is_propagated : IsPropagated (combined m) propagated
+  -- repeats made moves
+  pub common : Mach
+  pub is_common : IsRepeated propagated common
+  -- both again: what was computed from a repeat repeats too once that is a copy, as the address of an
+  -- element does once its offset is
+  pub propagated_again : Mach
+  pub is_propagated_again : IsPropagated common propagated_again
+  pub common_again : Mach
+  pub is_common_again : IsRepeated propagated_again common_again
+  -- without what only computes and is not used
+  pub dropped : Mach
+  pub is_dropped : IsDropped common_again dropped
+  -- constants of loops made at the entry
+  pub hoisted : Mach
+  pub has_constants_first : HasConstantsFirst dropped hoisted
+  -- some of what lives over calls moved to itself before one of them, so that it is stored late
+  pub sunk : Mach
+  pub is_sunk : IsSunk hoisted sunk
+  -- slots for what lives over calls
   pub spilled : Mach
-  pub has_slots : HasSlots m spilled
+  pub is_spilled : IsSpilled sunk spilled
+  -- and a number of its own for each web of writes
   pub is_split : IsSplit spilled q
 
 -- what these passes ask of a function: selection gives it

@@ -1,4 +1,5 @@
--- What is between the passes before register allocation.
+-- What the passes before register allocation make up to a stage.
+use Rattle.std.specs.Prelude.{◌≡◌, ⊤}
 use Rattle.combine_rules.specs.Combined.{combined}
 use Rattle.copy_rules.specs.Propagated.{IsPropagated}
 use Rattle.hoist_rules.specs.Known.{IsDropped}
@@ -7,38 +8,31 @@ use Rattle.mach_ir.specs.declared.mach.Mach.{Mach}
 use Rattle.repeat_rules.specs.Repeated.{IsRepeated}
 use Rattle.sink_rules.specs.Chosen.{IsSunk}
 use Rattle.sink_rules.specs.Known.{IsSpilled}
+use Rattle.split_rules.specs.Split.{IsSplit}
+use Rattle.stages.specs.declared.stage.Stage.{Stage}
+use Rattle.stages.specs.declared.stage.Stage.TheVariants.{Select, CombAlloc, Cse, Dead, Spill, Split, Alloc, Linear, Frames, Code}
 
--- The second is the first with operands read from what they are copies of, and then moves for repeats.
-pub record IsCommoned (m q : Mach) : Type 0 where
-  pub propagated : Mach
-  pub is_propagated : IsPropagated m propagated
-  pub is_repeated : IsRepeated propagated q
+-- The passes up to the stage make the last of the function: each stage is what the one before it gives,
+-- through the passes of its own.
+pub data IsPassedTo (m : Mach) : Stage → Mach → Type 0 where
+  selects : {q : Mach} → q ≡ m → IsPassedTo m Select q
+  combines : {q : Mach} → q ≡ combined m → IsPassedTo m CombAlloc q
+  commons : {start a b c q : Mach} → IsPassedTo m CombAlloc start → IsPropagated start a →
+      IsRepeated a b → IsPropagated b c → IsRepeated c q → IsPassedTo m Cse q
+  drops : {start q : Mach} → IsPassedTo m Cse start → IsDropped start q → IsPassedTo m Dead q
+  spills : {start a b q : Mach} → IsPassedTo m Dead start → HasConstantsFirst start a → IsSunk a b →
+      IsSpilled b q → IsPassedTo m Spill q
+  splits : {start q : Mach} → IsPassedTo m Spill start → IsSplit start q → IsPassedTo m Split q
 
--- The second is the first with its allocations combined and its repeats made moves, in two rounds: what
--- was computed from a repeat repeats too once that is a copy, as the address of an element does once
--- its offset is.
-pub record HasNoRepeats (m q : Mach) : Type 0 where
-  pub once : Mach
-  pub first : IsCommoned (combined m) once
-  pub second : IsCommoned once q
-
--- The second is the first so, and without dead code.
-pub record IsCleaned (m q : Mach) : Type 0 where
-  pub repeated : Mach
-  pub has_no_repeats : HasNoRepeats m repeated
-  pub is_dropped : IsDropped repeated q
-
--- The second is the first, so cleaned, and ready to be spilled: constants of loops are made at the
--- entry, and some of what lives over calls is moved to itself before one of them.
-pub record IsReadied (m q : Mach) : Type 0 where
-  pub dropped : Mach
-  pub is_cleaned : IsCleaned m dropped
-  pub hoisted : Mach
-  pub has_constants_first : HasConstantsFirst dropped hoisted
-  pub is_sunk : IsSunk hoisted q
-
--- The second is the first, so readied, in which what lives over calls has slots.
-pub record HasSlots (m q : Mach) : Type 0 where
-  pub readied : Mach
-  pub is_readied : IsReadied m readied
-  pub is_spilled : IsSpilled readied q
+-- It is a stage of these.
+abbrev pub IsOverMach : Stage → Type 0
+IsOverMach Select = ⊤
+IsOverMach CombAlloc = ⊤
+IsOverMach Cse = ⊤
+IsOverMach Dead = ⊤
+IsOverMach Spill = ⊤
+IsOverMach Split = ⊤
+IsOverMach Alloc = ⊥
+IsOverMach Linear = ⊥
+IsOverMach Frames = ⊥
+IsOverMach Code = ⊥

@@ -3,4 +3,4 @@
 
 mod passes;
 
-pub use passes::{prepared, with_slots, without_dead, without_repeats};
+pub use passes::passed_to;

@@ -4,6 +4,7 @@ use Rattle.cmm_tree.specs.View.{file_view}
 use Rattle.image_form.specs.Tables.{tables}
 use Rattle.stages.specs.declared.stage.Stage.{Stage}
 use Rattle.file_compile.specs.Listed.{IsStageText}
+use Rattle.file_compile.proofs.Passing.{functions_stage}
 use Rattle.file_compile.proofs.files.stage.Goals as goal
 
 pub returns-in_ok-frames_text-in-Frames-clause-text : goal.returns-in_ok-frames_text-in-Frames-clause-text
@@ -29,3 +30,8 @@ returns-in_ok-code_text-in-Code-clause-text g c =
       fits = c.in_ok-image-in-Code.ensures.fits;
       is = c.in_ok-code_text-in-Code.ensures;
     })
+
+pub returns-in_ok-functions_text-in_default-clause-text : goal.returns-in_ok-functions_text-in_default-clause-text
+returns-in_ok-functions_text-in_default-clause-text g c =
+    functions_stage c.args.stage (file_view c.args.checked.now) (contents c.in_ok-functions_text-in_default.field-0) c.in_default.not-Frames
+    c.in_default.not-Code c.in_ok-functions_text-in_default.ensures

@@ -1,18 +1,15 @@
-use Rattle.std.proofs.Common.{subst}
 use Rattle.cmm_tree.specs.View.{function_view}
-use Rattle.mach_ir.specs.declared.mach.Mach.{Mach}
-use Rattle.prepare.specs.Known.{IsPrepared}
-use Rattle.file_compile.proofs.Passing.{can_be_selected, preparable, room, prepared_has_room, prepared_formed, prepared_placed, prepared_low}
+use Rattle.file_compile.proofs.Passing.{can_be_selected, preparable, room, of_selected, prepared_has_room, prepared_formed, prepared_placed, prepared_low}
 use Rattle.file_compile.proofs.listing.allocated.Goals as goal
 
 pub select_function-requires-clause-room : goal.select_function-requires-clause-room
 select_function-requires-clause-room c = can_be_selected (function_view c.args.function.now) c.requires.accepted
 
-pub prepared-requires-clause-preparable : goal.prepared-requires-clause-preparable
-prepared-requires-clause-preparable c = preparable (function_view c.args.function.now) c.requires.accepted c.in_ok-mach.mach c.in_ok-mach.ensures
+pub passed_to-requires-clause-preparable : goal.passed_to-requires-clause-preparable
+passed_to-requires-clause-preparable c = preparable (function_view c.args.function.now) c.requires.accepted c.in_ok-mach.mach c.in_ok-mach.ensures
 
-pub prepared-requires-clause-room : goal.prepared-requires-clause-room
-prepared-requires-clause-room c = room (function_view c.args.function.now) c.requires.accepted c.in_ok-mach.mach c.in_ok-mach.ensures
+pub passed_to-requires-clause-room : goal.passed_to-requires-clause-room
+passed_to-requires-clause-room c = room (function_view c.args.function.now) c.requires.accepted c.in_ok-mach.mach c.in_ok-mach.ensures
 
 pub allocate-requires-clause-room : goal.allocate-requires-clause-room
 allocate-requires-clause-room c =
@@ -37,7 +34,9 @@ allocate-requires-clause-low c =
 pub returns : goal.returns
 returns c = record {
   prepared = c.in_ok-prepared.prepared;
-  is_prepared = subst (λ (m : Mach). IsPrepared m c.in_ok-prepared.prepared) c.in_ok-mach.ensures c.in_ok-prepared.ensures;
+  is_prepared =
+      of_selected (function_view c.args.function.now) c.requires.accepted c.in_ok-mach.mach c.in_ok-mach.ensures c.in_ok-prepared.prepared
+      c.in_ok-prepared.ensures;
   allocated = record {
     rounds = c.in_ok-placed.field-0.rounds;
     rest = c.in_ok-placed.field-0.rest;

@@ -8,11 +8,11 @@ use Rattle.file_compile.proofs.passes.function_pieces.Goals as goal
 pub select_function-requires-clause-room : goal.select_function-requires-clause-room
 select_function-requires-clause-room c = can_be_selected (function_view c.args.function.now) c.requires.accepted
 
-pub prepared-requires-clause-preparable : goal.prepared-requires-clause-preparable
-prepared-requires-clause-preparable c = preparable (function_view c.args.function.now) c.requires.accepted c.in_ok-mach.mach c.in_ok-mach.ensures
+pub passed_to-requires-clause-preparable : goal.passed_to-requires-clause-preparable
+passed_to-requires-clause-preparable c = preparable (function_view c.args.function.now) c.requires.accepted c.in_ok-mach.mach c.in_ok-mach.ensures
 
-pub prepared-requires-clause-room : goal.prepared-requires-clause-room
-prepared-requires-clause-room c = room (function_view c.args.function.now) c.requires.accepted c.in_ok-mach.mach c.in_ok-mach.ensures
+pub passed_to-requires-clause-room : goal.passed_to-requires-clause-room
+passed_to-requires-clause-room c = room (function_view c.args.function.now) c.requires.accepted c.in_ok-mach.mach c.in_ok-mach.ensures
 
 pub allocate-requires-clause-room : goal.allocate-requires-clause-room
 allocate-requires-clause-room c =
