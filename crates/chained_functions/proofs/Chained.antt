@@ -1,6 +1,7 @@
 -- What was made of a function of an accepted text is known whole.
 use Rattle.std.proofs.Common.{◌≡◌, ℕ, ◌+◌, ◌*◌, ◌<◌, ◌≤◌, List, [], ◌∷◌, length, All, Option, refl, subst, arith}
 use Rattle.std.proofs.Math.Nat.{mul-le-mul_right, suc-mul}
+use Rattle.choices.specs.declared.choices.Choices.{Choices}
 use Rattle.cmm_tree.specs.Symbols.{DefinedSymbol}
 use Rattle.cmm_tree.specs.Tree.{FunctionTree}
 use Rattle.correctness.specs.Measures.{tries}
@@ -47,6 +48,7 @@ use Rattle.placed_functions.proofs.Placed.{placed_for}
 use Rattle.placed_functions.proofs.Tries.{few_nest}
 use Rattle.made_once.specs.Made.{AreLinesOf, IsChained}
 use Rattle.made_once.specs.Made.{IsMadeOf}
+use Rattle.made_once.proofs.Ordered.{linear_of}
 use Rattle.mach_laws.proofs.Instructions.{instr}
 use Rattle.chained_functions.proofs.Carried.{lowered_shallow, tidied_shallow, tidied_named, lowered_unended, tidied_unended}
 
@@ -154,17 +156,20 @@ module _ {defined : List ℕ → Option DefinedSymbol} {tree : FunctionTree} (ac
       }
 
 -- Lines of which all is known, with what is made of them.
-whole : {tree : FunctionTree} {m : Lin} {ds : List Descr} {pieces : Pieces} → AreLinesOf tree m → (made : IsMadeOf tree m ds pieces) → IsChained tree m ds pieces
+whole : {choices : Choices} {tree : FunctionTree} {m : Lin} {ds : List Descr} {pieces : Pieces} → AreLinesOf tree m → (made : IsMadeOf choices tree m ds pieces) →
+    IsChained tree m ds pieces
 whole {ds = ds} lines made =
     record {
       lines = lines;
       exact = made.exact;
       count = made.count;
-      homes = made.linear.named ds made.exact;
+      homes = (linear_of made).named ds made.exact;
       emitted = made.emitted;
     }
 
 -- What was made of a function of an accepted text is known whole, where its frame and its traps fit.
-pub chained : {defined : List ℕ → Option DefinedSymbol} {tree : FunctionTree} {m : Lin} {ds : List Descr} {pieces : Pieces} → IsAccepted defined tree → IsMadeOf tree m ds pieces →
+pub chained : {choices : Choices} {defined : List ℕ → Option DefinedSymbol} {tree : FunctionTree} {m : Lin} {ds : List Descr} {pieces : Pieces} → IsAccepted defined tree →
+    IsMadeOf choices tree m ds pieces →
     frame_bytes m + 16 * tries tree ≤ 1048576 → IsChained tree m ds pieces
-chained accepted made fit = whole (lines accepted (placed_for accepted made.is_prepared made.allocated) made.linear fit) made
+chained accepted made fit =
+    whole (lines accepted (placed_for accepted made.is_prepared made.allocated) (linear_of made) fit) made

@@ -4,6 +4,7 @@
 #![tactic(auto)]
 
 ghost use Rattle.std.specs.Prelude.{ℕ, ◌+◌, ◌*◌, ◌≤◌, List, Option, length};
+ghost use Rattle.choices.specs.declared.choices.Choices.{Choices};
 ghost use Rattle.cmm_tree.specs.Symbols.{DefinedSymbol};
 ghost use Rattle.cmm_tree.specs.Tree.{FunctionTree};
 ghost use Rattle.correctness.specs.Measures.{tries};
@@ -19,17 +20,17 @@ ghost use Rattle.placed_functions.specs.Known.{IsAccepted};
 
 /// Law: no more traps are pushed at a place of a compiled function than tries are round one of its text.
 pub fn traps_are_few()
-    ensures { (defined : List ℕ →
-        Option DefinedSymbol) (tree : FunctionTree) (m : Lin) (ds : List Descr)
-        (pieces : Pieces) → IsAccepted defined tree → IsMadeOf tree m ds pieces → (code : List Line)
-        (traps : List ℕ) → Traps m code traps → length traps ≤ tries tree }
+    ensures { (choices : Choices) (defined : List ℕ → Option DefinedSymbol) (tree : FunctionTree)
+        (m : Lin) (ds : List Descr) (pieces : Pieces) → IsAccepted defined tree →
+        IsMadeOf choices tree m ds pieces → (code : List Line) (traps : List ℕ) →
+        Traps m code traps → length traps ≤ tries tree }
 {}
 
 /// Law: what the passes made of a function that the front accepts is known whole, where its frame and its traps fit
 /// what descriptors can say.
 pub fn made_functions_are_chained()
-    ensures { (defined : List ℕ →
-        Option DefinedSymbol) (tree : FunctionTree) (m : Lin) (ds : List Descr)
-        (pieces : Pieces) → IsAccepted defined tree → IsMadeOf tree m ds pieces →
-        frame_bytes m + 16 * tries tree ≤ 1048576 → IsChained tree m ds pieces }
+    ensures { (choices : Choices) (defined : List ℕ → Option DefinedSymbol) (tree : FunctionTree)
+        (m : Lin) (ds : List Descr) (pieces : Pieces) → IsAccepted defined tree →
+        IsMadeOf choices tree m ds pieces → frame_bytes m + 16 * tries tree ≤ 1048576 →
+        IsChained tree m ds pieces }
 {}

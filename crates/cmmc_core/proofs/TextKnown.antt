@@ -11,7 +11,7 @@ use Rattle.cmm_tree.specs.Tree.{FileTree}
 use Rattle.correctness.specs.Bounds.{IsRoomy}
 use Rattle.image_form.specs.Tables.{Tables}
 use Rattle.layout_rules.specs.TooLarge.{first_too_large}
-use Rattle.commands.specs.Known.{IsMadeFor}
+use Rattle.commands.specs.Known.{defaults, IsMadeFor}
 use Rattle.commands.proofs.Known.{bytes_of, made_for_once}
 use Rattle.commands.specs.Compile.{Reads}
 use Rattle.commands.specs.Effects.{Side, IsRead}
@@ -21,11 +21,11 @@ use Rattle.commands.proofs.Reading.{all, too_long, IsRead-known}
 
 -- the image that is made for the file fits
 abbrev pub Fits : FileTree → Type 0
-Fits file = (image : Tables) × (IsMadeFor file image × (first_too_large image ≡ None))
+Fits file = (image : Tables) × (IsMadeFor defaults file image × (first_too_large image ≡ None))
 
 -- or this section of it is the first to pass its limit
 abbrev pub Passes : Large → FileTree → Type 0
-Passes large file = (image : Tables) × (IsMadeFor file image × (first_too_large image ≡ Some large))
+Passes large file = (image : Tables) × (IsMadeFor defaults file image × (first_too_large image ≡ Some large))
 
 pub some_none : {A : Type 0} (o : Option A) (x : A) → o ≡ Some x → o ≡ None → ⊥
 some_none o x s n = let e : Some x ≡ None = sym s ∙ n in cc

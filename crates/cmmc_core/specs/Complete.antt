@@ -11,7 +11,7 @@ use Rattle.correctness.specs.Bounds.{IsRoomy}
 use Rattle.stages.specs.Image.{IsOfImage}
 use Rattle.image_form.specs.Tables.{Tables, Func}
 use Rattle.layout_rules.specs.TooLarge.{first_too_large}
-use Rattle.commands.specs.Known.{IsMadeFor, NamesNone, HasUnfit, IsCall}
+use Rattle.commands.specs.Known.{defaults, IsMadeFor, NamesNone, HasUnfit, IsCall}
 use Rattle.rv_machine.specs.Loading.{func_named, words_of_args}
 use Rattle.stages.specs.declared.stage.Stage.{Stage}
 use Rattle.commands.specs.Effects.{Effects, Side, Rose}
@@ -47,7 +47,7 @@ pub record ImageComplete
   pub fits : (file : FileTree) (image : Tables)
       → IsFileOf text file
       → IsAsked file
-      → IsMadeFor file image
+      → IsMadeFor defaults file image
       → first_too_large image ≡ None
       → HasOutput out status
   pub roomy : (file : FileTree)
@@ -58,7 +58,7 @@ pub record ImageComplete
   pub too_large : (file : FileTree) (image : Tables) (large : Large)
       → IsFileOf text file
       → IsSized file
-      → IsMadeFor file image
+      → IsMadeFor defaults file image
       → first_too_large image ≡ Some large
       → Is 8 status
 

@@ -2,6 +2,7 @@
 use Rattle.std.proofs.Common.{ℕ, ◌+◌, ◌-◌, ◌*◌, ◌≤◌, List, length, Option, sym, subst, arith}
 use Rattle.std.specs.Prelude.{Contains}
 use Rattle.std.proofs.lemmas.List.Elements.{All-weaker}
+use Rattle.choices.specs.declared.choices.Choices.{Choices}
 use Rattle.cmm_front.specs.FileOf.{IsFileOf}
 use Rattle.cmm_tree.specs.Measures.{all_tries}
 use Rattle.cmm_tree.specs.Symbols.{DefinedSymbol}
@@ -21,6 +22,7 @@ use Rattle.selection_sizes.proofs.Selected.{selected_words, selected_points}
 use Rattle.text_sizes.proofs.Nesting.{text_nests}
 use Rattle.tidy_rules.proofs.Lowered.{lowered_regular}
 use Rattle.chained_functions.specs.Made.{IsMadeOf}
+use Rattle.chained_functions.proofs.Once.{linear_of}
 use Rattle.chained_functions.specs.Made.{IsBoundedBy}
 use Rattle.code_bounds.proofs.Lines.{function_short}
 use Rattle.code_bounds.proofs.Slots.{few_slots, frame_few}
@@ -59,7 +61,7 @@ module _ {defined : List ℕ → Option DefinedSymbol} {tree : FunctionTree} (ac
   few_entries : (d : Descr) → NamesHomes m d → length d.entries ≤ 21 + 2 * tree.tokens
   few_entries d h = let few = h.few in let slots = few_made in omega (arith, few, slots)
 
-  pub bounded : (ds : List Descr) (pieces : Pieces) → IsMadeOf tree m ds pieces → tries tree ≤ 250 → IsBoundedBy tree ds pieces
+  pub bounded : {choices : Choices} (ds : List Descr) (pieces : Pieces) → IsMadeOf choices tree m ds pieces → tries tree ≤ 250 → IsBoundedBy tree ds pieces
   bounded ds pieces made shallow =
       let short = function_short m made.emitted.traps ds in
       let regular = lowered_regular q is.formed is.placed is.seated in
@@ -83,8 +85,8 @@ module _ {defined : List ℕ → Option DefinedSymbol} {tree : FunctionTree} (ac
       })
 
 -- So it is of each function of a file that the front accepts.
-pub text_bounded : (text : List ℕ) (file : FileTree) → IsFileOf text file → (tree : FunctionTree) → Contains (functions file) tree →
-    (m : Lin) (ds : List Descr) (pieces : Pieces) → IsMadeOf tree m ds pieces → IsBoundedBy tree ds pieces
+pub text_bounded : {choices : Choices} (text : List ℕ) (file : FileTree) → IsFileOf text file → (tree : FunctionTree) → Contains (functions file) tree →
+    (m : Lin) (ds : List Descr) (pieces : Pieces) → IsMadeOf choices tree m ds pieces → IsBoundedBy tree ds pieces
 text_bounded text file is tree c m ds pieces made =
     let accepted : IsAccepted (definitions file) tree = function_accepted text file is tree c in
-    bounded accepted (placed_for accepted made.is_prepared made.allocated) made.linear ds pieces made (text_nests text file tree is c)
+    bounded accepted (placed_for accepted made.is_prepared made.allocated) (linear_of made) ds pieces made (text_nests text file tree is c)

@@ -8,6 +8,7 @@ use Rattle.std.proofs.lemmas.Map.Views.{Contains-from_any}
 use Rattle.std.specs.Prelude.{Contains}
 use Rattle.std.specs.List.{AllZip}
 use Rattle.std.proofs.lemmas.List.Elements.{All-contains}
+use Rattle.choices.specs.declared.choices.Choices.{Choices}
 use Rattle.cmm_front.specs.FileOf.{IsFileOf}
 use Rattle.cmm_tree.specs.Symbols.{DefinedSymbol}
 use Rattle.cmm_tree.specs.Tree.{FunctionTree, FileTree, functions}
@@ -28,6 +29,7 @@ use Rattle.selection_accepted.proofs.Selecting.{definitions}
 use Rattle.text_sizes.proofs.Nesting.{text_nests}
 use Rattle.chained_functions.specs.Made.{IsFunctionMade}
 use Rattle.chained_functions.specs.Made.{IsMadeOf}
+use Rattle.chained_functions.proofs.Once.{linear_of}
 use Rattle.code_bounds.specs.Kept.{KeepsTo}
 use Rattle.code_bounds.proofs.Bounded.{bounded}
 
@@ -38,15 +40,15 @@ few_labels p formed =
     (IsDistinct-from_AllPairs Decides-eqb (labels_in p.code) formed.labels_once)
     (λ l seen. All-contains (λ l. l < p.labels) (labels_in p.code) l formed.labels_below (Contains-from_any eqb-true l (labels_in p.code) seen))
 
-module _ (defined : List ℕ → Option DefinedSymbol) (tree : FunctionTree) (m : Lin) (ds : List Descr) (pieces : Pieces) (accepted : IsAccepted defined tree)
-    (made : IsMadeOf tree m ds pieces) where
+module _ {choices : Choices} (defined : List ℕ → Option DefinedSymbol) (tree : FunctionTree) (m : Lin) (ds : List Descr) (pieces : Pieces) (accepted : IsAccepted defined tree)
+    (made : IsMadeOf choices tree m ds pieces) where
   few_places : length (places_in pieces.code) ≤ 12023 * tree.tokens
   few_places =
       let is = placed_for accepted made.is_prepared made.allocated in
       let below = is.labels in
       let emitted = ap (λ (p : Pieces). length (places_in p.code)) made.emitted.is in
       let labels = ap length (places_are_labels m made.emitted.traps ds) in
-      let more = made.linear.labels_few in
+      let more = (linear_of made).labels_few in
       let instrs = is.instrs in
       let few = few_labels made.mach is.formed in
       omega (arith, below, emitted, labels, more, instrs, few)
@@ -56,22 +58,23 @@ module _ (defined : List ℕ → Option DefinedSymbol) (tree : FunctionTree) (m 
   keeps_to shallow = record {
     descrs = ds;
     carried = ap (λ (p : Pieces). marks_in p.code) made.emitted.is ∙ descriptors_are_carried m made.emitted.traps ds made.count;
-    bounded = bounded accepted (placed_for accepted made.is_prepared made.allocated) made.linear ds pieces made shallow;
+    bounded = bounded accepted (placed_for accepted made.is_prepared made.allocated) (linear_of made) ds pieces made shallow;
     labels = let few = few_places in omega (arith, few);
   }
 
 -- Those of each function of an accepted file do.
-pub text_keeps : (text : List ℕ) (file : FileTree) → IsFileOf text file → (tree : FunctionTree) → Contains (functions file) tree →
-    (m : Lin) (ds : List Descr) (pieces : Pieces) → IsMadeOf tree m ds pieces → KeepsTo tree pieces
+pub text_keeps : {choices : Choices} (text : List ℕ) (file : FileTree) → IsFileOf text file → (tree : FunctionTree) → Contains (functions file) tree →
+    (m : Lin) (ds : List Descr) (pieces : Pieces) → IsMadeOf choices tree m ds pieces → KeepsTo tree pieces
 text_keeps text file is tree c m ds pieces made =
     keeps_to (definitions file) tree m ds pieces (function_accepted text file is tree c) made (text_nests text file tree is c)
 
 -- And so do all of them.
-pub each_keeps : (text : List ℕ) (file : FileTree) → IsFileOf text file → (ps : List Pieces) → AllZip IsFunctionMade (functions file) ps →
+pub each_keeps : {choices : Choices} (text : List ℕ) (file : FileTree) → IsFileOf text file → (ps : List Pieces) →
+    AllZip (IsFunctionMade choices) (functions file) ps →
     AllZip KeepsTo (functions file) ps
-each_keeps text file is ps made = go (functions file) ps (λ tree c. c) made
+each_keeps {choices} text file is ps made = go (functions file) ps (λ tree c. c) made
   where
-    go : (fs : List FunctionTree) (ps : List Pieces) → ((tree : FunctionTree) → Contains fs tree → Contains (functions file) tree) → AllZip IsFunctionMade fs ps →
+    go : (fs : List FunctionTree) (ps : List Pieces) → ((tree : FunctionTree) → Contains fs tree → Contains (functions file) tree) → AllZip (IsFunctionMade choices) fs ps →
         AllZip KeepsTo fs ps
     go [] [] among made = tt
     go [] (p ∷ ps) among made = absurd made

@@ -5,6 +5,7 @@
 
 ghost use Rattle.std.specs.List.{AllZip};
 ghost use Rattle.std.specs.Prelude.{◌≡◌, ℕ, ◌+◌, ◌*◌, ◌^◌, ◌<◌, ◌≤◌, List, Option, None, Contains, sum_by};
+ghost use Rattle.choices.specs.declared.choices.Choices.{Choices};
 ghost use Rattle.cmm_front.specs.FileOf.{IsFileOf};
 ghost use Rattle.cmm_tree.specs.Symbols.{DefinedSymbol};
 ghost use Rattle.cmm_tree.specs.Tree.{FunctionTree, FileTree, functions};
@@ -26,22 +27,25 @@ ghost use Rattle.code_bounds.specs.Kept.{KeepsTo};
 /// Law: what is made of a function of an accepted text is as small as the text asks, and its frame fits
 /// what descriptors can say.
 pub fn made_functions_are_small()
-    ensures bounded { (defined : List ℕ → Option DefinedSymbol) (tree : FunctionTree) (m : Lin)
-        (ds : List Descr) (pieces : Pieces) → IsAccepted defined tree → IsMadeOf tree m ds pieces →
+    ensures bounded { (choices : Choices) (defined : List ℕ → Option DefinedSymbol)
+        (tree : FunctionTree) (m : Lin) (ds : List Descr) (pieces : Pieces) →
+        IsAccepted defined tree → IsMadeOf choices tree m ds pieces →
         tries tree ≤ 250 → IsBoundedBy tree ds pieces }
-    ensures frame { (defined : List ℕ → Option DefinedSymbol) (tree : FunctionTree) (m : Lin)
-        (ds : List Descr) (pieces : Pieces) → IsAccepted defined tree → IsMadeOf tree m ds pieces →
+    ensures frame { (choices : Choices) (defined : List ℕ → Option DefinedSymbol)
+        (tree : FunctionTree) (m : Lin) (ds : List Descr) (pieces : Pieces) →
+        IsAccepted defined tree → IsMadeOf choices tree m ds pieces →
         frame_bytes m + 16 * tries tree ≤ 16 * tree.tokens + 32 }
-    ensures fits { (defined : List ℕ → Option DefinedSymbol) (tree : FunctionTree) (m : Lin)
-        (ds : List Descr) (pieces : Pieces) → IsAccepted defined tree → IsMadeOf tree m ds pieces →
+    ensures fits { (choices : Choices) (defined : List ℕ → Option DefinedSymbol)
+        (tree : FunctionTree) (m : Lin) (ds : List Descr) (pieces : Pieces) →
+        IsAccepted defined tree → IsMadeOf choices tree m ds pieces →
         frame_bytes m + 16 * tries tree ≤ 1048576 }
 {}
 
 /// Law: the pieces that are made of each function of an accepted text keep to it.
 pub fn made_functions_keep_to_their_texts()
-    ensures { (text : List ℕ) (file : FileTree) → IsFileOf text file → (tree : FunctionTree) →
-        Contains (functions file) tree → (m : Lin) (ds : List Descr) (pieces : Pieces) →
-        IsMadeOf tree m ds pieces → KeepsTo tree pieces }
+    ensures { (choices : Choices) (text : List ℕ) (file : FileTree) → IsFileOf text file →
+        (tree : FunctionTree) → Contains (functions file) tree → (m : Lin) (ds : List Descr)
+        (pieces : Pieces) → IsMadeOf choices tree m ds pieces → KeepsTo tree pieces }
 {}
 
 /// Law: where they do, the image that is laid out of them is bounded; they are few; and the image of a

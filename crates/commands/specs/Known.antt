@@ -3,4 +3,4 @@ pub use Rattle.text_commands.specs.Arguments.{HasUnfit, IsCall, NamesNone}
 pub use Rattle.text_commands.specs.Check.{HasNoEntry, IsCheckOf, IsTooLargeToCheck, IsUnfitFor}
 pub use Rattle.text_commands.specs.Compile.{IsImageOf, IsTooLarge}
 pub use Rattle.text_commands.specs.Listing.{IsListingOf}
-pub use Rattle.text_commands.specs.Made.{IsMadeFor}
+pub use Rattle.text_commands.specs.Made.{IsMadeFor, defaults}

@@ -4,6 +4,7 @@ use Rattle.std.proofs.lemmas.List.Elements.{All-nil, All-cons}
 use Rattle.std.proofs.lemmas.List.{length-map}
 use Rattle.std.specs.Prelude.{Contains}
 use Rattle.std.specs.List.{AllZip}
+use Rattle.choices.specs.declared.choices.Choices.{Choices}
 use Rattle.cmm_tree.specs.Tree.{FunctionTree, FileTree, functions, functions_among}
 use Rattle.cmm_tree.specs.View.{file_view, function_view, item_view}
 use Rattle.bs_words.specs.Contents.{contents}
@@ -16,8 +17,8 @@ use Rattle.file_compile.specs.Accepted.{IsAcceptedFile, IsAcceptedFunction}
 use Rattle.file_promise.specs.Made.{IsFunctionMade}
 
 -- of the functions, as of their trees
-pub made_trees : (fs : List (Bor Function)) (ps : List Pieces) → AllZip (λ (f : Bor Function) p. IsFunctionMade (function_view f.now) p) fs ps →
-    AllZip IsFunctionMade (map (λ (f : Bor Function). function_view f.now) fs) ps
+pub made_trees : {choices : Choices} (fs : List (Bor Function)) (ps : List Pieces) → AllZip (λ (f : Bor Function) p. IsFunctionMade choices (function_view f.now) p) fs ps →
+    AllZip (IsFunctionMade choices) (map (λ (f : Bor Function). function_view f.now) fs) ps
 made_trees [] [] made = tt
 made_trees [] (p ∷ ps) made = absurd made
 made_trees (f ∷ fs) [] made = absurd made
@@ -38,12 +39,12 @@ few_listed most file items fs gs whole same trees few =
     omega (arith, few, length-map gs (λ (f : Bor Function). function_view f.now), ap (λ (l : List FunctionTree). length l) (all_listed file items fs gs whole same trees))
 
 -- what is made of what is listed is made of the functions
-pub all_made : (file : File) (items : List Item) (fs gs : List (Bor Function)) (ps qs : List Pieces) → items ≡ contents file.items → gs ≡ fs →
-    map (λ (f : Bor Function). function_view f.now) fs ≡ functions_among (map item_view items) → AllZip IsFunctionMade (map (λ (f : Bor Function). function_view f.now) gs) ps →
-    qs ≡ ps → AllZip IsFunctionMade (functions (file_view file)) qs
-all_made file items fs gs ps qs whole same trees made kept =
-    subst (AllZip IsFunctionMade (functions (file_view file))) (sym kept)
-    (subst (λ (l : List FunctionTree). AllZip IsFunctionMade l ps) (all_listed file items fs gs whole same trees) made)
+pub all_made : {choices : Choices} (file : File) (items : List Item) (fs gs : List (Bor Function)) (ps qs : List Pieces) → items ≡ contents file.items → gs ≡ fs →
+    map (λ (f : Bor Function). function_view f.now) fs ≡ functions_among (map item_view items) → AllZip (IsFunctionMade choices) (map (λ (f : Bor Function). function_view f.now) gs) ps →
+    qs ≡ ps → AllZip (IsFunctionMade choices) (functions (file_view file)) qs
+all_made {choices} file items fs gs ps qs whole same trees made kept =
+    subst (AllZip (IsFunctionMade choices) (functions (file_view file))) (sym kept)
+    (subst (λ (l : List FunctionTree). AllZip (IsFunctionMade choices) l ps) (all_listed file items fs gs whole same trees) made)
 
 module _ (file : FileTree) (accepted : IsAcceptedFile file) where
   each_accepted : (fs : List (Bor Function)) → ((tree : FunctionTree) → Contains (map (λ (f : Bor Function). function_view f.now) fs) tree → Contains (functions file) tree) →

@@ -1,13 +1,12 @@
 -- What the passes ask of a function of an accepted file, and what they make of it.
-use Rattle.std.proofs.Common.{◌≡◌, ℕ, Bool, List, length, refl, subst, sym}
-use Rattle.file_promise.proofs.Bounds.{within}
+use Rattle.std.proofs.Common.{◌≡◌, ℕ, List, length, refl, subst, sym}
+use Rattle.file_promise.proofs.Bounds.{linear_in_order, within}
 use Rattle.cmm_tree.specs.Tree.{FunctionTree, FileTree, functions}
 use Rattle.file_promise.proofs.Bounds.{frame_fits}
 use Rattle.emit_rules.specs.Emitted.{IsEmitted}
 use Rattle.lin_ir.specs.Descriptors.{AreExact, IsWithin, frame_points}
 use Rattle.lin_ir.specs.declared.descr.Descr.{Descr}
 use Rattle.lin_ir.specs.declared.lin.Lin.{Lin}
-use Rattle.linear_pass.specs.Linear.{IsLinearOf}
 use Rattle.mach_ir.specs.Formed.{WellFormed}
 use Rattle.mach_ir.specs.Placed.{WellPlaced}
 use Rattle.mach_ir.specs.Sizes.{HasRoom}
@@ -21,15 +20,15 @@ use Rattle.file_promise.specs.Made.{IsFunctionMade}
 use Rattle.file_promise.proofs.Bounds.{IsPlacedFor, HasLineRoom}
 use Rattle.file_promise.proofs.Bounds.{selected_preparable, selected_room, ready, prepared_room, carried, placed_for, line_room}
 use Rattle.places_rules.specs.Places.{ColoursLow}
-use Rattle.choices.specs.declared.choices.Alloc.TheVariants.{Colour}
-use Rattle.reg_rounds.specs.Known.{IsAllocatedIn, IsAllocated, allocated_size}
+use Rattle.choices.specs.declared.choices.Choices.{Choices}
+use Rattle.reg_rounds.specs.Known.{allocated_size}
 use Rattle.rv_pieces.specs.declared.piece.Pieces.{Pieces}
 use Rattle.selection_rules.specs.Select.{selected}
 use Rattle.selection_places.proofs.Placed.{selected_low}
 use Rattle.file_promise.specs.Known.{IsAccepted}
 use Rattle.file_promise.proofs.Known.{function_accepted, IsSelectable, selection_room, definitions}
 use Rattle.file_compile.specs.Accepted.{IsAcceptedFunction}
-use Rattle.file_compile.specs.Listed.{IsAllocatedFor, IsTextOf, IsPassText, AreFunctionTexts, IsStageText}
+use Rattle.file_compile.specs.Listed.{IsAllocatedFor, IsLinearFor, IsTextOf, IsPassText, AreFunctionTexts, IsStageText}
 
 module _ (tree : FunctionTree) (accepted : IsAcceptedFunction tree) (mach : Mach) (is : mach ≡ selected tree) where
   known : IsAccepted (definitions accepted.file) tree
@@ -57,51 +56,51 @@ module _ (tree : FunctionTree) (accepted : IsAcceptedFunction tree) (mach : Mach
     pub prepared_has_room : HasRoom allocated_size prepared
     prepared_has_room = prepared_room known of_selected
 
-    module _ (placed : Mach) (rounds : ℕ) (rest : Bool) (in_rounds : IsAllocatedIn Colour prepared placed rounds rest) where
-      allocated : IsAllocated Colour prepared placed
-      allocated = record { rounds = rounds; rest = rest; allocated = in_rounds }
-
-      pub is_placed : IsPlacedFor tree placed
-      is_placed = placed_for known of_selected allocated
-
-      pub has_line_room : HasLineRoom placed
-      has_line_room = line_room known is_placed
-
-      module _ (lin : Lin) (linear : IsLinearOf placed lin) where
-        pub lines_within : IsWithin lin
-        lines_within = within known is_placed linear (frame_fits known is_placed linear)
-
-        pub function_made : (ds : List Descr) (pieces : Pieces) → AreExact lin ds → length ds ≡ frame_points lin.code → IsEmitted lin ds pieces → IsFunctionMade tree pieces
-        function_made ds pieces exact count emitted =
-            record {
-              lin = lin;
-              descriptors = ds;
-              made = record {
-                prepared = prepared;
-                is_prepared = of_selected;
-                mach = placed;
-                allocated = allocated;
-                linear = linear;
-                exact = exact;
-                count = count;
-                emitted = emitted;
-              };
-            }
-
 -- a function of an accepted file can be selected
 pub can_be_selected : (tree : FunctionTree) → IsAcceptedFunction tree → IsSelectable tree
 can_be_selected tree accepted =
     selection_room (definitions accepted.file) tree (function_accepted accepted.of_file.text accepted.file accepted.of_file.is_file tree accepted.among)
 
--- what is allocated for a function is placed for it
-pub allocated_placed : (tree : FunctionTree) → IsAcceptedFunction tree → (m : Mach) → IsAllocatedFor tree m → IsPlacedFor tree m
-allocated_placed tree accepted m a =
-    placed_for (function_accepted accepted.of_file.text accepted.file accepted.of_file.is_file tree accepted.among) a.is_prepared a.allocated
+module _ (tree : FunctionTree) (accepted : IsAcceptedFunction tree) {choices : Choices} where
+  known_here : IsAccepted (definitions accepted.file) tree
+  known_here = function_accepted accepted.of_file.text accepted.file accepted.of_file.is_file tree accepted.among
 
--- with numbers for its lines
-pub allocated_line_room : (tree : FunctionTree) → IsAcceptedFunction tree → (m : Mach) → IsAllocatedFor tree m → HasLineRoom m
-allocated_line_room tree accepted m a =
-    line_room (function_accepted accepted.of_file.text accepted.file accepted.of_file.is_file tree accepted.among) (allocated_placed tree accepted m a)
+  -- what is allocated for a function is placed for it
+  pub allocated_placed : (m : Mach) → IsAllocatedFor choices tree m → IsPlacedFor tree m
+  allocated_placed m a = placed_for known_here a.is_prepared a.allocated
+
+  -- with numbers for its lines
+  pub allocated_line_room : (m : Mach) → IsAllocatedFor choices tree m → HasLineRoom m
+  allocated_line_room m a = line_room known_here (allocated_placed m a)
+
+  -- and its lines are what descriptors ask
+  pub lines_within : (l : Lin) → IsLinearFor choices tree l → IsWithin l
+  lines_within l are =
+      let placed = allocated_placed are.mach are.is_allocated in
+      let linear = linear_in_order choices.order are.ordered are.linear in
+      within known_here placed linear (frame_fits known_here placed linear)
+
+-- the pieces of its lines are made of it
+pub function_made : {tree : FunctionTree} {choices : Choices} (lin : Lin) → IsLinearFor choices tree lin → (ds : List Descr) (pieces : Pieces) → AreExact lin ds →
+    length ds ≡ frame_points lin.code → IsEmitted lin ds pieces → IsFunctionMade choices tree pieces
+function_made lin are ds pieces exact count emitted =
+    let is = are.is_allocated in
+    record {
+      lin = lin;
+      descriptors = ds;
+      made = record {
+        prepared = is.prepared;
+        is_prepared = is.is_prepared;
+        mach = are.mach;
+        allocated = is.allocated;
+        lines = are.lines;
+        linear = are.linear;
+        ordered = are.ordered;
+        exact = exact;
+        count = count;
+        emitted = emitted;
+      };
+    }
 
 -- the text of what the passes up to a stage make of a selected function is one of that
 pub of_selected_text : (stage : Stage) (tree : FunctionTree) (mach passed : Mach) (text : List ℕ) → mach ≡ selected tree → IsPassedTo mach stage passed → text ≡ mach_text passed →
@@ -120,15 +119,15 @@ over_mach Code a b c d = absurd (d refl)
 over_mach s a b c d = tt
 
 -- its text is what the passes make
-pub over_mach_text : (s : Stage) (tree : FunctionTree) (text : List ℕ) → IsOverMach s → IsTextOf mach_text (IsPassedTo (selected tree) s) text → IsPassText s tree text
-over_mach_text Alloc tree text over is = absurd over
-over_mach_text Linear tree text over is = absurd over
-over_mach_text Frames tree text over is = absurd over
-over_mach_text Code tree text over is = absurd over
-over_mach_text s tree text over is = is
+pub over_mach_text : (choices : Choices) (s : Stage) (tree : FunctionTree) (text : List ℕ) → IsOverMach s → IsTextOf mach_text (IsPassedTo (selected tree) s) text → IsPassText choices s tree text
+over_mach_text choices Alloc tree text over is = absurd over
+over_mach_text choices Linear tree text over is = absurd over
+over_mach_text choices Frames tree text over is = absurd over
+over_mach_text choices Code tree text over is = absurd over
+over_mach_text choices s tree text over is = is
 
 -- what is no stage of the image has the texts of the functions
-pub functions_stage : (s : Stage) (file : FileTree) (text : List ℕ) → (s ≡ Frames → ⊥) → (s ≡ Code → ⊥) → AreFunctionTexts s (functions file) text → IsStageText file s text
-functions_stage Frames file text a b are = absurd (a refl)
-functions_stage Code file text a b are = absurd (b refl)
-functions_stage s file text a b are = are
+pub functions_stage : (choices : Choices) (s : Stage) (file : FileTree) (text : List ℕ) → (s ≡ Frames → ⊥) → (s ≡ Code → ⊥) → AreFunctionTexts choices s (functions file) text → IsStageText choices file s text
+functions_stage choices Frames file text a b are = absurd (a refl)
+functions_stage choices Code file text a b are = absurd (b refl)
+functions_stage choices s file text a b are = are

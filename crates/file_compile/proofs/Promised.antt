@@ -1,5 +1,6 @@
 -- What is promised of the image that a checked file is compiled to, for those who compile.
 use Rattle.std.proofs.Common.{◌≡◌, ◌<◌, ℕ, All, List, None}
+use Rattle.choices.specs.declared.choices.Choices.{Choices}
 use Rattle.cmm_front.specs.FileOf.{IsFileOf}
 use Rattle.cmm_tree.specs.Tree.{FileTree}
 use Rattle.correctness.specs.Bounds.{IsBounded, IsRoomy}
@@ -15,10 +16,10 @@ use Rattle.file_promise.specs.Made.{IsExact}
 use Rattle.file_promise.specs.Made.{IsMadeFor}
 use Rattle.stages.specs.declared.stage.Stage.{Stage}
 
-pub stage_text_once : (file : FileTree) (stage : Stage) (a b : List ℕ) → IsStageText file stage a → IsStageText file stage b → a ≡ b
-stage_text_once = listed.stage_text_once
+pub stage_text_once : {choices : Choices} (file : FileTree) (stage : Stage) (a b : List ℕ) → IsStageText choices file stage a → IsStageText choices file stage b → a ≡ b
+stage_text_once file = listed.stage_text_once file
 
-module _ (text : List ℕ) (file : FileTree) (is : IsFileOf text file) (image : Tables) (made : IsMadeFor file image) where
+module _ {choices : Choices} (text : List ℕ) (file : FileTree) (is : IsFileOf text file) (image : Tables) (made : IsMadeFor choices file image) where
   pub made_correct : All (λ b. b < 256) text → AreTables image → IsCorrect file image
   made_correct are tables = promise.made_correct text file is image made are tables
 
@@ -28,7 +29,7 @@ module _ (text : List ℕ) (file : FileTree) (is : IsFileOf text file) (image : 
   pub made_bounded : IsBounded file image
   made_bounded = promise.made_bounded text file is image made
 
-  pub made_exact : IsExact file image
+  pub made_exact : IsExact choices file image
   made_exact = promise.made_exact text file is image made
 
   pub roomy_fits : IsRoomy file → first_too_large image ≡ None

@@ -3,6 +3,7 @@ use Rattle.std.proofs.Common.{◌≡◌, ◌<◌, ◌+◌, ◌++◌, ℕ, List, 
 use Rattle.std.proofs.lemmas.Grind.{take_at_read}
 use Rattle.std.proofs.lemmas.List.Folds.{concat-append}
 use Rattle.std.specs.List.{AllZip, concat}
+use Rattle.choices.specs.declared.choices.Choices.{Choices}
 use Rattle.cmm_tree.specs.Tree.{FunctionTree}
 use Rattle.cmm_tree.specs.View.{function_view}
 use Rattle.cmm_tree.specs.declared.file.Function.{Function}
@@ -28,19 +29,19 @@ next_trees fs k f less at =
     let taken : take (k + 1) fs ≡ take k fs ++ (f ∷ []) = (take_at_read fs k f less).1 ∙ ap (λ (g : Bor Function). take k fs ++ (g ∷ [])) (sym at) in
     ap (λ (l : List (Bor Function)). map tree l) taken ∙ map_push tree (take k fs) f
 
-module _ (stage : Stage) where
-  one_more : (trees : List FunctionTree) (t : FunctionTree) (text own : List ℕ) → AreFunctionTexts stage trees text → IsFunctionText stage t own →
-      AreFunctionTexts stage (trees ++ (t ∷ [])) (text ++ own)
+module _ (choices : Choices) (stage : Stage) where
+  one_more : (trees : List FunctionTree) (t : FunctionTree) (text own : List ℕ) → AreFunctionTexts choices stage trees text → IsFunctionText choices stage t own →
+      AreFunctionTexts choices stage (trees ++ (t ∷ [])) (text ++ own)
   one_more trees t text own are is = record {
     texts = are.texts ++ (own ∷ []);
-    each = zip_push (IsFunctionText stage) trees are.texts t own are.each is;
+    each = zip_push (IsFunctionText choices stage) trees are.texts t own are.each is;
     whole =
         ap (λ (l : List ℕ). l ++ own) are.whole
         ∙ sym (concat-append are.texts (own ∷ []) ∙ ap (λ (l : List ℕ). concat are.texts ++ l) (append-nil own));
   }
 
   pub texts_more : (fs : List (Bor Function)) (k : ℕ) (f : Bor Function) (text own new : List ℕ) → k < length fs → f ≡ get_or fs k f → new ≡ text ++ own →
-      IsFunctionText stage (tree f) own → AreFunctionTexts stage (map tree (take k fs)) text → AreFunctionTexts stage (map tree (take (k + 1) fs)) new
+      IsFunctionText choices stage (tree f) own → AreFunctionTexts choices stage (map tree (take k fs)) text → AreFunctionTexts choices stage (map tree (take (k + 1) fs)) new
   texts_more fs k f text own new less at more is are =
-      subst (λ (l : List FunctionTree). AreFunctionTexts stage l new) (sym (next_trees fs k f less at))
-      (subst (AreFunctionTexts stage (map tree (take k fs) ++ (tree f ∷ []))) (sym more) (one_more (map tree (take k fs)) (tree f) text own are is))
+      subst (λ (l : List FunctionTree). AreFunctionTexts choices stage l new) (sym (next_trees fs k f less at))
+      (subst (AreFunctionTexts choices stage (map tree (take k fs) ++ (tree f ∷ []))) (sym more) (one_more (map tree (take k fs)) (tree f) text own are is))

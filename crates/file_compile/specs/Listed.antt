@@ -13,8 +13,8 @@ use Rattle.linear_pass.specs.Linear.{IsLinearOf}
 use Rattle.mach_ir.specs.Text.{mach_text}
 use Rattle.mach_ir.specs.declared.mach.Mach.{Mach}
 use Rattle.prepare.specs.Known.{IsPrepared, IsPassedTo}
-use Rattle.file_promise.specs.Made.{IsFunctionMade, IsMadeFor}
-use Rattle.choices.specs.declared.choices.Alloc.TheVariants.{Colour}
+use Rattle.file_promise.specs.Made.{IsFunctionMade, IsMadeFor, in_order}
+use Rattle.choices.specs.declared.choices.Choices.{Choices}
 use Rattle.reg_rounds.specs.Known.{IsAllocated}
 use Rattle.rv_pieces.specs.declared.piece.Pieces.{Pieces}
 use Rattle.selection_rules.specs.Select.{selected}
@@ -24,16 +24,18 @@ use Rattle.stages.specs.declared.stage.Stage.TheVariants.{Select, CombAlloc, Cse
 -- ---- functions
 
 -- It is what is selected of the function, prepared and with a place for each register.
-pub record IsAllocatedFor (tree : FunctionTree) (m : Mach) : Type 0 where
+pub record IsAllocatedFor (choices : Choices) (tree : FunctionTree) (m : Mach) : Type 0 where
   pub prepared : Mach
   pub is_prepared : IsPrepared (selected tree) prepared
-  pub allocated : IsAllocated Colour prepared m
+  pub allocated : IsAllocated choices.alloc prepared m
 
--- It is that as lines.
-pub record IsLinearFor (tree : FunctionTree) (l : Lin) : Type 0 where
+-- It is that as lines, in their order.
+pub record IsLinearFor (choices : Choices) (tree : FunctionTree) (l : Lin) : Type 0 where
   pub mach : Mach
-  pub is_allocated : IsAllocatedFor tree mach
-  pub linear : IsLinearOf mach l
+  pub is_allocated : IsAllocatedFor choices tree mach
+  pub lines : Lin
+  pub linear : IsLinearOf mach lines
+  pub ordered : l ≡ in_order choices.order lines
 
 -- It is the text of one of these.
 pub record IsTextOf {X : Type 0} (text_of : X → List ℕ) (Is : X → Type 0) (text : List ℕ) : Type 0 where
@@ -42,46 +44,51 @@ pub record IsTextOf {X : Type 0} (text_of : X → List ℕ) (Is : X → Type 0) 
   pub spelled : text ≡ text_of made
 
 -- the text of what the passes up to a stage make of a function; a stage of the image has none
-abbrev pub IsPassText : Stage → FunctionTree → List ℕ → Type 0
-IsPassText Alloc tree text = IsTextOf mach_text (IsAllocatedFor tree) text
-IsPassText Linear tree text = IsTextOf lin_text (IsLinearFor tree) text
-IsPassText Frames tree text = text ≡ []
-IsPassText Code tree text = text ≡ []
-IsPassText stage tree text = IsTextOf mach_text (IsPassedTo (selected tree) stage) text
+abbrev pub IsPassText : Choices → Stage → FunctionTree → List ℕ → Type 0
+IsPassText choices Alloc tree text = IsTextOf mach_text (IsAllocatedFor choices tree) text
+IsPassText choices Linear tree text = IsTextOf lin_text (IsLinearFor choices tree) text
+IsPassText choices Frames tree text = text ≡ []
+IsPassText choices Code tree text = text ≡ []
+IsPassText choices stage tree text =
+    IsTextOf mach_text (IsPassedTo (selected tree) stage) text
 
 -- the text of a function at a stage, by what its code is made of
-abbrev pub function_text : Stage → (tree : FunctionTree) {pieces : Pieces} → IsFunctionMade tree pieces → List ℕ
-function_text Select tree of = mach_text (selected tree)
-function_text CombAlloc tree of = mach_text (combined (selected tree))
-function_text Cse tree of = mach_text of.made.is_prepared.common_again
-function_text Dead tree of = mach_text of.made.is_prepared.dropped
-function_text Spill tree of = mach_text of.made.is_prepared.spilled
-function_text Split tree of = mach_text of.made.prepared
-function_text Alloc tree of = mach_text of.made.mach
-function_text Linear tree of = lin_text of.lin
-function_text Frames tree of = []
-function_text Code tree of = []
+abbrev pub function_text : (choices : Choices) → Stage → (tree : FunctionTree) {pieces : Pieces} →
+    IsFunctionMade choices tree pieces → List ℕ
+function_text choices Select tree of = mach_text (selected tree)
+function_text choices CombAlloc tree of = mach_text (combined (selected tree))
+function_text choices Cse tree of = mach_text of.made.is_prepared.common_again
+function_text choices Dead tree of = mach_text of.made.is_prepared.dropped
+function_text choices Spill tree of = mach_text of.made.is_prepared.spilled
+function_text choices Split tree of = mach_text of.made.prepared
+function_text choices Alloc tree of = mach_text of.made.mach
+function_text choices Linear tree of = lin_text of.lin
+function_text choices Frames tree of = []
+function_text choices Code tree of = []
 
 -- This is the function's text at the stage: the passes up to it make it, and whatever code is made of the
 -- function is made of what this is the text of.
-pub record IsFunctionText (stage : Stage) (tree : FunctionTree) (text : List ℕ) : Type 0 where
-  pub passed : IsPassText stage tree text
-  pub of_code : (pieces : Pieces) (of : IsFunctionMade tree pieces) → text ≡ function_text stage tree of
+pub record IsFunctionText (choices : Choices) (stage : Stage) (tree : FunctionTree) (text : List ℕ)
+    : Type 0 where
+  pub passed : IsPassText choices stage tree text
+  pub of_code : (pieces : Pieces) (of : IsFunctionMade choices tree pieces) →
+      text ≡ function_text choices stage tree of
 
 -- the texts of all, one after the other
-pub record AreFunctionTexts (stage : Stage) (trees : List FunctionTree) (text : List ℕ) : Type 0
-  where
-    pub texts : List (List ℕ)
-    pub each : AllZip (IsFunctionText stage) trees texts
-    pub whole : text ≡ concat texts
+pub record AreFunctionTexts (choices : Choices) (stage : Stage) (trees : List FunctionTree)
+    (text : List ℕ) : Type 0 where
+  pub texts : List (List ℕ)
+  pub each : AllZip (IsFunctionText choices stage) trees texts
+  pub whole : text ≡ concat texts
 
 -- ---- files
 
 -- This is such a text of the image that is made for the file, no section of which passes its limit.
-pub record IsImageText (text_of : Tables → List ℕ) (file : FileTree) (text : List ℕ) : Type 0 where
+pub record IsImageText (choices : Choices) (text_of : Tables → List ℕ) (file : FileTree)
+    (text : List ℕ) : Type 0 where
   pub image : Tables
   pub is_image : AreTables image
-  pub made : IsMadeFor file image
+  pub made : IsMadeFor choices file image
   pub fits : first_too_large image ≡ None
   pub is : text ≡ text_of image
 
@@ -99,7 +106,7 @@ image_text Alloc = None
 image_text Linear = None
 
 -- the text of a stage of a file
-abbrev pub IsStageText : FileTree → Stage → List ℕ → Type 0
-IsStageText file stage text =
-    MatchOption (image_text stage) (AreFunctionTexts stage (functions file) text)
-    (λ text_of. IsImageText text_of file text)
+abbrev pub IsStageText : Choices → FileTree → Stage → List ℕ → Type 0
+IsStageText choices file stage text =
+    MatchOption (image_text stage) (AreFunctionTexts choices stage (functions file) text)
+    (λ text_of. IsImageText choices text_of file text)

@@ -3,6 +3,7 @@ ghost use Rattle.std.specs.Prelude.{◌≡◌, ◌<◌, ◌≤◌, All, length, 
 ghost use Rattle.std.specs.List.{AllZip};
 ghost use Rattle.bs_fault.specs.declared.large.Large.{Large};
 ghost use Rattle.bs_words.specs.Contents.{contents};
+ghost use Rattle.choices.specs.Defaults.{defaults};
 ghost use Rattle.cmm_tree.specs.Tree.{functions, functions_among};
 ghost use Rattle.cmm_tree.specs.View.{file_view, function_view, item_view};
 ghost use Rattle.cmm_types.specs.Typing.{AreItemsAnnotated, IsFunctionAnnotated};
@@ -21,6 +22,7 @@ use crate::passes::function_pieces;
 use assemble::assemble;
 use bs_fault::BuildError;
 use bs_words::List;
+use choices::{Choices, DEFAULTS};
 use cmm_data::place_data;
 use cmm_tree::{Function, Item};
 use cmm_walks::Checked;
@@ -54,16 +56,17 @@ fn functions_of(alloc: Global, items: &[Item]) -> Result<Vec<&Function>, AllocEr
 fn gated_pieces<G: Gate>(
     alloc: Global,
     functions: &[&Function],
+    choices: Choices,
     piece: u32,
     gate: &G,
 ) -> Result<Pieces, AllocError>
     requires there { piece < length functions.now }
     requires typed { All (λ f. IsFunctionAnnotated f.now) functions.now }
     requires accepted { All (λ f. IsAcceptedFunction (function_view f.now)) functions.now }
-    ensures { IfOk result (ArePiecesAt functions.now piece) }
+    ensures { IfOk result (ArePiecesAt choices functions.now piece) }
 {
     gate.enter(piece);
-    let pieces = function_pieces(alloc, functions[piece as usize]);
+    let pieces = function_pieces(alloc, functions[piece as usize], choices);
     gate.leave(piece);
     pieces
 }
@@ -84,6 +87,7 @@ fn all_pieces<R: Threads + Sync, G: Gate + Sync>(
     rt: &R,
     alloc: Global,
     functions: &[&Function],
+    choices: Choices,
     jobs: u32,
     gate: &G,
 ) -> Result<Vec<Pieces>, AllocError>
@@ -91,7 +95,7 @@ fn all_pieces<R: Threads + Sync, G: Gate + Sync>(
     requires few { length functions.now < 2 ^ 32 }
     requires typed { All (λ f. IsFunctionAnnotated f.now) functions.now }
     requires accepted { All (λ f. IsAcceptedFunction (function_view f.now)) functions.now }
-    ensures { IfOk result (λ pieces. AllZip IsFunctionMade (map (λ f. function_view f.now)
+    ensures { IfOk result (λ pieces. AllZip (IsFunctionMade choices) (map (λ f. function_view f.now)
         functions.now) pieces.items) }
 {
     let tokens = tokens_of(alloc, functions)?;
@@ -99,22 +103,50 @@ fn all_pieces<R: Threads + Sync, G: Gate + Sync>(
         requires { (piece < length functions.now)
             × All (λ f. IsFunctionAnnotated f.now) functions.now
             × All (λ f. IsAcceptedFunction (function_view f.now)) functions.now }
-        ensures { IfOk result (ArePiecesAt functions.entry.now piece) }
-    { gated_pieces(alloc, functions, piece, gate) };
+        ensures { IfOk result (ArePiecesAt choices functions.entry.now piece) }
+    { gated_pieces(alloc, functions, choices, piece, gate) };
     map_in_halves(rt, alloc, tokens.as_slice(), jobs, &pieces_at)
 }
 
-/// The image of a checked file: each function through all passes, and then all of them, with the static
+/// The image of a checked file by what is chosen: each function through all passes, and then all of them, with the static
 /// data, the external calls and the frame descriptors.
 ///
 /// Functions are lent in halves of their tokens to both sides of a join, each half with its part of the jobs, down to
-/// single functions or one job, and the gate hears of each. A file is made into one image only (`made_for_once`), so
-/// the image is the same for every number of jobs and every gate.
+/// single functions or one job, and the gate hears of each. By one choice a file is made into one image only
+/// (`made_for_once`), so the image is the same for every number of jobs and every gate.
 ///
 /// # Errors
 ///
 /// `TooLarge` exactly where a section of that image passes its limit, with the first such section and its
 /// bytes. `OutOfMemory` where memory runs out.
+pub fn compile_by<R: Threads + Sync, G: Gate + Sync>(
+    rt: &R,
+    alloc: Global,
+    checked: &Checked,
+    choices: Choices,
+    jobs: u32,
+    gate: &G,
+) -> Result<Image, BuildError>
+    requires some_jobs { 1 ≤ jobs }
+    requires few_jobs { jobs ≤ 64 }
+    requires accepted { IsAcceptedFile (file_view checked.now) }
+    ensures made { IfOk result (λ image.
+        IsMadeFor choices (file_view checked.now) (tables image)) }
+    ensures is_image { IfOk result IsImage }
+    ensures fits { IfOk result (λ image. first_too_large (tables image) ≡ None) }
+    ensures large { (large : Large)
+        → result ≡ Err (BuildError.TooLarge large)
+        → (t : Tables)
+        × (IsMadeFor choices (file_view checked.now) t × (first_too_large t ≡ Some large)) }
+{
+    let file = checked.typed().file();
+    let functions = functions_of(alloc, file.items.as_slice())?;
+    let pieces = all_pieces(rt, alloc, functions.as_slice(), choices, jobs, gate)?;
+    let placed = place_data(alloc, file)?;
+    assemble(rt, alloc, pieces.as_slice(), checked.typed(), &placed, jobs)
+}
+
+/// The image of a checked file by the defaults, as `compile_by` makes it.
 pub fn compile<R: Threads + Sync, G: Gate + Sync>(
     rt: &R,
     alloc: Global,
@@ -126,57 +158,94 @@ pub fn compile<R: Threads + Sync, G: Gate + Sync>(
     requires few_jobs { jobs ≤ 64 }
     requires accepted { IsAcceptedFile (file_view checked.now) }
     ensures made { IfOk result (λ image.
-        IsMadeFor (file_view checked.now) (tables image)) }
+        IsMadeFor defaults (file_view checked.now) (tables image)) }
     ensures is_image { IfOk result IsImage }
     ensures fits { IfOk result (λ image. first_too_large (tables image) ≡ None) }
     ensures large { (large : Large)
         → result ≡ Err (BuildError.TooLarge large)
         → (t : Tables)
-        × (IsMadeFor (file_view checked.now) t × (first_too_large t ≡ Some large)) }
+        × (IsMadeFor defaults (file_view checked.now) t × (first_too_large t ≡ Some large)) }
 {
-    let file = checked.typed().file();
-    let functions = functions_of(alloc, file.items.as_slice())?;
-    let pieces = all_pieces(rt, alloc, functions.as_slice(), jobs, gate)?;
-    let placed = place_data(alloc, file)?;
-    assemble(rt, alloc, pieces.as_slice(), checked.typed(), &placed, jobs)
+    compile_by(rt, alloc, checked, DEFAULTS, jobs, gate)
 }
 
 /// The texts of these functions at a stage, one after the other.
-fn all_texts(alloc: Global, functions: &[&Function], stage: Stage) -> Result<List<u8>, AllocError>
+fn all_texts(
+    alloc: Global,
+    functions: &[&Function],
+    choices: Choices,
+    stage: Stage,
+) -> Result<List<u8>, AllocError>
     requires typed { All (λ f. IsFunctionAnnotated f.now) functions.now }
     requires accepted { All (λ f. IsAcceptedFunction (function_view f.now)) functions.now }
-    ensures { IfOk result (λ text. AreFunctionTexts stage (map (λ f. function_view f.now)
+    ensures { IfOk result (λ text. AreFunctionTexts choices stage (map (λ f. function_view f.now)
         functions.now) (contents text)) }
 {
     let mut text = Vec::new(alloc);
     for function in functions {
-        let own = function_text(alloc, function, stage)?;
+        let own = function_text(alloc, function, choices, stage)?;
         text.extend_from_slice(own.as_slice())?;
     }
     Ok(List::from_vec(text))
 }
 
 /// The texts of the functions of a file at a stage, one after the other.
-fn functions_text(alloc: Global, checked: &Checked, stage: Stage) -> Result<List<u8>, AllocError>
+fn functions_text(
+    alloc: Global,
+    checked: &Checked,
+    choices: Choices,
+    stage: Stage,
+) -> Result<List<u8>, AllocError>
     requires accepted { IsAcceptedFile (file_view checked.now) }
     ensures { IfOk result (λ text.
-        AreFunctionTexts stage (functions (file_view checked.now)) (contents text)) }
+        AreFunctionTexts choices stage (functions (file_view checked.now)) (contents text)) }
 {
     let functions = functions_of(alloc, checked.typed().file().items.as_slice())?;
-    let text = all_texts(alloc, functions.as_slice(), stage)?;
+    let text = all_texts(alloc, functions.as_slice(), choices, stage)?;
     Ok(text)
 }
 
-/// The text of a stage of a checked file: each function as the passes up to that stage make it, in the order of
+/// The text of a stage of a checked file by what is chosen: each function as the passes up to that stage make it, in the order of
 /// the file, or the frame descriptors or the words of the image, which is compiled by one job.
 ///
-/// A stage of a file has one text only (`stage_text_once`): whatever code is made of a function is made of what
+/// By one choice a stage of a file has one text only (`stage_text_once`): whatever code is made of a function is made of what
 /// its text shows.
 ///
 /// # Errors
 ///
 /// `TooLarge` exactly where the stage is one of the image, and a section of the image passes its limit, with the
 /// first such section and its bytes. `OutOfMemory` where memory runs out.
+pub fn stage_by<R: Threads + Sync>(
+    rt: &R,
+    alloc: Global,
+    checked: &Checked,
+    choices: Choices,
+    stage: Stage,
+) -> Result<List<u8>, BuildError>
+    requires accepted { IsAcceptedFile (file_view checked.now) }
+    ensures text { IfOk result (λ text.
+        IsStageText choices (file_view checked.now) stage (contents text)) }
+    ensures of_image { (large : Large) → result ≡ Err (BuildError.TooLarge large) →
+        IsOfImage stage }
+    ensures large { (large : Large)
+        → result ≡ Err (BuildError.TooLarge large)
+        → (t : Tables)
+        × (IsMadeFor choices (file_view checked.now) t × (first_too_large t ≡ Some large)) }
+{
+    match stage {
+        Stage::Frames => {
+            let image = compile_by(rt, alloc, checked, choices, 1, &OpenGate)?;
+            Ok(frames_text(alloc, &image)?)
+        }
+        Stage::Code => {
+            let image = compile_by(rt, alloc, checked, choices, 1, &OpenGate)?;
+            Ok(code_text(alloc, &image)?)
+        }
+        _ => Ok(functions_text(alloc, checked, choices, stage)?),
+    }
+}
+
+/// The text of a stage of a checked file by the defaults, as `stage_by` makes it.
 pub fn stage<R: Threads + Sync>(
     rt: &R,
     alloc: Global,
@@ -185,23 +254,13 @@ pub fn stage<R: Threads + Sync>(
 ) -> Result<List<u8>, BuildError>
     requires accepted { IsAcceptedFile (file_view checked.now) }
     ensures text { IfOk result (λ text.
-        IsStageText (file_view checked.now) stage (contents text)) }
+        IsStageText defaults (file_view checked.now) stage (contents text)) }
     ensures of_image { (large : Large) → result ≡ Err (BuildError.TooLarge large) →
         IsOfImage stage }
     ensures large { (large : Large)
         → result ≡ Err (BuildError.TooLarge large)
         → (t : Tables)
-        × (IsMadeFor (file_view checked.now) t × (first_too_large t ≡ Some large)) }
+        × (IsMadeFor defaults (file_view checked.now) t × (first_too_large t ≡ Some large)) }
 {
-    match stage {
-        Stage::Frames => {
-            let image = compile(rt, alloc, checked, 1, &OpenGate)?;
-            Ok(frames_text(alloc, &image)?)
-        }
-        Stage::Code => {
-            let image = compile(rt, alloc, checked, 1, &OpenGate)?;
-            Ok(code_text(alloc, &image)?)
-        }
-        _ => Ok(functions_text(alloc, checked, stage)?),
-    }
+    stage_by(rt, alloc, checked, DEFAULTS, stage)
 }

@@ -5,19 +5,16 @@ ghost use Rattle.cmm_tree.specs.View.{function_view};
 ghost use Rattle.cmm_types.specs.Typing.{IsFunctionAnnotated};
 ghost use Rattle.file_compile.specs.Accepted.{IsAcceptedFunction};
 ghost use Rattle.stages.specs.declared.stage.Stage.{Stage};
-ghost use Rattle.file_compile.specs.Listed.{IsAllocatedFor, IsLinearFor, IsTextOf, IsPassText};
-ghost use Rattle.file_compile.specs.Listed.{IsFunctionText};
+ghost use Rattle.file_compile.specs.Listed.{IsTextOf, IsPassText, IsFunctionText};
 ghost use Rattle.mach_ir.specs.Text.{mach_text};
 ghost use Rattle.prepare.specs.Known.{IsOverMach, IsPassedTo};
 ghost use Rattle.selection_rules.specs.Select.{selected};
 
+use crate::passes::{allocated, lines};
 use bs_words::List;
+use choices::Choices;
 use cmm_tree::Function;
-use lin_ir::Lin;
-use linear_pass::linear;
-use mach_ir::Mach;
 use prepare::passed_to;
-use reg_rounds::{Allocated, allocate};
 use selection::select_function;
 use stages::Stage;
 use std::alloc::{AllocError, Global};
@@ -39,64 +36,51 @@ fn passed_text(
     mach_ir::text(alloc, &passed)
 }
 
-/// A function with a place for each register.
-fn allocated(alloc: Global, function: &Function) -> Result<Mach, AllocError>
-    requires typed { IsFunctionAnnotated function.now }
-    requires accepted { IsAcceptedFunction (function_view function.now) }
-    ensures { IfOk result (IsAllocatedFor (function_view function.now)) }
-{
-    let mach = select_function(alloc, function)?;
-    let prepared = passed_to(alloc, mach, Stage::Split)?;
-    let Allocated {
-        mach: placed,
-        rounds: _,
-        rest: _,
-    } = allocate(alloc, prepared)?;
-    Ok(placed)
-}
-
 /// The text of a function with a place for each register.
-fn places_text(alloc: Global, function: &Function) -> Result<List<u8>, AllocError>
+fn places_text(
+    alloc: Global,
+    function: &Function,
+    choices: Choices,
+) -> Result<List<u8>, AllocError>
     requires typed { IsFunctionAnnotated function.now }
     requires accepted { IsAcceptedFunction (function_view function.now) }
     ensures { IfOk result (λ text.
-        IsPassText Stage.Alloc (function_view function.now) (contents text)) }
+        IsPassText choices Stage.Alloc (function_view function.now) (contents text)) }
 {
-    let placed = allocated(alloc, function)?;
+    let placed = allocated(alloc, function, choices)?;
     mach_ir::text(alloc, &placed)
 }
 
-/// A function as lines.
-fn lines(alloc: Global, function: &Function) -> Result<Lin, AllocError>
-    requires typed { IsFunctionAnnotated function.now }
-    requires accepted { IsAcceptedFunction (function_view function.now) }
-    ensures { IfOk result (IsLinearFor (function_view function.now)) }
-{
-    let placed = allocated(alloc, function)?;
-    linear(alloc, &placed)
-}
-
 /// The text of a function as lines.
-fn lines_text(alloc: Global, function: &Function) -> Result<List<u8>, AllocError>
+fn lines_text(
+    alloc: Global,
+    function: &Function,
+    choices: Choices,
+) -> Result<List<u8>, AllocError>
     requires typed { IsFunctionAnnotated function.now }
     requires accepted { IsAcceptedFunction (function_view function.now) }
     ensures { IfOk result (λ text.
-        IsPassText Stage.Linear (function_view function.now) (contents text)) }
+        IsPassText choices Stage.Linear (function_view function.now) (contents text)) }
 {
-    let lin = lines(alloc, function)?;
+    let lin = lines(alloc, function, choices)?;
     lin_ir::text(alloc, &lin)
 }
 
 /// The text of what the passes up to a stage make of a function.
-fn pass_text(alloc: Global, function: &Function, stage: Stage) -> Result<List<u8>, AllocError>
+fn pass_text(
+    alloc: Global,
+    function: &Function,
+    choices: Choices,
+    stage: Stage,
+) -> Result<List<u8>, AllocError>
     requires typed { IsFunctionAnnotated function.now }
     requires accepted { IsAcceptedFunction (function_view function.now) }
     ensures { IfOk result (λ text.
-        IsPassText stage (function_view function.now) (contents text)) }
+        IsPassText choices stage (function_view function.now) (contents text)) }
 {
     match stage {
-        Stage::Alloc => places_text(alloc, function),
-        Stage::Linear => lines_text(alloc, function),
+        Stage::Alloc => places_text(alloc, function, choices),
+        Stage::Linear => lines_text(alloc, function, choices),
         Stage::Frames => Ok(List::new(alloc)),
         Stage::Code => Ok(List::new(alloc)),
         _ => passed_text(alloc, function, stage),
@@ -110,13 +94,14 @@ fn pass_text(alloc: Global, function: &Function, stage: Stage) -> Result<List<u8
 pub fn function_text(
     alloc: Global,
     function: &Function,
+    choices: Choices,
     stage: Stage,
 ) -> Result<List<u8>, AllocError>
     requires typed { IsFunctionAnnotated function.now }
     requires accepted { IsAcceptedFunction (function_view function.now) }
     ensures { IfOk result (λ text.
-        IsFunctionText stage (function_view function.now) (contents text)) }
+        IsFunctionText choices stage (function_view function.now) (contents text)) }
 {
-    let text = pass_text(alloc, function, stage)?;
+    let text = pass_text(alloc, function, choices, stage)?;
     Ok(text)
 }

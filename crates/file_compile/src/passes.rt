@@ -1,34 +1,100 @@
 //! One function through all passes.
-ghost use Rattle.std.specs.Prelude.{IfOk};
+ghost use Rattle.std.specs.Prelude.{◌≡◌, IfOk};
 ghost use Rattle.cmm_tree.specs.View.{function_view};
 ghost use Rattle.cmm_types.specs.Typing.{IsFunctionAnnotated};
-ghost use Rattle.file_promise.specs.Made.{IsFunctionMade};
+ghost use Rattle.file_promise.specs.Made.{IsFunctionMade, in_order};
 ghost use Rattle.file_compile.specs.Accepted.{IsAcceptedFunction};
+ghost use Rattle.file_compile.specs.Listed.{IsAllocatedFor, IsLinearFor};
+ghost use Rattle.mach_ir.specs.Formed.{WellFormed};
+ghost use Rattle.mach_ir.specs.Placed.{WellPlaced};
+ghost use Rattle.mach_ir.specs.Sizes.{HasRoom};
+ghost use Rattle.places_rules.specs.Places.{ColoursLow};
+ghost use Rattle.reg_rounds.specs.Known.{IsAllocatedIn, allocated_size};
 
+use choices::{Alloc, Choices, Order};
 use cmm_tree::Function;
 use frame_tables::descriptors;
+use lin_ir::Lin;
 use linear_pass::linear;
+use mach_ir::Mach;
 use prepare::passed_to;
-use reg_rounds::allocate;
+use reg_rounds::{Allocated, allocate};
 use rv_emit::emit;
 use rv_pieces::Pieces;
 use selection::select_function;
 use stages::Stage;
 use std::alloc::{AllocError, Global};
 
-/// The pieces of a function: it is selected and prepared, every register gets a place, its operations become
-/// lines, its frame descriptors are found, and code is emitted.
+/// A place for each register of a function, by the choice.
+fn allocate_by(alloc: Global, mach: Mach, by: Alloc) -> Result<Allocated, AllocError>
+    requires formed { WellFormed mach }
+    requires placed { WellPlaced mach }
+    requires low { ColoursLow mach }
+    requires room { HasRoom allocated_size mach }
+    ensures { IfOk result (λ made. IsAllocatedIn by mach made.mach made.rounds made.rest) }
+{
+    match by {
+        Alloc::Colour => allocate(alloc, mach),
+    }
+}
+
+/// Lines in the order that is chosen.
+fn ordered(lin: Lin, order: Order) -> Lin
+    ensures { result ≡ in_order order lin }
+{
+    match order {
+        Order::Plain => lin,
+    }
+}
+
+/// A function with a place for each register: it is selected and prepared, and places are chosen.
 ///
 /// The only error is want of memory.
-pub fn function_pieces(alloc: Global, function: &Function) -> Result<Pieces, AllocError>
+pub fn allocated(
+    alloc: Global,
+    function: &Function,
+    choices: Choices,
+) -> Result<Mach, AllocError>
     requires typed { IsFunctionAnnotated function.now }
     requires accepted { IsAcceptedFunction (function_view function.now) }
-    ensures { IfOk result (IsFunctionMade (function_view function.now)) }
+    ensures { IfOk result (IsAllocatedFor choices (function_view function.now)) }
 {
     let mach = select_function(alloc, function)?;
     let prepared = passed_to(alloc, mach, Stage::Split)?;
-    let allocated = allocate(alloc, prepared)?;
-    let lin = linear(alloc, &allocated.mach)?;
+    let Allocated {
+        mach: placed,
+        rounds: _,
+        rest: _,
+    } = allocate_by(alloc, prepared, choices.alloc)?;
+    Ok(placed)
+}
+
+/// A function as lines, in the order that is chosen.
+///
+/// The only error is want of memory.
+pub fn lines(alloc: Global, function: &Function, choices: Choices) -> Result<Lin, AllocError>
+    requires typed { IsFunctionAnnotated function.now }
+    requires accepted { IsAcceptedFunction (function_view function.now) }
+    ensures { IfOk result (IsLinearFor choices (function_view function.now)) }
+{
+    let placed = allocated(alloc, function, choices)?;
+    let lines = linear(alloc, &placed)?;
+    Ok(ordered(lines, choices.order))
+}
+
+/// The pieces of a function: its lines, from which its frame descriptors are found and code is emitted.
+///
+/// The only error is want of memory.
+pub fn function_pieces(
+    alloc: Global,
+    function: &Function,
+    choices: Choices,
+) -> Result<Pieces, AllocError>
+    requires typed { IsFunctionAnnotated function.now }
+    requires accepted { IsAcceptedFunction (function_view function.now) }
+    ensures { IfOk result (IsFunctionMade choices (function_view function.now)) }
+{
+    let lin = lines(alloc, function, choices)?;
     let descrs = descriptors(alloc, &lin)?;
     emit(alloc, &lin, descrs.as_slice())
 }

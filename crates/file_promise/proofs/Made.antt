@@ -5,10 +5,11 @@ use Rattle.std.specs.List.{AllByRecursion, AllZip}
 use Rattle.std.proofs.lemmas.Option.{none-some, same_Some}
 use Rattle.compiled_files.proofs.Known.{file_can, function_accepted}
 use Rattle.code_bounds.proofs.Known.{chained}
+use Rattle.choices.specs.declared.choices.Choices.{Choices}
 use Rattle.cmm_front.specs.FileOf.{IsFileOf}
 use Rattle.cmm_tree.specs.Tree.{FunctionTree, FileTree, functions}
 use Rattle.cmm_types.proofs.Containing.{contains_head, contains_tail}
-use Rattle.code_bounds.proofs.Known.{placed_for}
+use Rattle.code_bounds.proofs.Known.{linear_of, placed_for}
 use Rattle.code_bounds.proofs.Bounded.{frame_fits}
 use Rattle.code_bounds.specs.Kept.{KeepsTo}
 use Rattle.code_bounds.proofs.Few.{few}
@@ -24,19 +25,19 @@ use Rattle.compiled_files.specs.Made.{IsChained}
 use Rattle.compiled_files.specs.Made.{IsFunctionMade}
 use Rattle.rv_pieces.specs.declared.piece.Pieces.{Pieces}
 
-module _ (text : List ℕ) (file : FileTree) (is : IsFileOf text file) where
-  function_chained : (tree : FunctionTree) → Contains (functions file) tree → (p : Pieces) → (made : IsFunctionMade tree p) →
+module _ {choices : Choices} (text : List ℕ) (file : FileTree) (is : IsFileOf text file) where
+  function_chained : (tree : FunctionTree) → Contains (functions file) tree → (p : Pieces) → (made : IsFunctionMade choices tree p) →
       IsChained tree made.lin made.descriptors p
   function_chained tree among p made =
       let accepted = function_accepted text file is tree among in
-      chained accepted made.made (frame_fits accepted (placed_for accepted made.made.is_prepared made.made.allocated) made.made.linear)
+      chained accepted made.made (frame_fits accepted (placed_for accepted made.made.is_prepared made.made.allocated) (linear_of made.made))
 
-  function_laid : (tree : FunctionTree) → Contains (functions file) tree → (p : Pieces) → IsFunctionMade tree p → IsFunctionLaid file p
+  function_laid : (tree : FunctionTree) → Contains (functions file) tree → (p : Pieces) → IsFunctionMade choices tree p → IsFunctionLaid file p
   function_laid tree among p made =
       let whole = function_chained tree among p made in
       function_can text file is tree among made.lin made.descriptors p whole (names_by made.descriptors made.lin) (exact_names whole.lines.regular whole.exact)
 
-  function_exact : (tree : FunctionTree) → Contains (functions file) tree → (p : Pieces) → IsFunctionMade tree p → IsFunctionExact tree p
+  function_exact : (tree : FunctionTree) → Contains (functions file) tree → (p : Pieces) → IsFunctionMade choices tree p → IsFunctionExact choices tree p
   function_exact tree among p made =
       let whole = function_chained tree among p made in
       record {
@@ -47,9 +48,9 @@ module _ (text : List ℕ) (file : FileTree) (is : IsFileOf text file) where
         laid = laid_out made.lin whole.lines.regular.well whole.lines.regular.seated whole.lines.within made.descriptors p whole.emitted whole.count;
       }
 
-  module _ (P : Pieces → Type 0) (each : (tree : FunctionTree) → Contains (functions file) tree → (p : Pieces) → IsFunctionMade tree p → P p) where
+  module _ (P : Pieces → Type 0) (each : (tree : FunctionTree) → Contains (functions file) tree → (p : Pieces) → IsFunctionMade choices tree p → P p) where
     by_recursion : (fs : List FunctionTree) (ps : List Pieces) → ((tree : FunctionTree) → Contains fs tree → Contains (functions file) tree) →
-        AllZip IsFunctionMade fs ps → AllByRecursion P ps
+        AllZip (IsFunctionMade choices) fs ps → AllByRecursion P ps
     by_recursion [] [] among made = tt
     by_recursion [] (p ∷ ps) among made = absurd made
     by_recursion (f ∷ fs) [] among made = absurd made
@@ -59,7 +60,7 @@ module _ (text : List ℕ) (file : FileTree) (is : IsFileOf text file) where
     )
 
   exact_ones : (fs : List FunctionTree) (ps : List Pieces) → ((tree : FunctionTree) → Contains fs tree → Contains (functions file) tree) →
-      AllZip IsFunctionMade fs ps → AllZip IsFunctionExact fs ps
+      AllZip (IsFunctionMade choices) fs ps → AllZip (IsFunctionExact choices) fs ps
   exact_ones [] [] among made = tt
   exact_ones [] (p ∷ ps) among made = absurd made
   exact_ones (f ∷ fs) [] among made = absurd made
@@ -69,14 +70,14 @@ module _ (text : List ℕ) (file : FileTree) (is : IsFileOf text file) where
   )
 
   -- As many, in the same places.
-  as_many : (fs : List FunctionTree) (ps : List Pieces) → AllZip IsFunctionMade fs ps → length ps ≡ length fs
+  as_many : (fs : List FunctionTree) (ps : List Pieces) → AllZip (IsFunctionMade choices) fs ps → length ps ≡ length fs
   as_many [] [] made = refl
   as_many [] (p ∷ ps) made = absurd made
   as_many (f ∷ fs) [] made = absurd made
   as_many (f ∷ fs) (p ∷ ps) made = ap suc (as_many fs ps made.1)
 
   chains : (fs : List FunctionTree) (ps : List Pieces) → ((tree : FunctionTree) → Contains fs tree → Contains (functions file) tree) →
-      AllZip IsFunctionMade fs ps → (k : ℕ) (tree : FunctionTree) → slice_get fs k ≡ Some tree → HasChain tree ps k
+      AllZip (IsFunctionMade choices) fs ps → (k : ℕ) (tree : FunctionTree) → slice_get fs k ≡ Some tree → HasChain tree ps k
   chains [] ps among made k tree at = absurd (none-some tree at)
   chains (f ∷ fs) [] among made k tree at = absurd made
   chains (f ∷ fs) (p ∷ ps) among made zero tree at =
@@ -92,7 +93,7 @@ module _ (text : List ℕ) (file : FileTree) (is : IsFileOf text file) where
       let has = chains fs ps (λ g c. among g (contains_tail f fs g c)) made.1 k tree at in
       record { lin = has.lin; descrs = has.descrs; pieces = has.pieces; there = has.there; chained = has.chained }
 
-  module _ (ps : List Pieces) (made : AllZip IsFunctionMade (functions file) ps) where
+  module _ (ps : List Pieces) (made : AllZip (IsFunctionMade choices) (functions file) ps) where
     pub are_chained : AreChained file ps
     are_chained = chains (functions file) ps (λ tree c. c) made
 
@@ -107,7 +108,7 @@ module _ (text : List ℕ) (file : FileTree) (is : IsFileOf text file) where
       few = few text file ps is keep;
     }
 
-    pub are_exact : AllZip IsFunctionExact (functions file) ps
+    pub are_exact : AllZip (IsFunctionExact choices) (functions file) ps
     are_exact = exact_ones (functions file) ps (λ tree c. c) made
 
 -- A file's functions have numbers of 32 bits.

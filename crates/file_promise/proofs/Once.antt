@@ -1,6 +1,7 @@
 -- One image is made for a file.
 use Rattle.std.proofs.Common.{◌≡◌, List, [], ◌∷◌, ap, subst, sym, ◌∙◌, refl}
 use Rattle.std.specs.List.{AllZip}
+use Rattle.choices.specs.declared.choices.Choices.{Choices}
 use Rattle.cmm_tree.specs.Tree.{FunctionTree, FileTree, functions}
 use Rattle.image_form.specs.Tables.{Tables}
 use Rattle.layout_rules.specs.declared.form.Form.{Form}
@@ -11,7 +12,7 @@ use Rattle.compiled_files.specs.Made.{IsFunctionMade, IsMadeFor}
 use Rattle.code_bounds.proofs.Known.{made_once}
 use Rattle.rv_pieces.specs.declared.piece.Pieces.{Pieces}
 
-pieces_once : (fs : List FunctionTree) (ps qs : List Pieces) → AllZip IsFunctionMade fs ps → AllZip IsFunctionMade fs qs → ps ≡ qs
+pieces_once : {choices : Choices} (fs : List FunctionTree) (ps qs : List Pieces) → AllZip (IsFunctionMade choices) fs ps → AllZip (IsFunctionMade choices) fs qs → ps ≡ qs
 pieces_once [] [] [] a b = refl
 pieces_once [] [] (q ∷ qs) a b = absurd b
 pieces_once [] (p ∷ ps) qs a b = absurd a
@@ -29,7 +30,7 @@ all_forms_once (p ∷ ps) (f ∷ fs) [] a b = absurd b
 all_forms_once (p ∷ ps) (f ∷ fs) (g ∷ gs) a b =
     ap (λ (x : List Form). x ∷ fs) (forms_once none_far p.code f g a.0 b.0) ∙ ap (λ (xs : List (List Form)). g ∷ xs) (all_forms_once ps fs gs a.1 b.1)
 
-pub made_for_once : (file : FileTree) (t u : Tables) → IsMadeFor file t → IsMadeFor file u → t ≡ u
+pub made_for_once : {choices : Choices} (file : FileTree) (t u : Tables) → IsMadeFor choices file t → IsMadeFor choices file u → t ≡ u
 made_for_once file t u a b =
     let same : a.pieces ≡ b.pieces = pieces_once (functions file) a.pieces b.pieces a.each b.each in
     let are : AreAllForms b.pieces a.laid.forms = subst (λ (ps : List Pieces). AreAllForms ps a.laid.forms) same a.laid.are in

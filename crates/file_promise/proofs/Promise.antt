@@ -1,6 +1,7 @@
 -- The image that is made for the file of an accepted text is correct for it, asks for allocations only in need, is bounded
 -- by it, and its descriptors are exact.
 use Rattle.std.proofs.Common.{◌≡◌, ◌<◌, ℕ, All, List, None}
+use Rattle.choices.specs.declared.choices.Choices.{Choices}
 use Rattle.cmm_front.specs.FileOf.{IsFileOf}
 use Rattle.cmm_tree.specs.Tree.{FileTree}
 use Rattle.code_bounds.proofs.Image.{image_bounded}
@@ -19,7 +20,7 @@ use Rattle.compiled_files.specs.Made.{IsExact}
 use Rattle.file_promise.proofs.Bytes.{bytes_of}
 use Rattle.file_promise.proofs.Made.{are_chained, are_exact, can_be_laid, keep}
 
-module _ (text : List ℕ) (file : FileTree) (is : IsFileOf text file) (image : Tables) (made : IsMadeFor file image) where
+module _ {choices : Choices} (text : List ℕ) (file : FileTree) (is : IsFileOf text file) (image : Tables) (made : IsMadeFor choices file image) where
   is_laid : IsLaid file made.pieces image
   is_laid = laid file made.pieces image made.laid
 
@@ -34,7 +35,7 @@ module _ (text : List ℕ) (file : FileTree) (is : IsFileOf text file) (image : 
   pub made_bounded : IsBounded file image
   made_bounded = image_bounded file made.pieces image (can_be_laid text file is made.pieces made.each) is_laid (keep text file is made.pieces made.each)
 
-  pub made_exact : IsExact file image
+  pub made_exact : IsExact choices file image
   made_exact = record { pieces = made.pieces; laid = is_laid; each = are_exact text file is made.pieces made.each }
 
   pub roomy_fits : IsRoomy file → first_too_large image ≡ None

@@ -5,6 +5,7 @@
 #![tactic(auto)]
 
 ghost use Rattle.std.specs.Prelude.{◌≡◌, ◌<◌, ℕ, All, List, None};
+ghost use Rattle.choices.specs.declared.choices.Choices.{Choices};
 ghost use Rattle.cmm_front.specs.FileOf.{IsFileOf};
 ghost use Rattle.cmm_tree.specs.Tree.{FileTree};
 ghost use Rattle.correctness.specs.Bounds.{IsBounded, IsRoomy};
@@ -16,30 +17,32 @@ ghost use Rattle.image_form.specs.Tables.{Tables};
 ghost use Rattle.layout_rules.specs.TooLarge.{first_too_large};
 ghost use Rattle.compiled_files.specs.Made.{IsMadeFor};
 
-/// Law: one image is made for a file.
+/// Law: one image is made for a file, whatever is chosen.
 pub fn files_are_made_once()
-    ensures { (file : FileTree) (t u : Tables) → IsMadeFor file t → IsMadeFor file u → t ≡ u }
+    ensures { (choices : Choices) (file : FileTree) (t u : Tables) → IsMadeFor choices file t →
+        IsMadeFor choices file u → t ≡ u }
 {}
 
 /// Law: the image that is made for the file of an accepted text is correct for it and bounded by it, it asks for an
 /// allocation only where s10 is below the limit word, and each of its descriptors is exact.
 pub fn made_images_are_right()
-    ensures correct { (text : List ℕ) (file : FileTree) → IsFileOf text file →
+    ensures correct { (choices : Choices) (text : List ℕ) (file : FileTree) → IsFileOf text file →
         All (λ b. b < 256) text →
-        (image : Tables) → AreTables image → IsMadeFor file image → IsCorrect file image }
-    ensures in_need { (text : List ℕ) (file : FileTree) → IsFileOf text file →
+        (image : Tables) → AreTables image → IsMadeFor choices file image → IsCorrect file image }
+    ensures in_need { (choices : Choices) (text : List ℕ) (file : FileTree) → IsFileOf text file →
         All (λ b. b < 256) text →
-        (image : Tables) → AreTables image → IsMadeFor file image → AsksInNeed file image }
-    ensures bounded { (text : List ℕ) (file : FileTree) → IsFileOf text file →
+        (image : Tables) → AreTables image → IsMadeFor choices file image → AsksInNeed file image }
+    ensures bounded { (choices : Choices) (text : List ℕ) (file : FileTree) → IsFileOf text file →
         All (λ b. b < 256) text →
-        (image : Tables) → IsMadeFor file image → IsBounded file image }
-    ensures exact { (text : List ℕ) (file : FileTree) → IsFileOf text file → (image : Tables) →
-        IsMadeFor file image → IsExact file image }
+        (image : Tables) → IsMadeFor choices file image → IsBounded file image }
+    ensures exact { (choices : Choices) (text : List ℕ) (file : FileTree) → IsFileOf text file →
+        (image : Tables) → IsMadeFor choices file image → IsExact choices file image }
 {}
 
 /// Law: no section of the image of a roomy file passes its limit.
 pub fn roomy_files_fit()
-    ensures { (text : List ℕ) (file : FileTree) → IsFileOf text file → All (λ b. b < 256) text →
+    ensures { (choices : Choices) (text : List ℕ) (file : FileTree) → IsFileOf text file →
+        All (λ b. b < 256) text →
         (image : Tables) →
-        IsMadeFor file image → IsRoomy file → first_too_large image ≡ None }
+        IsMadeFor choices file image → IsRoomy file → first_too_large image ≡ None }
 {}

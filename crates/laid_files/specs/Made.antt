@@ -2,3 +2,4 @@
 pub use Rattle.made_functions.specs.Chained.{IsChained}
 pub use Rattle.made_functions.specs.Exact.{IsExact, IsFunctionExact}
 pub use Rattle.made_functions.specs.Files.{IsFunctionMade, IsMadeFor}
+pub use Rattle.made_functions.specs.Made.{in_order}

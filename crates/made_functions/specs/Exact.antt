@@ -1,6 +1,7 @@
 -- The frame descriptors of the image that is made for a file.
 use Rattle.std.specs.Prelude.{List}
 use Rattle.std.specs.List.{AllZip}
+use Rattle.choices.specs.declared.choices.Choices.{Choices}
 use Rattle.cmm_tree.specs.Tree.{FunctionTree, FileTree, functions}
 use Rattle.image_form.specs.Tables.{Tables}
 use Rattle.laid_parts.specs.Laid.{IsLaidOutAs}
@@ -12,20 +13,21 @@ use Rattle.made_functions.specs.Made.{IsMadeOf}
 use Rattle.rv_pieces.specs.declared.piece.Pieces.{Pieces}
 
 -- The pieces of a function carry exact frame descriptors.
-pub record IsFunctionExact (tree : FunctionTree) (pieces : Pieces) : Type 0 where
-  pub lin : Lin
-  pub descriptors : List Descr
-  -- what the compiler makes of the function
-  pub made : IsMadeOf tree lin descriptors pieces
-  -- a tight Linear function that does what is selected of the text's function, with one descriptor for
-  -- each frame point, which names exactly what is live after it as val, where none is live as addr
-  pub chained : IsChained tree lin descriptors pieces
-  -- the pieces are its parts: each names exactly the registers and the stack words that its line reads
-  -- and writes, and has its line's descriptor right after its call
-  pub laid : IsLaidOutAs lin descriptors pieces
+pub record IsFunctionExact (choices : Choices) (tree : FunctionTree) (pieces : Pieces) : Type 0
+  where
+    pub lin : Lin
+    pub descriptors : List Descr
+    -- what the compiler makes of the function
+    pub made : IsMadeOf choices tree lin descriptors pieces
+    -- a tight Linear function that does what is selected of the text's function, with one descriptor for
+    -- each frame point, which names exactly what is live after it as val, where none is live as addr
+    pub chained : IsChained tree lin descriptors pieces
+    -- the pieces are its parts: each names exactly the registers and the stack words that its line reads
+    -- and writes, and has its line's descriptor right after its call
+    pub laid : IsLaidOutAs lin descriptors pieces
 
 -- The image is laid out of such pieces, one for each function of the file, in order.
-pub record IsExact (file : FileTree) (image : Tables) : Type 0 where
+pub record IsExact (choices : Choices) (file : FileTree) (image : Tables) : Type 0 where
   pub pieces : List Pieces
   pub laid : IsLaid file pieces image
-  pub each : AllZip IsFunctionExact (functions file) pieces
+  pub each : AllZip (IsFunctionExact choices) (functions file) pieces

@@ -1,7 +1,10 @@
--- What the compiler makes of one function of a text: its Mach function, what the passes over Mach and
--- register allocation make of that, its Linear function, its frame descriptors and its pieces of code.
+-- What the compiler makes of one function of a text, by what is chosen: its Mach function, what the
+-- passes over Mach and register allocation make of that, its Linear function, its frame descriptors and
+-- its pieces of code.
 use Rattle.std.specs.Prelude.{◌≡◌, List, length}
-use Rattle.choices.specs.declared.choices.Alloc.TheVariants.{Colour}
+use Rattle.choices.specs.declared.choices.Choices.{Choices}
+use Rattle.choices.specs.declared.choices.Order.{Order}
+use Rattle.choices.specs.declared.choices.Order.TheVariants.{Plain}
 use Rattle.cmm_tree.specs.Tree.{FunctionTree}
 use Rattle.selection_rules.specs.Select.{selected}
 use Rattle.mach_ir.specs.declared.mach.Mach.{Mach}
@@ -14,17 +17,23 @@ use Rattle.linear_pass.specs.Linear.{IsLinearOf}
 use Rattle.emit_rules.specs.Emitted.{IsEmitted}
 use Rattle.rv_pieces.specs.declared.piece.Pieces.{Pieces}
 
-pub record IsMadeOf (tree : FunctionTree) (m : Lin) (ds : List Descr) (pieces : Pieces) : Type 0
-  where
-    -- selected, and prepared for register allocation
-    pub prepared : Mach
-    pub is_prepared : IsPrepared (selected tree) prepared
-    -- its registers at places
-    pub mach : Mach
-    pub allocated : IsAllocated Colour prepared mach
-    -- as tidy lines
-    pub linear : IsLinearOf mach m
-    -- a descriptor for each frame point, which names what is live after it
-    pub exact : AreExact m ds
-    pub count : length ds ≡ frame_points m.code
-    pub emitted : IsEmitted m ds pieces
+-- lines in the order that is chosen
+abbrev pub in_order : Order → Lin → Lin
+in_order Plain l = l
+
+pub record IsMadeOf (choices : Choices) (tree : FunctionTree) (m : Lin) (ds : List Descr)
+    (pieces : Pieces) : Type 0 where
+  -- selected, and prepared for register allocation
+  pub prepared : Mach
+  pub is_prepared : IsPrepared (selected tree) prepared
+  -- its registers at places
+  pub mach : Mach
+  pub allocated : IsAllocated choices.alloc prepared mach
+  -- as tidy lines, and these in their order
+  pub lines : Lin
+  pub linear : IsLinearOf mach lines
+  pub ordered : m ≡ in_order choices.order lines
+  -- a descriptor for each frame point, which names what is live after it
+  pub exact : AreExact m ds
+  pub count : length ds ≡ frame_points m.code
+  pub emitted : IsEmitted m ds pieces

@@ -2,6 +2,7 @@
 use Rattle.std.proofs.Common.{ℕ, ◌+◌, ◌-◌, ◌*◌, ◌≤◌, List, length, Option, ap, arith}
 use Rattle.std.proofs.lemmas.List.{length-map}
 use Rattle.bs_words.specs.declared.types.Comp.{Comp}
+use Rattle.choices.specs.declared.choices.Alloc.{Alloc}
 use Rattle.cmm_tree.specs.Measures.{all_tries}
 use Rattle.cmm_tree.specs.Symbols.{DefinedSymbol}
 use Rattle.cmm_tree.specs.Tree.{Parameter, FunctionTree}
@@ -17,7 +18,6 @@ use Rattle.mach_passes.proofs.Whole.{prepared_kept}
 use Rattle.pass_rules.specs.Carried.{IsCarried}
 use Rattle.pass_rules.proofs.Operands.{others_few}
 use Rattle.pass_rules.specs.Measures.{copy_words}
-use Rattle.choices.specs.declared.choices.Alloc.TheVariants.{Colour}
 use Rattle.rounds_rules.specs.Rounds.{IsAllocated, allocated_size}
 use Rattle.rounds_rules.specs.Rounds as rounds
 use Rattle.rounds_rules.proofs.Kept.{allocated_kept}
@@ -94,7 +94,7 @@ module _ {defined : List ℕ → Option DefinedSymbol} {tree : FunctionTree} (ac
         };
       }
 
-  module _ {p q : Mach} (is : IsPrepared (selected tree) p) (allocated : IsAllocated Colour p q) where
+  module _ {alloc : Alloc} {p q : Mach} (is : IsPrepared (selected tree) p) (allocated : IsAllocated alloc p q) where
     kept : rounds.IsKept p q
     kept =
         let made = ready is in

@@ -4,7 +4,7 @@
 #![tactic(auto)]
 
 ghost use Rattle.std.specs.Prelude.{ℕ, List, Option};
-ghost use Rattle.choices.specs.declared.choices.Alloc.TheVariants.{Colour};
+ghost use Rattle.choices.specs.declared.choices.Alloc.{Alloc};
 ghost use Rattle.cmm_tree.specs.Symbols.{DefinedSymbol};
 ghost use Rattle.cmm_tree.specs.Tree.{FunctionTree};
 ghost use Rattle.mach_ir.specs.declared.mach.Mach.{Mach};
@@ -23,7 +23,7 @@ pub fn selected_functions_are_preparable()
 
 /// Law: what the passes and register allocation make of a function that the front accepts is known.
 pub fn prepared_functions_are_placed()
-    ensures { (defined : List ℕ → Option DefinedSymbol) (tree : FunctionTree) (p q : Mach) →
-        IsAccepted defined tree → IsPrepared (selected tree) p → IsAllocated Colour p q →
-        IsPlacedFor tree q }
+    ensures { (alloc : Alloc) (defined : List ℕ → Option DefinedSymbol) (tree : FunctionTree)
+        (p q : Mach) → IsAccepted defined tree → IsPrepared (selected tree) p →
+        IsAllocated alloc p q → IsPlacedFor tree q }
 {}

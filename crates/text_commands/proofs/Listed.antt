@@ -11,7 +11,7 @@ use Rattle.file_compile.specs.Listed.{AreFunctionTexts, IsImageText, image_text,
 use Rattle.image_form.specs.Image.{AreTables}
 use Rattle.image_form.specs.Tables.{Tables}
 use Rattle.layout_rules.specs.TooLarge.{first_too_large}
-use Rattle.file_compile.specs.Made.{IsMadeFor}
+use Rattle.file_compile.specs.Made.{IsMadeFor, defaults}
 use Rattle.stages.specs.declared.stage.Stage.{Stage}
 use Rattle.text_commands.proofs.Passing.{only_made}
 use Rattle.text_commands.specs.Arguments.{IsCall}
@@ -21,7 +21,7 @@ use Rattle.text_commands.specs.Listing.{ListsImage, ListsImageAt}
 use Rattle.text_commands.specs.Trial.{IsTrial}
 
 -- the image that is made for the text's file, where it fits, is that of the text
-pub image_of : (text : List ℕ) (file : FileTree) → IsFileOf text file → All (λ b. b < 256) text → (image : Tables) → AreTables image → IsMadeFor file image →
+pub image_of : (text : List ℕ) (file : FileTree) → IsFileOf text file → All (λ b. b < 256) text → (image : Tables) → AreTables image → IsMadeFor defaults file image →
     first_too_large image ≡ None → IsImageOf text image
 image_of text file is are image tables made fits = record {
   file = file;
@@ -37,7 +37,7 @@ image_of text file is are image tables made fits = record {
 
 -- it, and the outcome of a run of a function of the file
 pub tried : (check : CheckTree) (text : List ℕ) (file : FileTree) → IsFileOf text file → All (λ b. b < 256) text → (image : Tables) → AreTables image →
-    IsMadeFor file image → first_too_large image ≡ None → (entry : ℕ) (args answers outcome : List ℕ) → IsCall check file entry args answers →
+    IsMadeFor defaults file image → first_too_large image ≡ None → (entry : ℕ) (args answers outcome : List ℕ) → IsCall check file entry args answers →
     outcome ≡ cmm_outcome_text (cmm_run file (layout_of image) entry args answers check.fuel) → IsTrial check text image outcome
 unfolding image_of
 tried check text file is are image tables made fits entry args answers outcome call told = record {
@@ -50,15 +50,15 @@ tried check text file is are image tables made fits entry args answers outcome c
 }
 
 module _ (text : List ℕ) (file : FileTree) (is : IsFileOf text file) (are : All (λ b. b < 256) text) (bytes : List ℕ) where
-  of_image : (text_of : Tables → List ℕ) → IsImageText text_of file bytes → ListsImage text_of text bytes
+  of_image : (text_of : Tables → List ℕ) → IsImageText defaults text_of file bytes → ListsImage text_of text bytes
   of_image text_of listed =
       record { image = listed.image; is_image = image_of text file is are listed.image listed.is_image listed.made listed.fits; is = listed.is }
 
   lists_by : (stage : Stage) (o : Option (Tables → List ℕ))
-      → MatchOption o (AreFunctionTexts stage (functions file) bytes) (λ text_of. IsImageText text_of file bytes)
+      → MatchOption o (AreFunctionTexts defaults stage (functions file) bytes) (λ text_of. IsImageText defaults text_of file bytes)
       → IfSome o (λ text_of. ListsImage text_of text bytes)
   lists_by stage None listed = tt
   lists_by stage (Some text_of) listed = of_image text_of listed
 
-  pub lists_image : (stage : Stage) → IsStageText file stage bytes → ListsImageAt stage text bytes
+  pub lists_image : (stage : Stage) → IsStageText defaults file stage bytes → ListsImageAt stage text bytes
   lists_image stage listed = lists_by stage (image_text stage) listed

@@ -10,13 +10,13 @@ use Rattle.file_compile.specs.Made.{IsExact}
 use Rattle.image_form.specs.Image.{AreTables}
 use Rattle.image_form.specs.Tables.{Tables}
 use Rattle.layout_rules.specs.TooLarge.{first_too_large}
-use Rattle.file_compile.specs.Made.{IsMadeFor}
+use Rattle.file_compile.specs.Made.{IsMadeFor, defaults}
 
 -- This image is made for the file, and no other.
 pub record IsOnlyMadeFor (file : FileTree) (image : Tables) : Type 0 where
   -- each function through all passes, and all of them laid out
-  pub made : IsMadeFor file image
-  pub only : (other : Tables) → IsMadeFor file other → other ≡ image
+  pub made : IsMadeFor defaults file image
+  pub only : (other : Tables) → IsMadeFor defaults file other → other ≡ image
 
 -- The text has a file, and this is the image that is made for it: it is correct for the file, asks for
 -- allocations only in need, is as small as the file asks, and its frame descriptors are exact.
@@ -28,7 +28,7 @@ pub record IsImageOf (text : List ℕ) (image : Tables) : Type 0 where
   pub correct : IsCorrect file image
   pub in_need : AsksInNeed file image
   pub bounded : IsBounded file image
-  pub exact : IsExact file image
+  pub exact : IsExact defaults file image
   -- no section passes its limit
   pub fits : first_too_large image ≡ None
 

@@ -3,6 +3,7 @@ use Rattle.std.specs.Prelude.{◌≡◌, ⊤, ℕ, List, IfSome}
 use Rattle.cmm_front.specs.FileOf.{IsFileOf, HasFault}
 use Rattle.cmm_tree.specs.Tree.{FileTree}
 use Rattle.file_compile.specs.Listed.{image_text, IsStageText}
+use Rattle.file_compile.specs.Made.{defaults}
 use Rattle.stages.specs.Image.{IsOfImage}
 use Rattle.image_form.specs.Tables.{Tables}
 use Rattle.stages.specs.declared.stage.Stage.{Stage}
@@ -24,8 +25,8 @@ ListsImageAt stage text bytes = IfSome (image_text stage) (λ text_of. ListsImag
 pub record IsListingOf (stage : Stage) (text bytes : List ℕ) : Type 0 where
   pub file : FileTree
   pub is_file : IsFileOf text file
-  pub is : IsStageText file stage bytes
-  pub only : (other : List ℕ) → IsStageText file stage other → other ≡ bytes
+  pub is : IsStageText defaults file stage bytes
+  pub only : (other : List ℕ) → IsStageText defaults file stage other → other ≡ bytes
   pub image : ListsImageAt stage text bytes
 
 -- Why nothing is listed. The size of the image is a cause for a stage of the image alone.

@@ -6,7 +6,7 @@ use Rattle.command_line.specs.Command.{CheckTree}
 use Rattle.image_form.specs.Image.{AreTables}
 use Rattle.image_form.specs.Tables.{Tables}
 use Rattle.layout_rules.specs.TooLarge.{first_too_large}
-use Rattle.file_compile.specs.Made.{IsMadeFor}
+use Rattle.file_compile.specs.Made.{IsMadeFor, defaults}
 use Rattle.text_commands.specs.Arguments.{IsCall}
 
 -- The text has this file, the words ask for this call of one of its functions, and this is the image that is made for
@@ -16,5 +16,5 @@ pub record IsReady (check : CheckTree) (text : List ℕ) (file : FileTree) (entr
   pub is_file : IsFileOf text file
   pub call : IsCall check file entry args answers
   pub is_image : AreTables image
-  pub made : IsMadeFor file image
+  pub made : IsMadeFor defaults file image
   pub fits : first_too_large image ≡ None

@@ -1,15 +1,16 @@
 use Rattle.code_bounds.proofs.Bounded.{bounded, frame_small, frame_fits}
+use Rattle.chained_functions.proofs.Once.{linear_of}
 use Rattle.chained_functions.proofs.Placed.{placed_for}
 use Rattle.code_bounds.proofs.made_functions_are_small.Goals as goal
 
 pub returns-clause-bounded : goal.returns-clause-bounded
-returns-clause-bounded c = λ defined tree m ds pieces accepted made shallow.
-    bounded accepted (placed_for accepted made.is_prepared made.allocated) made.linear ds pieces made shallow
+returns-clause-bounded c = λ choices defined tree m ds pieces accepted made shallow.
+    bounded accepted (placed_for accepted made.is_prepared made.allocated) (linear_of made) ds pieces made shallow
 
 pub returns-clause-frame : goal.returns-clause-frame
-returns-clause-frame c = λ defined tree m ds pieces accepted made.
-    frame_small accepted (placed_for accepted made.is_prepared made.allocated) made.linear
+returns-clause-frame c = λ choices defined tree m ds pieces accepted made.
+    frame_small accepted (placed_for accepted made.is_prepared made.allocated) (linear_of made)
 
 pub returns-clause-fits : goal.returns-clause-fits
-returns-clause-fits c = λ defined tree m ds pieces accepted made.
-    frame_fits accepted (placed_for accepted made.is_prepared made.allocated) made.linear
+returns-clause-fits c = λ choices defined tree m ds pieces accepted made.
+    frame_fits accepted (placed_for accepted made.is_prepared made.allocated) (linear_of made)

@@ -6,4 +6,4 @@ use Rattle.file_compile.proofs.files.all_texts.Given as goal
 -- the texts of those that were passed
 abbrev pub invariant-loop-function : goal.invariant-loop-function
 invariant-loop-function l =
-    AreFunctionTexts l.stage (map (λ f. function_view f.now) (take l.function-index l.functions)) l.text.items
+    AreFunctionTexts l.choices l.stage (map (λ f. function_view f.now) (take l.function-index l.functions)) l.text.items

@@ -9,7 +9,7 @@ use Rattle.cmm_front.proofs.Readings.{is_placed}
 use Rattle.file_promise.proofs.Made.{can_be_laid, few_functions}
 use Rattle.layout_rules.specs.Conditions.{CanBeLaid}
 use Rattle.file_compile.proofs.Making.{all_accepted, all_listed, all_made, few_listed}
-use Rattle.file_compile.proofs.files.compile.Goals as goal
+use Rattle.file_compile.proofs.files.compile_by.Goals as goal
 
 pub all_pieces-requires-clause-accepted : goal.all_pieces-requires-clause-accepted
 all_pieces-requires-clause-accepted g c = λ lifetimes outlive.

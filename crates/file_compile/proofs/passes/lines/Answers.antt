@@ -1,7 +1,6 @@
-use Rattle.std.proofs.lemmas.Result.{IfOk-weaker}
 use Rattle.cmm_tree.specs.View.{function_view}
 use Rattle.file_compile.proofs.Passing.{allocated_placed, allocated_line_room}
-use Rattle.file_compile.proofs.listing.lines.Goals as goal
+use Rattle.file_compile.proofs.passes.lines.Goals as goal
 
 pub linear-requires-clause-well_formed : goal.linear-requires-clause-well_formed
 linear-requires-clause-well_formed c =
@@ -20,6 +19,10 @@ linear-requires-clause-room c = allocated_line_room (function_view c.args.functi
 
 pub returns : goal.returns
 returns c =
-    IfOk-weaker c.linear.result _ _
-    (λ lin linear. record { mach = c.in_ok-placed.placed; is_allocated = c.in_ok-placed.ensures; linear = linear })
-    c.linear.ensures
+    record {
+      mach = c.in_ok-placed.placed;
+      is_allocated = c.in_ok-placed.ensures;
+      lines = c.in_ok-lines.lines;
+      linear = c.in_ok-lines.ensures;
+      ordered = c.ordered.ensures;
+    }
