@@ -13,7 +13,7 @@ use Rattle.mach_ir.specs.Sizes.{HasRoom}
 use Rattle.mach_ir.specs.Text.{mach_text}
 use Rattle.mach_ir.specs.declared.mach.Mach.{Mach}
 use Rattle.prepare.specs.Known.{IsPreparable, IsPrepared, IsOverMach, IsPassedTo, prepared_size}
-use Rattle.prepare.proofs.Known as preparing
+use Rattle.mach_passes.proofs.Whole as preparing
 use Rattle.stages.specs.declared.stage.Stage.{Stage}
 use Rattle.stages.specs.declared.stage.Stage.TheVariants.{Select, CombAlloc, Cse, Dead, Spill, Split, Alloc, Linear, Frames, Code}
 use Rattle.file_promise.specs.Made.{IsFunctionMade}
