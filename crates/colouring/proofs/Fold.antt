@@ -295,7 +295,7 @@ module _ (g : Graph) (h : IsColourable g) where
     }
 
   module _ {fresh : ℕ} {c : Colours} (by : IsColouredBy fresh g c) where
-    all_places : Colouring
+    abbrev all_places : Colouring
     all_places = coloured g (fixed g) by.order
 
     all_good : Good g [] all_places

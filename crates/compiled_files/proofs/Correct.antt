@@ -303,7 +303,7 @@ module _ (text : List ℕ) (file : FileTree) (is : IsFileOf text file) (bytes : 
         let behind : laid.part (length m.code) ≡ entry_at f + k = omega (arith, low) in
         every_entry Nowhere s stands.names laid entry_at f c place m v arguments memory k stands.small
         (subst (λ (to : ℕ). PartStands s stands.names (entry_at f) to (entry (frame_in laid))) behind (stands.entered s refl)) behind
-        ch.regular.seated.params entered u e
+        ch.lines.regular.seated.params entered u e
 
   -- ---- and all
 

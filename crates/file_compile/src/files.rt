@@ -108,8 +108,8 @@ fn all_pieces<R: Threads + Sync, G: Gate + Sync>(
     map_in_halves(rt, alloc, tokens.as_slice(), jobs, &pieces_at)
 }
 
-/// The image of a checked file by what is chosen: each function through all passes, and then all of them, with the static
-/// data, the external calls and the frame descriptors.
+/// The image of a checked file by what is chosen: each function through all passes, and then all of them, with the
+/// static data, the external calls and the frame descriptors.
 ///
 /// Functions are lent in halves of their tokens to both sides of a join, each half with its part of the jobs, down to
 /// single functions or one job, and the gate hears of each. By one choice a file is made into one image only
@@ -205,11 +205,11 @@ fn functions_text(
     Ok(text)
 }
 
-/// The text of a stage of a checked file by what is chosen: each function as the passes up to that stage make it, in the order of
-/// the file, or the frame descriptors or the words of the image, which is compiled by one job.
+/// The text of a stage of a checked file by what is chosen: each function as the passes up to that stage make it, in
+/// the order of the file, or the frame descriptors or the words of the image, which is compiled by one job.
 ///
-/// By one choice a stage of a file has one text only (`stage_text_once`): whatever code is made of a function is made of what
-/// its text shows.
+/// By one choice a stage of a file has one text only (`stage_text_once`): whatever code is made of a function is made
+/// of what its text shows.
 ///
 /// # Errors
 ///

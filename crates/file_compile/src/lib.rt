@@ -8,8 +8,8 @@ mod listing;
 mod passes;
 mod rows;
 
-pub use files::{compile, compile_by, stage, stage_by};
 pub use choices::{Alloc, Choices, DEFAULTS, Order};
+pub use files::{compile, compile_by, stage, stage_by};
 pub use gate::{Gate, OpenGate};
 pub use listing::function_text;
 pub use passes::function_pieces;

@@ -20,11 +20,7 @@ use stages::Stage;
 use std::alloc::{AllocError, Global};
 
 /// The text of what the passes over Mach up to a stage make of a function.
-fn passed_text(
-    alloc: Global,
-    function: &Function,
-    stage: Stage,
-) -> Result<List<u8>, AllocError>
+fn passed_text(alloc: Global, function: &Function, stage: Stage) -> Result<List<u8>, AllocError>
     requires typed { IsFunctionAnnotated function.now }
     requires accepted { IsAcceptedFunction (function_view function.now) }
     requires over_mach { IsOverMach stage }
@@ -37,11 +33,7 @@ fn passed_text(
 }
 
 /// The text of a function with a place for each register.
-fn places_text(
-    alloc: Global,
-    function: &Function,
-    choices: Choices,
-) -> Result<List<u8>, AllocError>
+fn places_text(alloc: Global, function: &Function, choices: Choices) -> Result<List<u8>, AllocError>
     requires typed { IsFunctionAnnotated function.now }
     requires accepted { IsAcceptedFunction (function_view function.now) }
     ensures { IfOk result (λ text.
@@ -52,11 +44,7 @@ fn places_text(
 }
 
 /// The text of a function as lines.
-fn lines_text(
-    alloc: Global,
-    function: &Function,
-    choices: Choices,
-) -> Result<List<u8>, AllocError>
+fn lines_text(alloc: Global, function: &Function, choices: Choices) -> Result<List<u8>, AllocError>
     requires typed { IsFunctionAnnotated function.now }
     requires accepted { IsAcceptedFunction (function_view function.now) }
     ensures { IfOk result (λ text.

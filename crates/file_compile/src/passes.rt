@@ -50,11 +50,7 @@ fn ordered(lin: Lin, order: Order) -> Lin
 /// A function with a place for each register: it is selected and prepared, and places are chosen.
 ///
 /// The only error is want of memory.
-pub fn allocated(
-    alloc: Global,
-    function: &Function,
-    choices: Choices,
-) -> Result<Mach, AllocError>
+pub fn allocated(alloc: Global, function: &Function, choices: Choices) -> Result<Mach, AllocError>
     requires typed { IsFunctionAnnotated function.now }
     requires accepted { IsAcceptedFunction (function_view function.now) }
     ensures { IfOk result (IsAllocatedFor choices (function_view function.now)) }

@@ -5,7 +5,7 @@ use Rattle.std.proofs.lemmas.Bool.{ne_eqb, eq-eqb}
 use Rattle.image_form.specs.Image.{EachNext}
 use Rattle.image_form.specs.Tables.{Desc, Tables}
 use Rattle.layout_rules.specs.declared.form.Form.{Form}
-use Rattle.layout_rules.specs.Forms.{Reach, total_words, words_of}
+use Rattle.layout_rules.specs.Forms.{total_words, words_of}
 use Rattle.layout_rules.specs.Laid.{AllReach, desc_at, descs_from, descs_in, entries_from}
 use Rattle.linear_rules.proofs.Homes.{IsIn, is_first, is_later}
 use Rattle.rv_machine.specs.Frames.{descriptor_at}

@@ -2,4 +2,4 @@
 pub use Rattle.made_functions.specs.Bounded.{IsBoundedBy}
 pub use Rattle.made_functions.specs.Chained.{AreLinesOf, IsChained}
 pub use Rattle.made_functions.specs.Files.{IsFunctionMade}
-pub use Rattle.made_functions.specs.Made.{IsMadeOf, in_order}
+pub use Rattle.made_functions.specs.Made.{IsMadeOf}

@@ -1,8 +1,18 @@
 -- What the stages owe the passes after them.
-use Rattle.std.proofs.Common.{◌≡◌, ℕ, refl}
+use Rattle.std.proofs.Common.{◌≡◌, ℕ, length, refl}
 use Rattle.stages.specs.declared.stage.Stage.{Stage}
 use Rattle.stages.specs.declared.stage.Stage.TheVariants.{Select, CombAlloc, Cse, Dead, Spill, Split, Alloc, Linear, Frames, Code}
-use Rattle.mach_passes.specs.Stages.{IsOverMach}
+use Rattle.mach_ir.specs.Formed.{WellFormed}
+use Rattle.mach_ir.specs.Placed.{WellPlaced}
+use Rattle.mach_ir.specs.Sizes.{HasRoom}
+use Rattle.mach_ir.specs.declared.mach.Mach.{Mach}
+use Rattle.mach_passes.specs.Prepared.{IsPreparable, prepared_size}
+use Rattle.mach_passes.specs.Known.{HasConstantsFirst, IsSunk}
+use Rattle.mach_passes.specs.Stages.{IsOverMach, IsPassedTo, spills, splits}
+use Rattle.mach_passes.proofs.Room.{spilled_room}
+use Rattle.mach_passes.proofs.Whole.{dropped_cut, hoist_cut, sunk_stage, slots_stage}
+use Rattle.spill_rules.specs.Chosen.{IsSpilled}
+use Rattle.split_rules.specs.Split.{IsSplit, split_size}
 
 -- which of them it is
 abbrev pub place : Stage → ℕ
@@ -29,3 +39,17 @@ is_last Alloc over a b c d e = absurd over
 is_last Linear over a b c d e = absurd over
 is_last Frames over a b c d e = absurd over
 is_last Code over a b c d e = absurd over
+
+-- where spilling asks for a well formed function, it gets one
+pub spill_passed : {m start a b q : Mach} → IsPreparable m → IsPassedTo m Dead start → HasConstantsFirst start a → IsSunk a b → (WellFormed b → IsSpilled b q) →
+    IsPassedTo m Spill q
+spill_passed is before first late made = spills before first late (made (sunk_stage is (hoist_cut is (dropped_cut is before) first) late).formed)
+
+-- and so does splitting, with numbers for its webs
+pub split_passed : {m s q : Mach} → IsPreparable m → IsPassedTo m Spill s → (WellFormed s → WellPlaced s → IsSplit s q) → IsPassedTo m Split q
+split_passed is (spills before first late slots) made =
+    let k = slots_stage is (hoist_cut is (dropped_cut is before) first) late slots in
+    splits (spills before first late slots) (made k.formed k.placed)
+
+pub split_room : (m : Mach) → IsPreparable m → HasRoom (prepared_size (length m.params)) m → {q : Mach} → IsPassedTo m Spill q → HasRoom (split_size (length q.params)) q
+split_room m is room (spills before first late slots) = spilled_room m is room (hoist_cut is (dropped_cut is before) first) late slots

@@ -1,6 +1,6 @@
 //! Register allocation: a place for each register of a Mach function (OCaml's `asmcomp/asmgen.ml`).
 //!
-//! Colouring and reloading turn in rounds until no operation has an operand or a result in a slot. Where
+//! Choosing places and reloading turn in rounds until no operation has an operand or a result in a slot. Where
 //! fifty rounds do not end, the function as it was before the first gets a slot for each register whose
 //! place is open.
 #![tactic(auto)]
