@@ -69,10 +69,10 @@ text_keeps text file is tree c m ds pieces made =
     keeps_to (definitions file) tree m ds pieces (function_accepted text file is tree c) made (text_nests text file tree is c)
 
 -- And so do all of them.
-pub each_keeps : {choices : Choices} (text : List ℕ) (file : FileTree) → IsFileOf text file → (ps : List Pieces) →
+pub each_keeps : (choices : Choices) (text : List ℕ) (file : FileTree) → IsFileOf text file → (ps : List Pieces) →
     AllZip (IsFunctionMade choices) (functions file) ps →
     AllZip KeepsTo (functions file) ps
-each_keeps {choices} text file is ps made = go (functions file) ps (λ tree c. c) made
+each_keeps choices text file is ps made = go (functions file) ps (λ tree c. c) made
   where
     go : (fs : List FunctionTree) (ps : List Pieces) → ((tree : FunctionTree) → Contains fs tree → Contains (functions file) tree) → AllZip (IsFunctionMade choices) fs ps →
         AllZip KeepsTo fs ps

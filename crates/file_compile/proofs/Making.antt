@@ -17,12 +17,12 @@ use Rattle.file_compile.specs.Accepted.{IsAcceptedFile, IsAcceptedFunction}
 use Rattle.file_promise.specs.Made.{IsFunctionMade}
 
 -- of the functions, as of their trees
-pub made_trees : {choices : Choices} (fs : List (Bor Function)) (ps : List Pieces) → AllZip (λ (f : Bor Function) p. IsFunctionMade choices (function_view f.now) p) fs ps →
+pub made_trees : (choices : Choices) (fs : List (Bor Function)) (ps : List Pieces) → AllZip (λ (f : Bor Function) p. IsFunctionMade choices (function_view f.now) p) fs ps →
     AllZip (IsFunctionMade choices) (map (λ (f : Bor Function). function_view f.now) fs) ps
-made_trees [] [] made = tt
-made_trees [] (p ∷ ps) made = absurd made
-made_trees (f ∷ fs) [] made = absurd made
-made_trees (f ∷ fs) (p ∷ ps) made = (made.0, made_trees fs ps made.1)
+made_trees choices [] [] made = tt
+made_trees choices [] (p ∷ ps) made = absurd made
+made_trees choices (f ∷ fs) [] made = absurd made
+made_trees choices (f ∷ fs) (p ∷ ps) made = (made.0, made_trees choices fs ps made.1)
 
 -- what is listed of the items of a file are its functions
 pub all_listed : (file : File) (items : List Item) (fs gs : List (Bor Function)) → items ≡ contents file.items → gs ≡ fs →
@@ -39,10 +39,10 @@ few_listed most file items fs gs whole same trees few =
     omega (arith, few, length-map gs (λ (f : Bor Function). function_view f.now), ap (λ (l : List FunctionTree). length l) (all_listed file items fs gs whole same trees))
 
 -- what is made of what is listed is made of the functions
-pub all_made : {choices : Choices} (file : File) (items : List Item) (fs gs : List (Bor Function)) (ps qs : List Pieces) → items ≡ contents file.items → gs ≡ fs →
+pub all_made : (choices : Choices) (file : File) (items : List Item) (fs gs : List (Bor Function)) (ps qs : List Pieces) → items ≡ contents file.items → gs ≡ fs →
     map (λ (f : Bor Function). function_view f.now) fs ≡ functions_among (map item_view items) → AllZip (IsFunctionMade choices) (map (λ (f : Bor Function). function_view f.now) gs) ps →
     qs ≡ ps → AllZip (IsFunctionMade choices) (functions (file_view file)) qs
-all_made {choices} file items fs gs ps qs whole same trees made kept =
+all_made choices file items fs gs ps qs whole same trees made kept =
     subst (AllZip (IsFunctionMade choices) (functions (file_view file))) (sym kept)
     (subst (λ (l : List FunctionTree). AllZip (IsFunctionMade choices) l ps) (all_listed file items fs gs whole same trees) made)
 

@@ -98,5 +98,5 @@ text_once choices file stage a b None of it = functions_once choices stage (func
 text_once choices file stage a b (Some text_of) of it = image_once choices text_of file a b of it
 
 -- The text of a stage of a file is one.
-pub stage_text_once : {choices : Choices} (file : FileTree) (stage : Stage) (a b : List ℕ) → IsStageText choices file stage a → IsStageText choices file stage b → a ≡ b
-stage_text_once {choices} file stage a b of it = text_once choices file stage a b (image_text stage) of it
+pub stage_text_once : (choices : Choices) (file : FileTree) (stage : Stage) (a b : List ℕ) → IsStageText choices file stage a → IsStageText choices file stage b → a ≡ b
+stage_text_once choices file stage a b of it = text_once choices file stage a b (image_text stage) of it

@@ -15,7 +15,7 @@ use Rattle.mach_ir.specs.declared.mach.Mach.{Mach}
 use Rattle.prepare.specs.Known.{IsPreparable, IsPrepared, IsOverMach, IsPassedTo, prepared_size}
 use Rattle.mach_passes.proofs.Whole as preparing
 use Rattle.stages.specs.declared.stage.Stage.{Stage}
-use Rattle.stages.specs.declared.stage.Stage.TheVariants.{Select, CombAlloc, Cse, Dead, Spill, Split, Alloc, Linear, Frames, Code}
+use Rattle.stages.specs.declared.stage.Stage.TheVariants.{Split, Alloc, Linear, Frames, Code}
 use Rattle.file_promise.specs.Made.{IsFunctionMade}
 use Rattle.file_promise.proofs.Bounds.{IsPlacedFor, HasLineRoom}
 use Rattle.file_promise.proofs.Bounds.{selected_preparable, selected_room, ready, prepared_room, carried, placed_for, line_room}

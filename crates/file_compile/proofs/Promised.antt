@@ -16,8 +16,8 @@ use Rattle.file_promise.specs.Made.{IsExact}
 use Rattle.file_promise.specs.Made.{IsMadeFor}
 use Rattle.stages.specs.declared.stage.Stage.{Stage}
 
-pub stage_text_once : {choices : Choices} (file : FileTree) (stage : Stage) (a b : List ℕ) → IsStageText choices file stage a → IsStageText choices file stage b → a ≡ b
-stage_text_once file = listed.stage_text_once file
+pub stage_text_once : (choices : Choices) (file : FileTree) (stage : Stage) (a b : List ℕ) → IsStageText choices file stage a → IsStageText choices file stage b → a ≡ b
+stage_text_once = listed.stage_text_once
 
 module _ {choices : Choices} (text : List ℕ) (file : FileTree) (is : IsFileOf text file) (image : Tables) (made : IsMadeFor choices file image) where
   pub made_correct : All (λ b. b < 256) text → AreTables image → IsCorrect file image

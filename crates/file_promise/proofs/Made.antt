@@ -25,7 +25,7 @@ use Rattle.compiled_files.specs.Made.{IsChained}
 use Rattle.compiled_files.specs.Made.{IsFunctionMade}
 use Rattle.rv_pieces.specs.declared.piece.Pieces.{Pieces}
 
-module _ {choices : Choices} (text : List ℕ) (file : FileTree) (is : IsFileOf text file) where
+module _ (choices : Choices) (text : List ℕ) (file : FileTree) (is : IsFileOf text file) where
   function_chained : (tree : FunctionTree) → Contains (functions file) tree → (p : Pieces) → (made : IsFunctionMade choices tree p) →
       IsChained tree made.lin made.descriptors p
   function_chained tree among p made =
@@ -98,7 +98,7 @@ module _ {choices : Choices} (text : List ℕ) (file : FileTree) (is : IsFileOf 
     are_chained = chains (functions file) ps (λ tree c. c) made
 
     pub keep : AllZip KeepsTo (functions file) ps
-    keep = each_keeps text file is ps made
+    keep = each_keeps choices text file is ps made
 
     pub can_be_laid : CanBeLaid file ps
     can_be_laid = record {

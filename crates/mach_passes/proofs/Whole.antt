@@ -7,7 +7,6 @@ use Rattle.combine_rules.proofs.Placed.{combined_placed}
 use Rattle.combine_rules.proofs.Sizes.{size, register_before}
 use Rattle.combine_rules.proofs.Whole as combining
 use Rattle.combine_rules.specs.Combined.{combined}
-use Rattle.combine_rules.specs.Kept.{IsCombinable}
 use Rattle.copy_rules.proofs.One.{one_propagated}
 use Rattle.copy_rules.proofs.Whole.{propagated_kept}
 use Rattle.copy_rules.specs.Propagated.{IsPropagated}

@@ -13,18 +13,18 @@ use Rattle.made_functions.specs.Made.{IsMadeOf}
 use Rattle.rv_pieces.specs.declared.piece.Pieces.{Pieces}
 
 -- The pieces of a function carry exact frame descriptors.
-pub record IsFunctionExact (choices : Choices) (tree : FunctionTree) (pieces : Pieces) : Type 0
-  where
-    pub lin : Lin
-    pub descriptors : List Descr
-    -- what the compiler makes of the function
-    pub made : IsMadeOf choices tree lin descriptors pieces
-    -- a tight Linear function that does what is selected of the text's function, with one descriptor for
-    -- each frame point, which names exactly what is live after it as val, where none is live as addr
-    pub chained : IsChained tree lin descriptors pieces
-    -- the pieces are its parts: each names exactly the registers and the stack words that its line reads
-    -- and writes, and has its line's descriptor right after its call
-    pub laid : IsLaidOutAs lin descriptors pieces
+pub record IsFunctionExact (choices : Choices) (tree : FunctionTree)
+    (pieces : Pieces) : Type 0 where
+  pub lin : Lin
+  pub descriptors : List Descr
+  -- what the compiler makes of the function
+  pub made : IsMadeOf choices tree lin descriptors pieces
+  -- a tight Linear function that does what is selected of the text's function, with one descriptor for
+  -- each frame point, which names exactly what is live after it as val, where none is live as addr
+  pub chained : IsChained tree lin descriptors pieces
+  -- the pieces are its parts: each names exactly the registers and the stack words that its line reads
+  -- and writes, and has its line's descriptor right after its call
+  pub laid : IsLaidOutAs lin descriptors pieces
 
 -- The image is laid out of such pieces, one for each function of the file, in order.
 pub record IsExact (choices : Choices) (file : FileTree) (image : Tables) : Type 0 where

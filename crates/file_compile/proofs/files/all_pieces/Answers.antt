@@ -18,6 +18,6 @@ returns g c =
     let all : AreGiven (ArePiecesAt c.args.choices fs) 0 count pieces.items =
     given_weaker _ (ArePiecesAt c.args.choices fs) count pieces.items (λ i x less post. search rules) given in
     let same : count ≡ length fs = search rules in
-    made_trees fs pieces.items (given_each (λ (f : Bor Function) made. IsFunctionMade c.args.choices (function_view f.now) made) fs pieces.items
+    made_trees c.args.choices fs pieces.items (given_each (λ (f : Bor Function) made. IsFunctionMade c.args.choices (function_view f.now) made) fs pieces.items
     (subst (λ n. AreGiven (ArePiecesAt c.args.choices fs) 0 n pieces.items) same all)))
     c.map_in_halves.ensures

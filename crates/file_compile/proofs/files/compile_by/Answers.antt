@@ -49,6 +49,6 @@ assemble-requires-clause-can g c = λ lifetimes outlive.
     let whole : c.as_slice.result.now ≡ contents file.items =
     c.as_slice.ensures ∙ ap (λ (f : File). contents f.items) (c.file-file.ensures.same ∙ c.typed.ensures) in
     subst (λ (f : File). CanBeLaid (file_view f) c.as_slice-3.result.now) (sym c.typed-2.ensures)
-    (can_be_laid accepted.text (file_view c.args.checked.now) accepted.is_file c.as_slice-3.result.now
-    (all_made file c.as_slice.result.now c.in_ok-functions.functions.items c.as_slice-2.result.now c.in_ok-pieces.pieces.items c.as_slice-3.result.now
+    (can_be_laid c.args.choices accepted.text (file_view c.args.checked.now) accepted.is_file c.as_slice-3.result.now
+    (all_made c.args.choices file c.as_slice.result.now c.in_ok-functions.functions.items c.as_slice-2.result.now c.in_ok-pieces.pieces.items c.as_slice-3.result.now
     whole c.as_slice-2.ensures.value c.in_ok-functions.ensures.trees c.in_ok-pieces.ensures c.as_slice-3.ensures.value))

@@ -9,7 +9,7 @@ passed_text-requires-clause-over_mach c = over_mach c.args.stage c.in_default.no
 
 pub returns-in_default : goal.returns-in_default
 returns-in_default c =
-    IfOk-weaker c.in_default.result _ _
+    IfOk-weaker c.passed_text.result _ _
     (λ text is. over_mach_text c.args.choices c.args.stage (function_view c.args.function.now) (contents text)
     (over_mach c.args.stage c.in_default.not-Alloc c.in_default.not-Linear c.in_default.not-Frames c.in_default.not-Code) is)
-    c.in_default.ensures
+    c.passed_text.ensures

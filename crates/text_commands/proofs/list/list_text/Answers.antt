@@ -2,6 +2,7 @@ use Rattle.std.proofs.Common.{rules, arith}
 use Rattle.bs_words.specs.Contents.{contents}
 use Rattle.cmm_tree.specs.View.{file_view}
 use Rattle.file_compile.proofs.Promised.{stage_text_once}
+use Rattle.file_compile.specs.Made.{defaults}
 use Rattle.file_compile.proofs.Known.{all_bytes}
 use Rattle.text_commands.proofs.Listed.{lists_image}
 use Rattle.text_commands.proofs.Passing.{too_large}
@@ -27,7 +28,7 @@ returns-clause-listed g c =
       file = file;
       is_file = c.in_ok-checked.ensures.file;
       is = c.in_ok-stage.ensures.text;
-      only = λ other it. stage_text_once file c.args.stage other bytes it c.in_ok-stage.ensures.text;
+      only = λ other it. stage_text_once defaults file c.args.stage other bytes it c.in_ok-stage.ensures.text;
       image =
           lists_image text file c.in_ok-checked.ensures.file (all_bytes text (λ i. omega (arith, c.type_inv.text i))) bytes c.args.stage
           c.in_ok-stage.ensures.text;
