@@ -26,36 +26,18 @@ module _ {choices : Choices} (text : List ℕ) (file : FileTree) (is : IsFileOf 
 
   pub made_correct : All (λ b. b < 256) text → AreTables image → IsCorrect file image
   made_correct bytes tables =
-<<<<<<< ours
-      correct text file is (bytes_of text bytes) image made.pieces (can_be_laid text file is made.pieces made.each) is_laid tables (are_chained text file is made.pieces made.each)
+      correct text file is (bytes_of text bytes) image made.pieces (can_be_laid choices text file is made.pieces made.each) is_laid tables (are_chained choices text file is made.pieces made.each)
 
   pub made_in_need : All (λ b. b < 256) text → AreTables image → AsksInNeed file image
   made_in_need bytes tables =
-      in_need text file is (bytes_of text bytes) image made.pieces (can_be_laid text file is made.pieces made.each) is_laid tables (are_chained text file is made.pieces made.each)
+      in_need text file is (bytes_of text bytes) image made.pieces (can_be_laid choices text file is made.pieces made.each) is_laid tables (are_chained choices text file is made.pieces made.each)
 
   pub made_bounded : IsBounded file image
-  made_bounded = image_bounded file made.pieces image (can_be_laid text file is made.pieces made.each) is_laid (keep text file is made.pieces made.each)
+  made_bounded = image_bounded file made.pieces image (can_be_laid choices text file is made.pieces made.each) is_laid (keep choices text file is made.pieces made.each)
 
   pub made_exact : IsExact choices file image
-  made_exact = record { pieces = made.pieces; laid = is_laid; each = are_exact text file is made.pieces made.each }
+  made_exact = record { pieces = made.pieces; laid = is_laid; each = are_exact choices text file is made.pieces made.each }
 
   pub roomy_fits : IsRoomy file → first_too_large image ≡ None
   roomy_fits roomy =
-      room.roomy_fits text file made.pieces image is (can_be_laid text file is made.pieces made.each) is_laid (keep text file is made.pieces made.each) roomy
-=======
-      correct text file is (bytes_of text bytes) image made.pieces (can_be_laid choices text file is made.pieces made.each) made.laid tables (are_chained choices text file is made.pieces made.each)
-
-  pub made_in_need : All (λ b. b < 256) text → AreTables image → AsksInNeed file image
-  made_in_need bytes tables =
-      in_need text file is (bytes_of text bytes) image made.pieces (can_be_laid choices text file is made.pieces made.each) made.laid tables (are_chained choices text file is made.pieces made.each)
-
-  pub made_bounded : IsBounded file image
-  made_bounded = image_bounded file made.pieces image (can_be_laid choices text file is made.pieces made.each) made.laid (keep choices text file is made.pieces made.each)
-
-  pub made_exact : IsExact choices file image
-  made_exact = record { pieces = made.pieces; laid = made.laid; each = are_exact choices text file is made.pieces made.each }
-
-  pub roomy_fits : IsRoomy file → first_too_large image ≡ None
-  roomy_fits roomy =
-      room.roomy_fits text file made.pieces image is (can_be_laid choices text file is made.pieces made.each) made.laid (keep choices text file is made.pieces made.each) roomy
->>>>>>> theirs
+      room.roomy_fits text file made.pieces image is (can_be_laid choices text file is made.pieces made.each) is_laid (keep choices text file is made.pieces made.each) roomy
