@@ -13,7 +13,7 @@ use Rattle.mach_ir.specs.Sizes.{HasRoom}
 use Rattle.mach_ir.specs.Text.{mach_text}
 use Rattle.mach_ir.specs.declared.mach.Mach.{Mach}
 use Rattle.prepare.specs.Known.{IsPreparable, IsPrepared, IsOverMach, IsPassedTo, prepared_size}
-use Rattle.mach_passes.proofs.Whole as preparing
+use Rattle.mach_passes.proofs.Whole.{prepared as prepared_by}
 use Rattle.stages.specs.declared.stage.Stage.{Stage}
 use Rattle.stages.specs.declared.stage.Stage.TheVariants.{Split, Alloc, Linear, Frames, Code}
 use Rattle.file_promise.specs.Made.{IsFunctionMade}
@@ -42,7 +42,7 @@ module _ (tree : FunctionTree) (accepted : IsAcceptedFunction tree) (mach : Mach
 
   module _ (prepared : Mach) (made : IsPassedTo mach Split prepared) where
     pub of_selected : IsPrepared (selected tree) prepared
-    of_selected = preparing.prepared (subst (λ (m : Mach). IsPassedTo m Split prepared) is made)
+    of_selected = prepared_by (subst (λ (m : Mach). IsPassedTo m Split prepared) is made)
 
     pub prepared_formed : WellFormed prepared
     prepared_formed = (ready known of_selected).formed
