@@ -49,7 +49,7 @@ use Rattle.layout_rules.specs.Conditions.{IsRowLaid, IsFileLaid}
 use Rattle.layout_rules.specs.Externals.{calls_in_function, all_calls, is_among, firsts_behind}
 use Rattle.layout_rules.proofs.Rules.{all_append}
 use Rattle.selection_accepted.proofs.Selecting.{definitions, front_accepts, selectable}
-use Rattle.selection_accepted.proofs.Known.{left, right}
+use Rattle.selection_laws.proofs.Accepting.{left, right}
 use Rattle.accepted_files.proofs.Calls.{AreLaid, laid_all, both, nothing_laid, calls_laid}
 use Rattle.accepted_files.proofs.Counted.{tokens_among, items_among, AreFew, items_few}
 use Rattle.accepted_files.proofs.Differ.{names, names_append, list_symbols, list_names, data_names, function_names, all_parted, all_apart, each_apart, differ_both, differ_from}

@@ -5,4 +5,3 @@ pub mod Calls
 pub mod Few
 pub mod Files
 pub mod Defined
-pub mod Known

@@ -10,10 +10,9 @@ use Rattle.rv_machine.specs.Hart.{Placed}
 use Rattle.rv_machine.specs.Marks.{Marks}
 use Rattle.rv_machine.specs.Moving.{copied, is_scanned, moved_memory, redirected, vacated, rewritten, rewritten_block, rewritten_cells}
 use Rattle.rv_machine.specs.Placement.{bytes_used, header_at, is_in_heap, placed_at}
-use Rattle.rv_machine.specs.Space.{IsKept}
+use Rattle.rv_machine.specs.Space.{IsKept, HasCells}
 use Rattle.rv_machine.specs.Memory.{Region, put, word, words_at}
 use Rattle.alloc_service.specs.Forward.{IsForward, IsLow, IsPlaced, IsSmall, forward, forwarded, mark_or, poured, redirected_now, root_by, words_moved, words_of}
-use Rattle.alloc_service.specs.Young.{HasCells}
 use Rattle.machine_laws.proofs.Apart.{all_of, all-append, all-reverse}
 use Rattle.machine_laws.proofs.Chain.{IsYoung}
 use Rattle.machine_laws.proofs.Rise.{Rise}

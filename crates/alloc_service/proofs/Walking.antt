@@ -12,7 +12,7 @@ use Rattle.image_form.specs.declared.image.DescRow.{DescRow}
 use Rattle.image_form.specs.declared.image.Image as declared
 use Rattle.rv_machine.proofs.Found.{found_has}
 use Rattle.rv_machine.specs.Relocation.{root_cells}
-use Rattle.rv_machine.specs.Places.{data_start}
+use Rattle.bs_words.specs.Fits.{data_start}
 use Rattle.rv_machine.specs.Frames.{Frame, descriptor_at, frame_then, frames_from, is_frame, is_register, is_stack_word, most_frames, registers_named, registers_of, return_slot, slots_named, slots_of}
 use Rattle.rv_machine.specs.Memory.{Region, code_start, word}
 use Rattle.alloc_service.specs.Forward.{redirected_now, roots_by}

@@ -2,7 +2,6 @@
 use Rattle.std.specs.Prelude.{◌≡◌, ℕ, ◌≤◌, ◌<◌, Bool, true, false, List, ◌++◌, reverse, Option, Some, None}
 use Rattle.rv_machine.specs.Hart.{Placed}
 use Rattle.rv_machine.specs.Placement.{bytes_used}
-pub use Rattle.rv_machine.specs.Space.{HasCells}
 use Rattle.alloc_service.specs.declared.young.Taken.{Taken}
 use Rattle.alloc_service.specs.declared.young.Taken.TheVariants.{Entered, Broken, TooMany}
 

@@ -5,7 +5,8 @@ ghost use Rattle.std.specs.List.{AllByRecursion};
 ghost use Rattle.rv_machine.specs.Observation.{young_blocks};
 ghost use Rattle.rv_machine.specs.Placement.{bytes_used};
 ghost use Rattle.rv_machine.specs.Places.{most_room};
-ghost use Rattle.alloc_service.specs.Young.{HasCells, Reads, Takes};
+ghost use Rattle.alloc_service.specs.Young.{Reads, Takes};
+ghost use Rattle.rv_machine.specs.Space.{HasCells};
 
 use rv_machine::start::{YOUNG_START, YOUNG_TOP};
 use rv_machine::{BlockPlace, Memory};

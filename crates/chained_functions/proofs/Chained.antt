@@ -36,19 +36,19 @@ use Rattle.tidy_rules.specs.Redirecting.{Tidies}
 use Rattle.tidy_rules.proofs.Following.{tidied_tidies}
 use Rattle.tidy_rules.specs.Regular.{IsRegular}
 use Rattle.tidy_rules.proofs.Lowered.{lowered_regular}
-use Rattle.made_once.specs.Known.{IsLinearOf}
+use Rattle.linear_pass.specs.Linear.{IsLinearOf}
 use Rattle.line_stands.specs.Lines as line
 use Rattle.rv_pieces.specs.declared.piece.Pieces.{Pieces}
 use Rattle.selection_rules.specs.Select.{selected}
-use Rattle.placed_functions.specs.Known.{IsAccepted}
-use Rattle.placed_functions.proofs.Known.{few_tokens}
+use Rattle.selection_promise.specs.Selects.{IsAccepted}
+use Rattle.selection_promise.proofs.Promised.{few_tokens}
 use Rattle.placed_functions.specs.Placed.{IsPlacedFor}
 use Rattle.placed_functions.proofs.Exits.{selected_exits}
 use Rattle.placed_functions.proofs.Placed.{placed_for}
 use Rattle.placed_functions.proofs.Tries.{few_nest}
-use Rattle.made_once.specs.Made.{AreLinesOf, IsChained}
-use Rattle.made_once.specs.Made.{IsMadeOf}
-use Rattle.made_once.proofs.Ordered.{linear_of}
+use Rattle.made_functions.specs.Chained.{AreLinesOf, IsChained}
+use Rattle.made_functions.specs.Made.{IsMadeOf}
+use Rattle.made_functions.proofs.Ordered.{linear_of}
 use Rattle.mach_laws.proofs.Instructions.{instr}
 use Rattle.chained_functions.proofs.Carried.{lowered_shallow, tidied_shallow, tidied_named, lowered_unended, tidied_unended}
 

@@ -1,6 +1,3 @@
 pub mod Carried
 pub mod Chained
-pub mod Placed
-pub mod Once
 pub mod Rooms
-pub mod Known

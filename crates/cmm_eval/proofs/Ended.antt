@@ -15,7 +15,7 @@ use Rattle.cmm_tree.specs.declared.expr.Case.{Case}
 use Rattle.cmm_tree.specs.declared.expr.Expr.{Expr}
 use Rattle.cmm_tree.specs.declared.expr.Form.{Form}
 use Rattle.cmm_tree.specs.declared.expr.Form as form
-use Rattle.cmm_meaning.specs.Known.{Scoped}
+use Rattle.cmm_types.specs.Types.{Scoped}
 use Rattle.cmm_meaning.specs.State.{World, Here, back_in}
 use Rattle.cmm_meaning.specs.Evaluation.{Body, NotProper, Evaluation, Gives, Raises, Stops, Surroundings, with_value, proper, tested, with_bound, back, chosen}
 use Rattle.cmm_meaning.specs.Choices.{Chosen, case_for}

@@ -9,7 +9,7 @@ use Rattle.cmm_tree.specs.View.{form_view}
 use Rattle.cmm_tree.specs.declared.expr.Expr.{Expr}
 use Rattle.cmm_tree.specs.declared.expr.Form.{Form}
 use Rattle.cmm_tree.specs.declared.expr.Form as form
-use Rattle.cmm_meaning.specs.Known.{is_light_address}
+use Rattle.cmm_types.specs.Light.{is_light_address}
 use Rattle.cmm_meaning.specs.State.{World, Here, scope}
 use Rattle.cmm_meaning.specs.Evaluation.{Evaluated, Evaluation, Gives, Exits, Raises, Stops, Surroundings, and_then, with_value, unless_light, now_or_before}
 use Rattle.eval_frames.specs.declared.group.Group.TheVariants as group

@@ -7,7 +7,7 @@ use Rattle.bs_words.specs.declared.values.Value.{Value}
 use Rattle.cmm_tree.specs.declared.expr.Expr.{Expr}
 use Rattle.cmm_tree.specs.declared.expr.Form.{Form}
 use Rattle.cmm_tree.specs.View.{expr_view}
-use Rattle.cmm_meaning.specs.Known.{is_light_address}
+use Rattle.cmm_types.specs.Light.{is_light_address}
 use Rattle.cmm_meaning.specs.State.{World, Here, scope}
 use Rattle.cmm_meaning.specs.Evaluation.{Evaluation, Surroundings, with_value, both, unless_light, now_or_before, first_of, rest_of}
 use Rattle.eval_frames.specs.Filled.{expression, fills_in, waits_for, left_of, right_of, joined_by, does}

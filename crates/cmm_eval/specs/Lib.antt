@@ -1,4 +1,2 @@
-pub mod Annotated
 pub mod Stands
 pub mod Turns
-pub mod Views

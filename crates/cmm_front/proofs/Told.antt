@@ -1,6 +1,5 @@
 -- A fault of types and symbols is known by its place and its number; so one is reported.
 use Rattle.std.proofs.Common.{◌≡◌, inl, inr, ◌∙◌, ℕ, ◌<◌, cond, ◌==◌, List, refl, sym, ap, arith}
-use Rattle.bs_fault.specs.FaultLines.{fault_place}
 use Rattle.bs_fault.specs.declared.fault.Fault.{Fault}
 use Rattle.bs_fault.specs.declared.fault.Fault.TheVariants as fault
 use Rattle.cmm_tree.specs.Tree.{Expression, FileTree}
@@ -9,7 +8,7 @@ use Rattle.cmm_tree.specs.Symbols.{DefinedSymbol}
 use Rattle.cmm_types.specs.Types.{Scoped}
 use Rattle.cmm_types.specs.Faults as types
 use Rattle.cmm_types.specs.Faults.{FaultOf, TypeFault}
-use Rattle.bs_fault.specs.Order.{fault_number, Precedes, IsLeftmost}
+use Rattle.bs_fault.specs.Order.{fault_number, Precedes, IsLeftmost, fault_place}
 
 -- the fault of a number at a place
 abbrev decoded : ℕ → ℕ → Fault

@@ -7,4 +7,3 @@ mod ListEnds
 mod RunEnds
 mod SoakEnds
 mod TextKnown
-pub mod Known

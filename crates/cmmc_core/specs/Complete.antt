@@ -11,7 +11,9 @@ use Rattle.correctness.specs.Bounds.{IsRoomy}
 use Rattle.stages.specs.Image.{IsOfImage}
 use Rattle.image_form.specs.Tables.{Tables, Func}
 use Rattle.layout_rules.specs.TooLarge.{first_too_large}
-use Rattle.commands.specs.Known.{defaults, IsMadeFor, NamesNone, HasUnfit, IsCall}
+use Rattle.choices.specs.Defaults.{defaults}
+use Rattle.made_functions.specs.Files.{IsMadeFor}
+use Rattle.text_commands.specs.Arguments.{NamesNone, HasUnfit, IsCall}
 use Rattle.rv_machine.specs.Loading.{func_named, words_of_args}
 use Rattle.stages.specs.declared.stage.Stage.{Stage}
 use Rattle.commands.specs.Effects.{Effects, Side, Rose}

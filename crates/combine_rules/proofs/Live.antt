@@ -21,9 +21,8 @@ use Rattle.mach_ir.specs.declared.mach.Instr.{Instr}
 use Rattle.mach_ir.specs.declared.mach.Mach.{Mach}
 use Rattle.mach_laws.specs.Expand.{expand, Ending, all}
 use Rattle.mach_laws.proofs.Places.{ending_next, ending_label, ending_from_handler, label_expand, handler_expand, tries_expand}
-use Rattle.mach_laws.proofs.Among.{none_among, left_among, right_among, split_among}
+use Rattle.mach_laws.proofs.Among.{none_among, left_among, right_among, split_among, among_or_not}
 use Rattle.mach_laws.proofs.Instructions.{instr}
-use Rattle.split_rules.proofs.Known.{among_or_not}
 
 -- what may be within a straight run, and is no allocation
 pub record Runs (i : Instr) : Type 0 where

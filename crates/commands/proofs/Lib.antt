@@ -9,4 +9,3 @@ mod Refused
 mod Running
 mod Soaking
 pub mod Spelled
-pub mod Known

@@ -5,4 +5,3 @@ pub mod Run
 pub mod Soak
 pub mod Ends
 pub mod Refusal
-pub mod Known

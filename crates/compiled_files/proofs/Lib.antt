@@ -6,5 +6,3 @@ pub mod Ready
 pub mod Bytes
 pub mod Serving
 pub mod Correct
-pub mod Laid
-pub mod Known

@@ -1,4 +1,3 @@
 pub mod Forward
 pub mod Image
 pub mod Stages
-pub mod Made

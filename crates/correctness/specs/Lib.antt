@@ -3,4 +3,3 @@ pub mod Correct
 pub mod Measures
 pub mod Bounds
 pub mod InNeed
-pub mod Known

@@ -4,7 +4,8 @@ use Rattle.std.specs.List.{AllByRecursion}
 use Rattle.bs_words.specs.declared.values.Value.TheVariants.{Word}
 use Rattle.cmm_meaning.specs.Evaluation.{fit_parameters}
 use Rattle.cmm_meaning.specs.Layout.{Layout}
-use Rattle.cmm_meaning.specs.Known.{data_end, body_type, result_of}
+use Rattle.cmm_data.specs.Placement.{data_end}
+use Rattle.cmm_types.specs.Types.{body_type, result_of}
 use Rattle.cmm_tree.specs.Tree.{FunctionTree, FileTree, functions, comps_of}
 use Rattle.image_form.specs.Tables.{Tables, Func}
 use Rattle.rv_machine.specs.Memory.{code_start}

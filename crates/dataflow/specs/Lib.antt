@@ -4,4 +4,3 @@ pub mod Reach
 pub mod Rows
 pub mod Spread
 pub mod Sweep
-pub mod Known

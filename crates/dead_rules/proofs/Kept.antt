@@ -20,9 +20,9 @@ use Rattle.mach_laws.proofs.Leads.{IsTry, MayLand, lands_at_label, lands_at_hand
 use Rattle.mach_laws.proofs.Level as level
 use Rattle.mach_laws.proofs.Places.{ending_next, ending_label, ending_land, stands_of, land_expand, form_of}
 use Rattle.mach_laws.proofs.Simulate.{Agrees}
-use Rattle.mach_laws.proofs.Among.{split_among}
+use Rattle.mach_laws.proofs.Among.{split_among, among_or_not}
 use Rattle.mach_laws.proofs.Raised.{IsRaised, IsSilent, label_silent, try_silent, told}
-use Rattle.split_rules.proofs.Known.{values_same, past_same, cleared, not_cleared, among_or_not, PutsBoth, put_both}
+use Rattle.places_rules.proofs.Files.{values_same, past_same, cleared, not_cleared, PutsBoth, put_both}
 use Rattle.dead_rules.specs.Dropped.{may_go, IsUsed, on, aside, without, dropped, AreDead}
 use Rattle.dead_rules.proofs.Live.{used_live, none_killed, lift, live_back, across_back, was_register, used_by}
 use Rattle.dead_rules.proofs.Left.{tries_here, label_is}

@@ -7,4 +7,3 @@ pub mod Acts
 pub mod Descriptors
 pub mod Example
 pub mod Once
-pub mod Known

@@ -9,13 +9,14 @@ use Rattle.lin_ir.specs.declared.lin.Lin.{Lin}
 use Rattle.linear_pass.specs.Linear.{IsLinearOf}
 use Rattle.linear_pass.proofs.Once.{linear_once}
 use Rattle.mach_ir.specs.declared.mach.Mach.{Mach}
-use Rattle.prepare.proofs.Known.{one_passed, one_prepared, repeated_passed, dropped_passed, spilled_passed, passed}
-use Rattle.prepare.specs.Known.{selects, combines}
+use Rattle.mach_passes.proofs.Whole.{one_passed, one_prepared, repeated_passed, dropped_passed, spilled_passed, passed}
+use Rattle.mach_passes.specs.Stages.{selects, combines}
 use Rattle.combine_rules.specs.Combined.{combined}
-use Rattle.file_promise.specs.Made.{IsFunctionMade, in_order}
+use Rattle.made_functions.specs.Files.{IsFunctionMade}
+use Rattle.made_functions.specs.Made.{in_order}
 use Rattle.choices.specs.declared.choices.Choices.{Choices}
-use Rattle.reg_rounds.specs.Known.{IsAllocated}
-use Rattle.reg_rounds.proofs.Known.{allocated_once}
+use Rattle.rounds_rules.specs.Rounds.{IsAllocated}
+use Rattle.rounds_rules.proofs.Once.{allocated_once}
 use Rattle.rv_pieces.specs.declared.piece.Pieces.{Pieces}
 use Rattle.selection_rules.specs.Select.{selected}
 use Rattle.stages.specs.declared.stage.Stage.{Stage}

@@ -1,8 +1,9 @@
 -- What the passes ask of a function of an accepted file, and what they make of it.
 use Rattle.std.proofs.Common.{◌≡◌, ℕ, List, length, refl, subst, sym}
-use Rattle.file_promise.proofs.Bounds.{linear_in_order, within}
+use Rattle.made_functions.proofs.Ordered.{linear_in_order}
+use Rattle.chained_functions.proofs.Chained.{within}
 use Rattle.cmm_tree.specs.Tree.{FunctionTree, FileTree, functions}
-use Rattle.file_promise.proofs.Bounds.{frame_fits}
+use Rattle.code_bounds.proofs.Bounded.{frame_fits}
 use Rattle.emit_rules.specs.Emitted.{IsEmitted}
 use Rattle.lin_ir.specs.Descriptors.{AreExact, IsWithin, frame_points}
 use Rattle.lin_ir.specs.declared.descr.Descr.{Descr}
@@ -12,21 +13,27 @@ use Rattle.mach_ir.specs.Placed.{WellPlaced}
 use Rattle.mach_ir.specs.Sizes.{HasRoom}
 use Rattle.mach_ir.specs.Text.{mach_text}
 use Rattle.mach_ir.specs.declared.mach.Mach.{Mach}
-use Rattle.prepare.specs.Known.{IsPreparable, IsPrepared, IsOverMach, IsPassedTo, prepared_size}
+use Rattle.mach_passes.specs.Prepared.{IsPreparable, IsPrepared, prepared_size}
+use Rattle.mach_passes.specs.Stages.{IsOverMach, IsPassedTo}
 use Rattle.mach_passes.proofs.Whole.{prepared as prepared_by}
 use Rattle.stages.specs.declared.stage.Stage.{Stage}
 use Rattle.stages.specs.declared.stage.Stage.TheVariants.{Split, Alloc, Linear, Frames, Code}
-use Rattle.file_promise.specs.Made.{IsFunctionMade}
-use Rattle.file_promise.proofs.Bounds.{IsPlacedFor, HasLineRoom}
-use Rattle.file_promise.proofs.Bounds.{selected_preparable, selected_room, ready, prepared_room, carried, placed_for, line_room}
+use Rattle.made_functions.specs.Files.{IsFunctionMade}
+use Rattle.placed_functions.specs.Placed.{IsPlacedFor}
+use Rattle.linear_rules.specs.Sizes.{HasLineRoom}
+use Rattle.placed_functions.proofs.Placed.{selected_preparable, selected_room, ready, prepared_room, carried, placed_for}
+use Rattle.chained_functions.proofs.Rooms.{line_room}
 use Rattle.places_rules.specs.Places.{ColoursLow}
 use Rattle.choices.specs.declared.choices.Choices.{Choices}
-use Rattle.reg_rounds.specs.Known.{allocated_size}
+use Rattle.rounds_rules.specs.Rounds.{allocated_size}
 use Rattle.rv_pieces.specs.declared.piece.Pieces.{Pieces}
 use Rattle.selection_rules.specs.Select.{selected}
 use Rattle.selection_places.proofs.Placed.{selected_low}
-use Rattle.file_promise.specs.Known.{IsAccepted}
-use Rattle.file_promise.proofs.Known.{function_accepted, IsSelectable, selection_room, definitions}
+use Rattle.selection_promise.specs.Selects.{IsAccepted}
+use Rattle.selection_accepted.proofs.Promised.{function_accepted}
+use Rattle.selection_scope.specs.Room.{IsSelectable}
+use Rattle.selection_accepted.proofs.Room.{selection_room}
+use Rattle.selection_accepted.proofs.Selecting.{definitions}
 use Rattle.file_compile.specs.Accepted.{IsAcceptedFunction}
 use Rattle.file_compile.specs.Listed.{IsAllocatedFor, IsLinearFor, IsTextOf, IsPassText, AreFunctionTexts, IsStageText}
 

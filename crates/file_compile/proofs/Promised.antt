@@ -12,8 +12,8 @@ use Rattle.file_promise.proofs.Promise as promise
 use Rattle.image_form.specs.Image.{AreTables}
 use Rattle.image_form.specs.Tables.{Tables}
 use Rattle.layout_rules.specs.TooLarge.{first_too_large}
-use Rattle.file_promise.specs.Made.{IsExact}
-use Rattle.file_promise.specs.Made.{IsMadeFor}
+use Rattle.made_functions.specs.Exact.{IsExact}
+use Rattle.made_functions.specs.Files.{IsMadeFor}
 use Rattle.stages.specs.declared.stage.Stage.{Stage}
 
 pub stage_text_once : (choices : Choices) (file : FileTree) (stage : Stage) (a b : List ℕ) → IsStageText choices file stage a → IsStageText choices file stage b → a ≡ b

@@ -1,4 +1,3 @@
 pub mod Accepted
 pub mod Pieces
 pub mod Listed
-pub mod Made

@@ -12,10 +12,12 @@ use Rattle.lin_ir.specs.declared.lin.Lin.{Lin}
 use Rattle.linear_pass.specs.Linear.{IsLinearOf}
 use Rattle.mach_ir.specs.Text.{mach_text}
 use Rattle.mach_ir.specs.declared.mach.Mach.{Mach}
-use Rattle.prepare.specs.Known.{IsPrepared, IsPassedTo}
-use Rattle.file_promise.specs.Made.{IsFunctionMade, IsMadeFor, in_order}
+use Rattle.mach_passes.specs.Prepared.{IsPrepared}
+use Rattle.mach_passes.specs.Stages.{IsPassedTo}
+use Rattle.made_functions.specs.Files.{IsFunctionMade, IsMadeFor}
+use Rattle.made_functions.specs.Made.{in_order}
 use Rattle.choices.specs.declared.choices.Choices.{Choices}
-use Rattle.reg_rounds.specs.Known.{IsAllocated}
+use Rattle.rounds_rules.specs.Rounds.{IsAllocated}
 use Rattle.rv_pieces.specs.declared.piece.Pieces.{Pieces}
 use Rattle.selection_rules.specs.Select.{selected}
 use Rattle.stages.specs.declared.stage.Stage.{Stage}

@@ -1,6 +1,6 @@
 //! What a run of a text takes from the image.
 ghost use Rattle.std.specs.Prelude.{◌≡◌, IfOk};
-ghost use Rattle.cmm_eval.specs.Views.{layout_view};
+ghost use Rattle.eval_frames.specs.Views.{layout_view};
 ghost use Rattle.correctness.specs.Setting as setting;
 ghost use Rattle.image_form.specs.Tables.{tables};
 

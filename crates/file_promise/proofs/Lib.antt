@@ -2,5 +2,3 @@ pub mod Bytes
 pub mod Once
 pub mod Made
 pub mod Promise
-pub mod Bounds
-pub mod Known

@@ -8,8 +8,8 @@ use Rattle.layout_rules.specs.declared.form.Form.{Form}
 use Rattle.layout_rules.specs.Forms.{none_far}
 use Rattle.layout_rules.specs.Laid.{AreAllForms, laid_out}
 use Rattle.layout_rules.proofs.Relaxing.{forms_once}
-use Rattle.compiled_files.specs.Made.{IsFunctionMade, IsMadeFor}
-use Rattle.code_bounds.proofs.Known.{made_once}
+use Rattle.made_functions.specs.Files.{IsFunctionMade, IsMadeFor}
+use Rattle.made_once.proofs.Made.{made_once}
 use Rattle.rv_pieces.specs.declared.piece.Pieces.{Pieces}
 
 pieces_once : (choices : Choices) (fs : List FunctionTree) (ps qs : List Pieces) → AllZip (IsFunctionMade choices) fs ps → AllZip (IsFunctionMade choices) fs qs → ps ≡ qs

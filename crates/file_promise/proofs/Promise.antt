@@ -15,8 +15,8 @@ use Rattle.image_form.specs.Tables.{Tables}
 use Rattle.layout_rules.specs.Laid.{IsLaid}
 use Rattle.layout_rules.specs.TooLarge.{first_too_large}
 use Rattle.layout_rules.proofs.Functions.{laid}
-use Rattle.compiled_files.specs.Made.{IsMadeFor}
-use Rattle.compiled_files.specs.Made.{IsExact}
+use Rattle.made_functions.specs.Files.{IsMadeFor}
+use Rattle.made_functions.specs.Exact.{IsExact}
 use Rattle.file_promise.proofs.Bytes.{bytes_of}
 use Rattle.file_promise.proofs.Made.{are_chained, are_exact, can_be_laid, keep}
 

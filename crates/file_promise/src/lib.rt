@@ -11,11 +11,11 @@ ghost use Rattle.cmm_tree.specs.Tree.{FileTree};
 ghost use Rattle.correctness.specs.Bounds.{IsBounded, IsRoomy};
 ghost use Rattle.correctness.specs.Correct.{IsCorrect};
 ghost use Rattle.correctness.specs.InNeed.{AsksInNeed};
-ghost use Rattle.compiled_files.specs.Made.{IsExact};
+ghost use Rattle.made_functions.specs.Exact.{IsExact};
 ghost use Rattle.image_form.specs.Image.{AreTables};
 ghost use Rattle.image_form.specs.Tables.{Tables};
 ghost use Rattle.layout_rules.specs.TooLarge.{first_too_large};
-ghost use Rattle.compiled_files.specs.Made.{IsMadeFor};
+ghost use Rattle.made_functions.specs.Files.{IsMadeFor};
 
 /// Law: one image is made for a file, whatever is chosen.
 pub fn files_are_made_once()

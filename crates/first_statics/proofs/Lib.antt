@@ -4,4 +4,3 @@ pub mod Symbols
 pub mod Lists
 pub mod Found
 pub mod First
-pub mod Known

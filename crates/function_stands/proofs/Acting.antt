@@ -8,7 +8,7 @@ use Rattle.layout_rules.specs.Words.{Named}
 use Rattle.lin_ir.specs.declared.descr.Descr.{Descr}
 use Rattle.lin_ir.specs.declared.lin.Lin.{Lin}
 use Rattle.lin_ir.specs.declared.lin.Line.{Line}
-use Rattle.line_calls.specs.Known.{LineStands}
+use Rattle.line_stands.specs.Lines.{LineStands}
 use Rattle.linear_machine.specs.Relation.{Laid}
 use Rattle.linear_machine.specs.View.{Fixed}
 use Rattle.function_stands.proofs.Splitting.{least}

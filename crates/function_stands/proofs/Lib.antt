@@ -16,5 +16,3 @@ pub mod Entries
 pub mod Rows
 pub mod Points
 pub mod Whole
-pub mod Laid
-pub mod Known

@@ -1,4 +1,2 @@
 pub mod Compiled
 pub mod Functions
-pub mod Made
-pub mod Known

@@ -26,10 +26,10 @@ use Rattle.mach_laws.proofs.Leads.{MayLand}
 use Rattle.mach_laws.proofs.Level as level
 use Rattle.mach_laws.proofs.Places.{ending_next, ending_label, ending_land, stands_of, land_expand, contains_of}
 use Rattle.mach_laws.proofs.Simulate.{Agrees}
-use Rattle.mach_laws.proofs.Among.{left_among, right_among}
+use Rattle.mach_laws.proofs.Among.{left_among, right_among, among_or_not}
 use Rattle.mach_laws.proofs.Files.{put_other}
 use Rattle.mach_laws.proofs.Raised.{IsSilent, told}
-use Rattle.places_rules.proofs.Files.{past_same, cleared, not_cleared, among_or_not, put_here, PutsBoth, put_both}
+use Rattle.places_rules.proofs.Files.{past_same, cleared, not_cleared, put_here, PutsBoth, put_both}
 use Rattle.dead_rules.specs.Dropped.{may_go, without}
 use Rattle.dead_rules.proofs.Left.{tries_here, label_is}
 use Rattle.dead_rules.proofs.Text.{pure_of, pure_no_frame, Fate, falls, remains, fate, keeps_marks}

@@ -5,4 +5,3 @@ pub mod Kept
 pub mod Whole
 pub mod Carried
 pub mod Chosen
-pub mod Known

@@ -1,3 +1,2 @@
 pub mod Hoisted
 pub mod Chosen
-pub mod Known

@@ -24,7 +24,7 @@ use Rattle.lin_ir.specs.declared.lin.Lin.{Lin}
 use Rattle.lin_ir.specs.declared.lin.Line.{Line}
 use Rattle.lin_ir.specs.declared.lin.LinOp.{LinOp}
 use Rattle.lin_ir.specs.declared.lin.LinOp.TheVariants as lin
-use Rattle.made_functions.specs.Known.{NamesHomes}
+use Rattle.linear_pass.specs.Linear.{NamesHomes}
 use Rattle.tidy_rules.proofs.Living.{live_home}
 use Rattle.mach_ir.specs.Acts.{On}
 use Rattle.mach_ir.specs.Placed.{colours}

@@ -42,7 +42,8 @@ use Rattle.rv_pieces.specs.Named.{place_in, places_in}
 use Rattle.rv_pieces.specs.declared.piece.Piece.{Piece}
 use Rattle.rv_pieces.specs.declared.piece.Piece.TheVariants as piece
 use Rattle.rv_pieces.specs.declared.piece.Pieces.{Pieces}
-use Rattle.accepted_files.proofs.Known.{front_selects, definitions, front_accepts}
+use Rattle.selection_accepted.proofs.Promised.{front_selects}
+use Rattle.selection_accepted.proofs.Selecting.{definitions, front_accepts}
 use Rattle.selection_rules.specs.Select.{selected}
 use Rattle.selection_laws.proofs.Accepting.{left, right}
 use Rattle.laid_files.proofs.Functions.{descriptors_are, some_words}

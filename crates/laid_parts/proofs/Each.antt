@@ -43,7 +43,7 @@ use Rattle.emit_rules.specs.Slots.{first, second, fetched, copied}
 use Rattle.emit_rules.specs.Tests.{right_words}
 use Rattle.emit_rules.specs.Traps.{raise_bound_error, check_part}
 use Rattle.rv_isa.specs.declared.register.Register.TheVariants.{T1}
-use Rattle.emit_rules.proofs.Known.{length_comps, label_inv, jump_inv, exit_inv, branch_inv, switch_inv, push_inv, pop_inv, enter_inv, same_loc_is}
+use Rattle.lin_laws.proofs.Forms.{length_comps, label_inv, jump_inv, exit_inv, branch_inv, switch_inv, push_inv, pop_inv, enter_inv, same_loc_is}
 use Rattle.mach_ir.proofs.Forms.{symbol_inv, copy_inv, load_inv, store_inv, register_inv}
 use Rattle.linear_rules.specs.Lowered.{is_among}
 use Rattle.mach_laws.proofs.Instructions.{returns_none}

@@ -42,7 +42,7 @@ use Rattle.emit_rules.specs.Entry.{Frame}
 use Rattle.emit_rules.specs.Calls.{mark_of, call_words, external_words, external_service}
 use Rattle.emit_rules.specs.Slots.{first, second, register_of, slot_offset}
 use Rattle.emit_rules.specs.Tests.{signed_branch, unsigned_branch, right_register, right_words, branch_part, value_words, tests_in_turn, table_of_jumps, switch_part}
-use Rattle.emit_rules.proofs.Known.{label_inv, jump_inv, exit_inv, branch_inv, switch_inv}
+use Rattle.lin_laws.proofs.Forms.{label_inv, jump_inv, exit_inv, branch_inv, switch_inv}
 use Rattle.laid_parts.specs.Laid.{lies_at, lie_at, NamesSlots}
 use Rattle.laid_parts.proofs.Words.{Chunk, in_part, joined, same, then_none, either, nothing, still, is_t1, is_t2, stack_load-words}
 use Rattle.laid_parts.proofs.SlotParts.{IsWithinFrame, in_frame, immediate-still, operation-still, shift-still, constant-still, fetched-slot}

@@ -40,7 +40,7 @@ use Rattle.emit_rules.specs.Traps.{raise_words, raise_bound_error, push_part, po
 use Rattle.emit_rules.specs.Traversal.{Each, each_none, each_more}
 use Rattle.emit_rules.specs.Values.{Makes, makes_first, makes_upper, makes_lower, makes_sum, makes_shift}
 use Rattle.emit_rules.proofs.Values.{constant_is_made}
-use Rattle.emit_rules.proofs.Known.{push_inv, pop_inv, enter_inv, same_loc_is}
+use Rattle.lin_laws.proofs.Forms.{push_inv, pop_inv, enter_inv, same_loc_is}
 use Rattle.linear_rules.specs.Lowered.{is_among}
 use Rattle.mach_laws.proofs.Instructions.{returns_none}
 use Rattle.laid_parts.specs.Laid.{lies_at, is_return_address, NamesSlots}

@@ -27,7 +27,7 @@ use Rattle.emit_rules.specs.Entry.{Frame}
 use Rattle.emit_rules.specs.Instructions.{operation, load, skip, ecall}
 use Rattle.emit_rules.specs.Memory.{address_offset, load_width, load_part, store_width, store_part, allocation_service, ask, reserved, addresses, alloc_part}
 use Rattle.emit_rules.specs.Slots.{first, second, register_of, target}
-use Rattle.emit_rules.proofs.Known.{length_comps}
+use Rattle.lin_laws.proofs.Forms.{length_comps}
 use Rattle.mach_ir.proofs.Forms.{load_inv, store_inv}
 use Rattle.laid_parts.specs.Laid.{lies_at, lie_at, NamesSlots}
 use Rattle.laid_parts.proofs.Registers.{or_turned}

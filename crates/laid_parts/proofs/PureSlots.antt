@@ -26,7 +26,7 @@ use Rattle.std.proofs.lemmas.Bool.{or_parts}
 use Rattle.std.proofs.Math.Bool.{or-false}
 use Rattle.mach_ir.specs.declared.op.Pure.{Pure}
 use Rattle.mach_ir.specs.Seats.{AreSeated, InOrder, AfterFirst, in_order, after_first}
-use Rattle.emit_rules.proofs.Known.{same_loc_is}
+use Rattle.lin_laws.proofs.Forms.{same_loc_is}
 use Rattle.mach_ir.proofs.Forms.{symbol_inv, copy_inv, register_inv}
 use Rattle.laid_parts.specs.Laid.{lies_at, lie_at, is_aside, NamesSlots, CarriesSlots, moves_nothing, names}
 use Rattle.laid_parts.specs.Stack.{at_first}

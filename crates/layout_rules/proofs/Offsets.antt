@@ -3,7 +3,7 @@ use Rattle.std.proofs.Common.{◌≡◌, ℕ, ◌+◌, ◌-◌, ◌*◌, ◌/◌
 use Rattle.std.proofs.lemmas.Bool.{cases_lt}
 use Rattle.bs_words.specs.Word.{add_word}
 use Rattle.bs_words.proofs.Word.{sext-high, sext-low}
-use Rattle.correctness.proofs.Known.{by_12, by_20, Extended}
+use Rattle.machine_laws.proofs.Immediates.{by_12, by_20, Extended}
 use Rattle.layout_rules.specs.Words.{distance, branch_offset, jal_offset, upper}
 use Rattle.emit_rules.specs.Instructions.{low_12}
 use Rattle.rv_machine.specs.Arithmetic.{imm_i, imm_b, imm_j, imm_u}

@@ -3,7 +3,7 @@ use Rattle.std.specs.Prelude.{ℕ, Bool, false, cond, ◌||◌, ◌&&◌, ◌==�
 use Rattle.std.specs.List.{flat_map, position_or_len}
 use Rattle.bs_words.specs.External.{External}
 use Rattle.bs_words.specs.declared.types.Ty.TheVariants.{Val}
-use Rattle.correctness.specs.Known.{row_of_call}
+use Rattle.cmm_meaning.specs.Evaluation.{row_of_call}
 use Rattle.cmm_tree.specs.Tree.{Expression, Integer, Pointer, Symbol, Name, Nothing, Float, Let, Assign, Operator, Load, Store, Alloc, App, Extcall, Checkbound, Raise, Seq, If, Switch, Catch, Exit, Try, Expressions, NoMore, More, Bindings, NoBinding, Bind, Cases, NoCase, Choose, Handlers, NoHandler, Handle, FunctionTree, FileTree, functions}
 use Rattle.cmm_types.specs.Types.{Scoped, with_parameters, with_bindings}
 use Rattle.image_form.specs.Image.{comp_byte, ret_byte}

@@ -16,7 +16,7 @@ use Rattle.layout_rules.specs.declared.form.Form.{Form}
 use Rattle.layout_rules.specs.Externals.{externals, number_of}
 use Rattle.layout_rules.specs.Forms.{words_of, total_words, place_of, none_far, AreForms, Reach}
 use Rattle.layout_rules.specs.Words.{Named, words_from}
-use Rattle.rv_pieces.specs.Known.{Descr}
+use Rattle.lin_ir.specs.declared.descr.Descr.{Descr}
 use Rattle.rv_machine.specs.Memory.{code_start}
 use Rattle.rv_pieces.specs.declared.piece.Piece.{Piece}
 use Rattle.rv_pieces.specs.declared.piece.Piece.TheVariants.{Descriptor}

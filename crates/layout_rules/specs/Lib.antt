@@ -5,4 +5,3 @@ pub mod Laid
 pub mod TooLarge
 pub mod Conditions
 pub mod Stands
-pub mod Known

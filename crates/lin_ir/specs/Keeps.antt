@@ -4,7 +4,7 @@ use Rattle.bs_words.specs.External.{External}
 use Rattle.bs_words.specs.Memory.{Memory}
 use Rattle.bs_words.specs.declared.values.Value.{Value}
 use Rattle.cmm_meaning.specs.Extends.{Shape, shape_of}
-use Rattle.mach_ir.specs.Known.{Doing}
+use Rattle.cmm_meaning.specs.State.{Doing}
 use Rattle.mach_ir.specs.Runs.{Place, Tally, Run, first_tally}
 use Rattle.mach_ir.specs.Meaning as mach
 use Rattle.mach_ir.specs.Acts.{Around}

@@ -12,7 +12,7 @@ use Rattle.bs_words.specs.declared.types.Loc.TheVariants as loc
 use Rattle.bs_words.specs.declared.types.Ty.TheVariants as ty
 use Rattle.bs_words.specs.declared.values.Value.{Value}
 use Rattle.bs_words.specs.declared.values.Value.TheVariants as value
-use Rattle.mach_ir.specs.Known.{Setting}
+use Rattle.cmm_meaning.specs.Setting.{Setting}
 use Rattle.mach_ir.specs.Acts.{Around, Target, On, At, Landing, AtLabel, AtHandler, Act, Goes, Pushes, Jumps, Unwinds, Asks, Replaces, Ends, EndsRaising, Stuck, act, truth_of, branches, switched, drop_tries, takes_raised, has_descriptor}
 use Rattle.mach_ir.specs.Runs.{Place, taken, asked, Step, Continues, Pays, Deepens, Waits, FinishesBy, Finishes, FinishesRaising, IsStuck, Tally, Run, runs, entered}
 use Rattle.mach_ir.specs.Meaning.{Destroyed, Nothing, Everything, destroyed, is_destroyed}

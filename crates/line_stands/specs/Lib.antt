@@ -1,4 +1,3 @@
 pub mod Parts
 pub mod Names
 pub mod Lines
-pub mod Known

@@ -2,7 +2,9 @@
 use Rattle.std.specs.Prelude.{◌≡◌, ◌⊎◌, ℕ, suc, ◌^◌, ◌<◌, true, List, ◌∷◌, length, Option, Contains, ⊤}
 use Rattle.bs_words.specs.declared.types.Comp.{Comp}
 use Rattle.cmm_meaning.specs.Setting.{Setting}
-use Rattle.layout_rules.specs.Known.{part_of, Frame, tests_first}
+use Rattle.emit_rules.specs.Emitted.{part_of}
+use Rattle.emit_rules.specs.Entry.{Frame}
+use Rattle.emit_rules.specs.Units.{tests_first}
 use Rattle.layout_rules.specs.Words.{Named}
 use Rattle.lin_ir.specs.Formed.{IsFormed, IsQuiet, Locates, NamesLabel, Sets, labels_in, lin_operand_seats, lin_result_seats, places_of, spare}
 use Rattle.lin_ir.specs.Meaning.{after_label, code_at}

@@ -9,10 +9,10 @@ use Rattle.rv_isa.specs.declared.instr.LoadWidth.{LoadWidth}
 use Rattle.rv_isa.specs.declared.instr.StoreWidth.{StoreWidth}
 use Rattle.rv_machine.specs.Arithmetic.{imm_i}
 use Rattle.rv_machine.specs.Hart.{bytes_loaded, bytes_stored, executed, loads, readable, register_loaded, stores}
-use Rattle.rv_machine.specs.Memory.{Region, code_region, code_start, is_inside, loaded, part, replaced, stored}
+use Rattle.rv_machine.specs.Memory.{Region, code_region, code_start, is_inside, loaded, stored}
 use Rattle.rv_machine.specs.Services.{Machine}
 use Rattle.rv_machine.specs.Sound.{HasRegions, extent, extents}
-use Rattle.bs_words.specs.Memory.{IsWidth}
+use Rattle.bs_words.specs.Memory.{IsWidth, part, replaced}
 use Rattle.rv_machine.proofs.Bytes.{replaced-below}
 use Rattle.moving_laws.specs.Words.{held_word}
 use Rattle.moving_laws.proofs.Held.{IsDataOrAbove, IsHeld, has_byte, held_below, hold, hold_regions, read_part, word_hold, written_part}

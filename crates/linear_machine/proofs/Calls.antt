@@ -12,7 +12,8 @@ use Rattle.mach_ir.specs.Runs.{entered}
 use Rattle.rv_machine.specs.Frames.{descriptor_at, names_register}
 use Rattle.rv_machine.specs.Hart.{Placed}
 use Rattle.rv_machine.specs.Memory.{Region, word, code_start}
-use Rattle.rv_machine.specs.Places.{data_start, stack_bottom}
+use Rattle.rv_machine.specs.Places.{stack_bottom}
+use Rattle.bs_words.specs.Fits.{data_start}
 use Rattle.machine_laws.proofs.Words.{with_registers}
 use Rattle.moving_laws.specs.Waiting.{Chain, IsBack, IsWaiting, TrapsFrom, traps_at}
 use Rattle.linear_machine.specs.Moments.{AtEntry, AtReturn, AtThrow, IsThrown}

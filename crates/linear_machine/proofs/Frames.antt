@@ -2,7 +2,7 @@
 use Rattle.std.proofs.Common.{◌≡◌, ◌≢◌, ℕ, ◌+◌, ◌-◌, ◌*◌, ◌≤◌, ◌⊎◌, inl, inr, Bool, true, false, cond, nat_eq, List, [], ◌∷◌, length, map, Option, Some, None, slice_index, refl, ap, arith, ◌∙◌, sym, subst, ⊎_elim}
 use Rattle.std.proofs.lemmas.Bool.{and_parts, eqb-true, or_cases}
 use Rattle.std.proofs.lemmas.List.{length-map}
-use Rattle.bs_words.specs.Fits.{fits}
+use Rattle.bs_words.specs.Fits.{fits, data_start}
 use Rattle.bs_words.specs.Memory.{Cell}
 use Rattle.bs_words.specs.declared.types.Loc.{Loc}
 use Rattle.bs_words.specs.declared.types.Loc.TheVariants as loc
@@ -16,7 +16,6 @@ use Rattle.mach_ir.specs.Runs.{entered}
 use Rattle.rv_machine.specs.Frames.{descriptor_at, names_register}
 use Rattle.rv_machine.specs.Hart.{Placed}
 use Rattle.rv_machine.specs.Memory.{Region, word, code_start}
-use Rattle.rv_machine.specs.Places.{data_start}
 use Rattle.moving_laws.specs.Stands.{Among}
 use Rattle.moving_laws.specs.Values.{IsStill}
 use Rattle.moving_laws.specs.Waiting.{Chain, IsFrameAt, IsWaiting}

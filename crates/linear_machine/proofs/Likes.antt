@@ -3,10 +3,9 @@ use Rattle.std.proofs.Common.{◌≡◌, ℕ, ◌%◌, ◌^◌, ◌<◌, ◌⊎�
 use Rattle.std.specs.List.{AllByRecursion}
 use Rattle.rv_machine.specs.Hart.{Hart}
 use Rattle.rv_machine.specs.Memory.{Region, word, write}
-use Rattle.rv_machine.specs.Places.{domain_start}
+use Rattle.rv_machine.specs.Places.{domain_start, limit_asked}
 use Rattle.rv_machine.specs.Run.{asked}
 use Rattle.rv_machine.specs.Sound.{Extent, HasRegions, IsRegion, extent}
-use Rattle.rv_machine.specs.Start.{limit_asked}
 use Rattle.machine_laws.proofs.Memory.{has_write, other_word}
 use Rattle.moving_laws.specs.Words.{IsFormed, IsReadable, held_word}
 use Rattle.moving_laws.proofs.Usable.{same_readable}

@@ -15,7 +15,8 @@ use Rattle.rv_machine.specs.Memory.{Region, word, code_start}
 use Rattle.rv_machine.specs.Moving.{is_scanned}
 use Rattle.rv_machine.specs.Observation.{cells_of}
 use Rattle.rv_machine.specs.Placement.{end_of}
-use Rattle.rv_machine.specs.Places.{data_start, stack_bottom}
+use Rattle.rv_machine.specs.Places.{stack_bottom}
+use Rattle.bs_words.specs.Fits.{data_start}
 use Rattle.rv_machine.specs.Sound.{extents}
 use Rattle.moving_laws.specs.Service.{Contents, IsReady, IsRestored, Knows}
 use Rattle.moving_laws.specs.Stands.{Among}

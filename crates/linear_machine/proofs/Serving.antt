@@ -15,7 +15,7 @@ use Rattle.rv_machine.specs.Hart.{Hart, Placed}
 use Rattle.rv_machine.specs.Hart as next
 use Rattle.rv_machine.specs.Memory.{code_start}
 use Rattle.rv_machine.specs.Placement.{bytes_used}
-use Rattle.rv_machine.specs.Places.{data_start}
+use Rattle.bs_words.specs.Fits.{data_start}
 use Rattle.rv_machine.specs.Relocation.{Goes, NoHeap}
 use Rattle.rv_machine.specs.Services.{Going, HeapOut, Machine, Over, after_allocation, served}
 use Rattle.moving_laws.specs.Service.{IsAllocated, IsCollected, IsRestored}

@@ -12,12 +12,11 @@ use Rattle.rv_machine.specs.Hart as next
 use Rattle.rv_machine.specs.Memory.{write, code_start}
 use Rattle.rv_machine.specs.Run.{asked, perhaps_asked, after_next}
 use Rattle.rv_machine.specs.Services.{End, Machine, Going, Over, StackOut}
-use Rattle.rv_machine.specs.Places.{domain_start}
+use Rattle.rv_machine.specs.Places.{domain_start, limit_asked}
 use Rattle.rv_machine.specs.Sound.{AllWords, extents}
 use Rattle.machine_laws.proofs.Memory.{has_write}
 use Rattle.moving_laws.proofs.Usable.{formed_regions, limit_readable}
 use Rattle.moving_laws.proofs.Words.{word_same}
-use Rattle.rv_machine.specs.Start.{limit_asked}
 use Rattle.linear_machine.specs.View.{Fixed, View, Stands, Leads, Ends, IsCode}
 use Rattle.linear_machine.proofs.Likes.{known_asked, like_limit}
 

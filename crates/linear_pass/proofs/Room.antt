@@ -11,7 +11,8 @@ use Rattle.linear_rules.specs.Lowered.{slots_of, limit_of, slot_number, lowered}
 use Rattle.linear_rules.specs.Sizes.{HasLineRoom}
 use Rattle.linear_rules.proofs.Lowering.{lowered_lines, lowered_labels}
 use Rattle.linear_rules.proofs.Slots.{count_within}
-use Rattle.linear_tidy.proofs.Known.{lowered_regular, turned_shape, ways_few}
+use Rattle.tidy_rules.proofs.Lowered.{lowered_regular}
+use Rattle.tidy_rules.proofs.Sizes.{turned_shape, ways_few}
 use Rattle.linear_tidy.specs.Sizes.{HasRoom}
 
 -- the first free number is above no more than all labels are below

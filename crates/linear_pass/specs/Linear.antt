@@ -20,7 +20,8 @@ use Rattle.lin_ir.specs.declared.lin.Lin.{Lin}
 use Rattle.linear_rules.specs.Keeps.{KeepsReached}
 use Rattle.linear_rules.specs.Lowered.{lowered}
 use Rattle.linear_rules.specs.Sizes.{tries_ended}
-use Rattle.linear_tidy.specs.Known.{IsRegular, IsTidy, IsTidied}
+use Rattle.tidy_rules.specs.Regular.{IsRegular, IsTidy}
+use Rattle.tidy_rules.specs.Tidied.{IsTidied}
 
 -- ---- slots
 

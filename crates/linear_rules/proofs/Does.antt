@@ -11,7 +11,8 @@ use Rattle.bs_words.specs.declared.types.Loc.{Loc}
 use Rattle.bs_words.specs.declared.types.Loc.TheVariants as loc
 use Rattle.bs_words.specs.declared.values.Value.{Value}
 use Rattle.bs_words.proofs.Lists.{none_in, pairs_here, pairs_later, head_same, tail_same}
-use Rattle.mach_ir.specs.Known.{Setting, Doing, Callee}
+use Rattle.cmm_meaning.specs.Setting.{Setting}
+use Rattle.cmm_meaning.specs.State.{Doing, Callee}
 use Rattle.mach_ir.specs.Acts.{Around, Target, On, At, AtLabel, AtHandler, Act, Goes, Pushes, Jumps, Unwinds, Asks, Replaces, Ends, EndsRaising, Stuck, drop_tries, truth_of, branches}
 use Rattle.mach_ir.specs.Runs.{Place, Step, Continues, Pays, entered, first_tally}
 use Rattle.mach_ir.specs.Meaning.{State, File, Held, put_all, put_if, with_held, clear, killed, written, values, past_frame, passes_frame, is_destroyed, is_at_one_of, destroyed_by, after_label, from_handler, at_handler, code_at, landing_code, tries_at, mach_act, wrote, on_act, on_values, step, begun, start}

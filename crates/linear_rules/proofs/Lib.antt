@@ -11,4 +11,3 @@ pub mod Lines
 pub mod Walked
 pub mod Moves
 pub mod Lowering
-pub mod Known

@@ -3,4 +3,3 @@ pub mod Loops
 pub mod Sizes
 pub mod Leading
 pub mod Rounds
-pub mod Known

@@ -1,4 +1,3 @@
 pub mod Sizes
 pub mod Targets
 pub mod Loops
-pub mod Known

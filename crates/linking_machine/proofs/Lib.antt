@@ -4,4 +4,3 @@ pub mod Starting
 pub mod Linked
 pub mod Compiled
 mod Example
-pub mod Known

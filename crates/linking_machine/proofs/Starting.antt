@@ -17,10 +17,10 @@ use Rattle.moving_laws.proofs.Bottom.{past_region}
 use Rattle.rv_machine.specs.Loading.{IsRoom}
 use Rattle.rv_machine.specs.Memory.{Region, is_inside, or_zero, read, word}
 use Rattle.rv_machine.specs.Observation.{young_start}
-use Rattle.rv_machine.specs.Places.{domain_start, limit_at_rest, stack_bottom}
+use Rattle.rv_machine.specs.Places.{domain_start, limit_at_rest, stack_bottom, filler, half_start}
 use Rattle.rv_machine.specs.Run.{begun}
 use Rattle.rv_machine.specs.Sound.{IsSound, IsStackBase}
-use Rattle.rv_machine.specs.Start.{data_region, domain_region, filler, half_start, stack_region, start, start_memory, start_registers, uniform}
+use Rattle.rv_machine.specs.Start.{data_region, domain_region, stack_region, start, start_memory, start_registers, uniform}
 use Rattle.linear_machine.specs.Follows.{IsEntered}
 use Rattle.linear_machine.specs.Moments.{AtEntry}
 use Rattle.linear_machine.specs.View.{View}

@@ -28,7 +28,8 @@ use Rattle.rv_machine.specs.Sound.{IsStackBase}
 use Rattle.linear_machine.specs.Arrival.{ArrivesIn}
 use Rattle.linear_machine.specs.Contents.{statics_of}
 use Rattle.line_calls.specs.Calls.{FollowsSo}
-use Rattle.line_calls.specs.Known.{FreeStands, FollowsBranch}
+use Rattle.line_stands.specs.Lines.{FreeStands}
+use Rattle.line_values.specs.Followed.{FollowsBranch}
 use Rattle.linear_machine.specs.Follows.{IsAt, IsEntered, used, needs_of}
 use Rattle.linear_machine.specs.Relation.{Below, Laid}
 use Rattle.linear_machine.specs.Statics.{StaticsLie}

@@ -1,4 +1,3 @@
 pub mod Standing
 pub mod Emitted
 pub mod Compiled
-pub mod Known

@@ -1,7 +1,7 @@
 -- What is live in a function, its graph of interference and places for its registers, as tables.
 use Rattle.std.specs.Prelude.{◌≡◌, ◌↔◌, ℕ, suc, ◌+◌, ◌<◌, true, cond, nat_eq, List, [], ◌∷◌, ◌++◌, drop, length, map, slice_index_or, All, AllPairs, Contains}
 use Rattle.bs_words.specs.declared.types.Loc.TheVariants as loc
-use Rattle.dataflow.specs.Known.{has}
+use Rattle.bs_bits.specs.Set.{has}
 use Rattle.dataflow.specs.Rows.{row}
 use Rattle.mach_ir.specs.Placed.{Colouring, PlacesAgree}
 use Rattle.mach_ir.specs.Walks.{Live, IsRegister, Joined}

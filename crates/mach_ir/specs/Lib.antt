@@ -15,4 +15,3 @@ pub mod Keeps
 pub mod Words
 pub mod Pages
 pub mod Text
-pub mod Known

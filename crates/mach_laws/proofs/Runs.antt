@@ -2,7 +2,7 @@
 use Rattle.std.proofs.Common.{ℕ, ◌<◌, arith, ◌≡◌}
 use Rattle.mach_ir.specs.Runs.{Tally, Running, Run, Asking, Wrong, Ended}
 use Rattle.mach_ir.specs.Keeps.{Alike, both_running, both_asking, both_ended}
-use Rattle.mach_ir.specs.Known.{Asked, Doing}
+use Rattle.cmm_meaning.specs.State.{Asked, Doing}
 
 pub none_below : {A : Type 0} (k : ℕ) → k < 0 → A
 none_below k le = absurd (omega (arith, le))

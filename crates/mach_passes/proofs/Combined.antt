@@ -18,8 +18,9 @@ use Rattle.mach_ir.specs.declared.mach.Instr.{Instr}
 use Rattle.mach_ir.specs.declared.mach.Mach.{Mach}
 use Rattle.mach_ir.specs.declared.mach.MachOp.{MachOp}
 use Rattle.mach_ir.specs.declared.mach.MachOp.TheVariants as mach
-use Rattle.hoist_rules.specs.Known.{TriesAtMost, OffsetFits, EndsInReturn, at_return, further, IsCarried, code_words, code_points, exits, other_operands}
-use Rattle.hoist_rules.proofs.Known.{exits_both}
+use Rattle.pass_rules.specs.Carried.{TriesAtMost, OffsetFits, EndsInReturn, at_return, further, IsCarried}
+use Rattle.pass_rules.specs.Measures.{code_words, code_points, exits, other_operands}
+use Rattle.pass_rules.proofs.Words.{exits_both}
 use Rattle.mach_laws.proofs.Instructions.{instr}
 use Rattle.mach_laws.proofs.Places.{contains_of, stands_in}
 

@@ -7,4 +7,3 @@ pub mod Repeated
 pub mod Propagated
 pub mod Dropped
 pub mod Combined
-pub mod Known

@@ -5,7 +5,9 @@ use Rattle.std.specs.List.{Contains}
 use Rattle.copy_rules.proofs.Form.{Fits, fits, same_ops}
 use Rattle.copy_rules.specs.Kept.{IsKept}
 use Rattle.copy_rules.specs.Propagated.{again, IsPropagated}
-use Rattle.hoist_rules.specs.Known.{same_spot, IsCarried, copy_words, words_with, operands_with}
+use Rattle.linear_rules.specs.Lowered.{same_spot}
+use Rattle.pass_rules.specs.Carried.{IsCarried}
+use Rattle.pass_rules.specs.Measures.{copy_words, words_with, operands_with}
 use Rattle.mach_ir.specs.Walks.{IsRegister}
 use Rattle.mach_ir.specs.declared.op.Op.TheVariants as op
 use Rattle.mach_ir.specs.declared.op.Pure.TheVariants as pure

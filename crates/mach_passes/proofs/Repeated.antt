@@ -1,6 +1,8 @@
 -- Turning repeats into moves carries: a move has no more words than an operator, and neither is a frame point, an exit or a mark.
 use Rattle.std.proofs.Common.{◌≡◌, ℕ, ◌≤◌, true, false, List, [], ◌∷◌, length, Option, Some, refl, sym, subst, arith}
-use Rattle.hoist_rules.specs.Known.{same_spot, IsCarried, copy_words, words_with}
+use Rattle.linear_rules.specs.Lowered.{same_spot}
+use Rattle.pass_rules.specs.Carried.{IsCarried}
+use Rattle.pass_rules.specs.Measures.{copy_words, words_with}
 use Rattle.mach_ir.specs.Formed.{is_exit}
 use Rattle.mach_ir.specs.Walks.{IsRegister}
 use Rattle.mach_ir.specs.declared.op.Leaving.TheVariants as leaving
@@ -11,7 +13,7 @@ use Rattle.mach_ir.specs.declared.mach.Instr.{Instr}
 use Rattle.mach_ir.specs.declared.mach.Mach.{Mach}
 use Rattle.mach_ir.specs.declared.mach.MachOp.{MachOp}
 use Rattle.mach_ir.specs.declared.mach.MachOp.TheVariants as mach
-use Rattle.hoist_rules.proofs.Known.{at_most_copy}
+use Rattle.pass_rules.proofs.Words.{at_most_copy}
 use Rattle.repeat_rules.specs.Kept.{IsKept}
 use Rattle.repeat_rules.specs.Repeated.{is_operator, again, from_earlier, IsRepeated}
 use Rattle.repeat_rules.proofs.Form.{Fate, unchanged, moved, fate, same_ops}

@@ -11,8 +11,10 @@ use Rattle.mach_ir.specs.declared.mach.Instr.{Instr}
 use Rattle.mach_ir.specs.declared.mach.Mach.{Mach}
 use Rattle.mach_ir.specs.declared.mach.MachOp.TheVariants as mach
 use Rattle.mach_laws.specs.Expand.{expand}
-use Rattle.hoist_rules.specs.Known.{OffsetFits, EndsInReturn, at_return, further, IsCarried, instr_words, code_words, code_points, one_if, exits, operands_with, other_operands}
-use Rattle.hoist_rules.proofs.Known.{exits_both, returns_alone}
+use Rattle.pass_rules.specs.Carried.{OffsetFits, EndsInReturn, at_return, further, IsCarried}
+use Rattle.pass_rules.specs.Measures.{instr_words, code_words, code_points, one_if, exits, operands_with, other_operands}
+use Rattle.pass_rules.proofs.Words.{exits_both}
+use Rattle.pass_rules.proofs.Carried.{returns_alone}
 use Rattle.places_rules.specs.Places.{ColoursLow}
 use Rattle.mach_laws.proofs.InPlace.{one_each, both, all_in}
 use Rattle.mach_laws.proofs.Places.{contains_of}

@@ -4,7 +4,9 @@ use Rattle.std.specs.List.{All, Contains}
 use Rattle.std.specs.Prelude.{slice_index_or}
 use Rattle.std.proofs.lemmas.List.Elements.{Contains-get_or, All-contains}
 use Rattle.std.proofs.Math.Nat.{le_of_eq, zero-add}
-use Rattle.hoist_rules.specs.Known.{same_spot, OffsetFits, EndsInReturn, at_return, further, IsCarried, copy_words, instr_words, code_words, one_if, code_points, exits, operands_with, other_operands}
+use Rattle.linear_rules.specs.Lowered.{same_spot}
+use Rattle.pass_rules.specs.Carried.{OffsetFits, EndsInReturn, at_return, further, IsCarried}
+use Rattle.pass_rules.specs.Measures.{copy_words, instr_words, code_words, one_if, code_points, exits, operands_with, other_operands}
 use Rattle.mach_ir.specs.Formed.{is_exit, IsFormed, WellFormed}
 use Rattle.mach_ir.specs.Meaning.{passes_frame, tries_at, tries_past}
 use Rattle.mach_ir.specs.Sizes.{operand_count}
@@ -20,11 +22,14 @@ use Rattle.mach_ir.specs.declared.mach.Mach.{Mach}
 use Rattle.mach_laws.specs.Expand.{expand}
 use Rattle.mach_laws.proofs.Places.{tries_expand, contains_of, stands_in}
 use Rattle.mach_laws.proofs.Instructions.{return_results}
-use Rattle.hoist_rules.proofs.Known.{at_most_copy, ends_second}
+use Rattle.pass_rules.proofs.Words.{at_most_copy}
+use Rattle.pass_rules.proofs.Carried.{ends_second}
 use Rattle.places_rules.proofs.Open.{slot_open}
 use Rattle.places_rules.specs.Places.{ColoursLow}
-use Rattle.sink_rules.specs.Known.{IsSpilled, IsNeededSlot, IsChosenKept, Plan, in_slot, copied, reload, spill, reloads_of, spills_of, operands_of, results_of, spilled_instr, spilled}
-use Rattle.sink_rules.proofs.Known.{IsCopy, is_reload, is_spill, IsMain, was_main, keeps_marks}
+use Rattle.spill_rules.specs.Chosen.{IsSpilled, IsNeededSlot, IsChosenKept}
+use Rattle.spill_rules.specs.Spilled.{Plan, in_slot, copied, reload, spill, reloads_of, spills_of, operands_of, results_of, spilled_instr, spilled}
+use Rattle.spill_rules.proofs.Formed.{IsCopy, is_reload, is_spill, IsMain, was_main}
+use Rattle.spill_rules.proofs.Text.{keeps_marks}
 
 -- ---- copies alone
 

@@ -1,3 +1,2 @@
 pub mod Prepared
 pub mod Stages
-pub mod Known

@@ -5,7 +5,7 @@ use Rattle.combine_rules.specs.Combined.{combined}
 use Rattle.combine_rules.specs.Kept.{IsCombinable}
 use Rattle.copy_rules.specs.Propagated.{IsPropagated}
 use Rattle.hoist_rules.specs.Chosen.{HasConstantsFirst}
-use Rattle.hoist_rules.specs.Known.{IsDropped}
+use Rattle.dead_rules.specs.Dropped.{IsDropped}
 use Rattle.mach_ir.specs.Formed.{WellFormed}
 use Rattle.mach_ir.specs.Keeps.{Keeps}
 use Rattle.mach_ir.specs.Placed.{WellPlaced}
@@ -13,11 +13,12 @@ use Rattle.mach_ir.specs.Seats.{Seated}
 use Rattle.mach_ir.specs.Sizes.{Size, HasSize, OpenAtMost, operand_count}
 use Rattle.mach_ir.specs.Walks.{NoAddrLive}
 use Rattle.mach_ir.specs.declared.mach.Mach.{Mach}
-use Rattle.hoist_rules.specs.Known.{IsCarried, copy_words}
+use Rattle.pass_rules.specs.Carried.{IsCarried}
+use Rattle.pass_rules.specs.Measures.{copy_words}
 use Rattle.places_rules.specs.Places.{ColoursLow}
 use Rattle.repeat_rules.specs.Repeated.{IsRepeated}
 use Rattle.sink_rules.specs.Chosen.{IsSunk}
-use Rattle.sink_rules.specs.Known.{IsSpilled}
+use Rattle.spill_rules.specs.Chosen.{IsSpilled}
 use Rattle.split_rules.specs.Split.{IsSplit}
 
 -- Each pass in its order, with what it makes.

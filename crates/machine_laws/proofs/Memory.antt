@@ -5,12 +5,12 @@ use Rattle.std.proofs.lemmas.Nat.{pow_pos}
 use Rattle.std.proofs.lemmas.Bool.{and_parts, leb-true, eqb-true}
 use Rattle.rv_machine.proofs.Bytes.{replaced-below}
 use Rattle.rv_machine.specs.Hart.{Placed}
-use Rattle.rv_machine.specs.Memory.{Region, byte_in, index_in, is_inside, loaded, memory_or, or_zero, part, put, read, replaced, stored, with_written, word, write, written}
+use Rattle.rv_machine.specs.Memory.{Region, byte_in, index_in, is_inside, loaded, memory_or, or_zero, put, read, stored, with_written, word, write, written}
 use Rattle.rv_machine.specs.Moving.{copied, moved_memory, redirected, rewritten, rewritten_block, vacated}
 use Rattle.rv_machine.specs.Placement.{header_at}
 use Rattle.rv_machine.specs.Places.{filler}
 use Rattle.rv_machine.specs.Sound.{Extent, HasRegions, IsRegion, extent}
-use Rattle.bs_words.specs.Memory.{IsWidth}
+use Rattle.bs_words.specs.Memory.{IsWidth, part, replaced}
 use Rattle.machine_laws.proofs.Words.{set_words}
 
 -- ---- the bytes of an access

@@ -4,7 +4,7 @@ use Rattle.bs_words.specs.External.{External}
 use Rattle.bs_words.specs.Observed.{Made}
 use Rattle.bs_words.specs.declared.types.Ret.{Ret}
 use Rattle.bs_words.specs.declared.types.Ret.TheVariants as returns
-use Rattle.rv_machine.specs.Known.{Tables, Func}
+use Rattle.image_form.specs.Tables.{Tables, Func}
 use Rattle.rv_machine.specs.Hart.{Hart, Placed, Next, Retired, Service, hart}
 use Rattle.rv_machine.specs.Hart as hart_next
 use Rattle.rv_machine.specs.FrameCalls.{has_trap_frame}

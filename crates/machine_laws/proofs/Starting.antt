@@ -2,15 +2,17 @@
 use Rattle.std.proofs.Common.{◌≡◌, ℕ, zero, suc, ◌+◌, ◌-◌, ◌*◌, ◌/◌, ◌%◌, ◌^◌, ◌<◌, ◌≤◌, List, [], ◌∷◌, ◌++◌, length, map, replicate, refl, ap, ◌∙◌, arith, length-append}
 use Rattle.std.specs.List.{AllByRecursion}
 use Rattle.std.proofs.lemmas.List.{length-replicate}
-use Rattle.rv_machine.specs.Known.{AreTables, Tables, Func}
+use Rattle.image_form.specs.Image.{AreTables}
+use Rattle.image_form.specs.Tables.{Tables, Func}
 use Rattle.rv_machine.proofs.Bytes64.{words_cover}
 use Rattle.rv_machine.specs.Loading.{IsRoom}
 use Rattle.rv_machine.specs.Memory.{code_start, number_of, words_of_bytes}
 use Rattle.rv_machine.specs.Observation.{young_start, young_top}
-use Rattle.rv_machine.specs.Places.{stack_end}
+use Rattle.rv_machine.specs.Places.{stack_end, domain_start, filler, half_start, limit_at_rest, stack_bottom}
 use Rattle.rv_machine.specs.Run.{Schedule, after, begun}
 use Rattle.rv_machine.specs.Sound.{AllWords, AreRegisters, Extent, HasRegions, IsRegion, IsSound, IsSoundNow, extent, extents}
-use Rattle.rv_machine.specs.Start.{data_region, data_start, domain_region, domain_start, filler, half_start, limit_at_rest, padded, stack_bottom, stack_region, start, start_memory, start_registers, uniform}
+use Rattle.rv_machine.specs.Start.{data_region, domain_region, padded, stack_region, start, start_memory, start_registers, uniform}
+use Rattle.bs_words.specs.Fits.{data_start}
 use Rattle.machine_laws.proofs.Serving.{after_sound}
 use Rattle.machine_laws.proofs.Words.{words_both, words_by_parts, words_first, words_none, words_repeated}
 

@@ -4,7 +4,7 @@ use Rattle.std.specs.Prelude.{slice_get}
 use Rattle.std.proofs.lemmas.Option.{slice_get_within}
 use Rattle.bs_words.proofs.Below.{add_word-below, sext_word-below}
 use Rattle.bs_words.specs.Word.{add_word}
-use Rattle.rv_machine.specs.Known.{code_limit}
+use Rattle.image_form.specs.Image.{code_limit}
 use Rattle.rv_isa.specs.Decoding.{decoded}
 use Rattle.rv_isa.specs.Registers.{sp}
 use Rattle.rv_isa.specs.declared.instr.Instr.{Instr}

@@ -4,9 +4,11 @@ use Rattle.std.proofs.lemmas.Bool.{le-leb, lt-leb, and_from, and_right, cond-tru
 use Rattle.image_form.specs.Image.{AreTables}
 use Rattle.image_form.specs.Tables.{Tables}
 use Rattle.rv_machine.specs.Loading.{IsRoom}
-use Rattle.rv_machine.specs.Memory.{Region, byte_in, code_start, is_inside, or_zero, part, read, word}
+use Rattle.rv_machine.specs.Memory.{Region, byte_in, code_start, is_inside, or_zero, read, word}
+use Rattle.bs_words.specs.Memory.{part}
 use Rattle.rv_machine.specs.Observation.{young_start}
-use Rattle.rv_machine.specs.Start.{data_region, domain_region, filler, half_start, stack_bottom, stack_region, start_memory, uniform}
+use Rattle.rv_machine.specs.Start.{data_region, domain_region, stack_region, start_memory, uniform}
+use Rattle.rv_machine.specs.Places.{filler, half_start, stack_bottom}
 
 last_word : (n w z : ℕ) → slice_index (replicate n 0 ++ w ∷ z ∷ []) n ≡ w
 last_word zero w z = refl

@@ -6,7 +6,8 @@ use Rattle.std.proofs.lemmas.Bool.{and_from, and_parts, cases_lt, cond-true, con
 use Rattle.std.proofs.lemmas.Option.{same_Some}
 use Rattle.std.proofs.Math.Nat.{add-zero}
 use Rattle.image_form.specs.Tables.{Tables}
-use Rattle.rv_machine.specs.Memory.{Region, byte_in, index_in, is_inside, loaded, memory_or, or_zero, part, read, replaced, with_written, word, write, written}
+use Rattle.rv_machine.specs.Memory.{Region, byte_in, index_in, is_inside, loaded, memory_or, or_zero, read, with_written, word, write, written}
+use Rattle.bs_words.specs.Memory.{part, replaced}
 use Rattle.rv_machine.specs.Sound.{Extent, HasRegions, IsRegion, IsStackBase, extent, extents}
 use Rattle.machine_laws.proofs.Words.{set_words}
 use Rattle.machine_laws.proofs.Memory.{apart_in}

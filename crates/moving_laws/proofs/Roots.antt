@@ -9,7 +9,7 @@ use Rattle.rv_machine.specs.Relocation.{is_start, is_in_data, is_in_code, is_roo
 use Rattle.rv_machine.specs.Frames.{Frame, slots_named, slots_of}
 use Rattle.rv_machine.specs.Hart.{Placed}
 use Rattle.rv_machine.specs.Memory.{Region, word, code_start}
-use Rattle.rv_machine.specs.Places.{data_start}
+use Rattle.bs_words.specs.Fits.{data_start}
 use Rattle.moving_laws.specs.Heap.{IsInHeap}
 use Rattle.moving_laws.specs.Values.{start_of, value_word, function_at, IsVal, HasFunctions}
 use Rattle.moving_laws.specs.Stands.{Among}

@@ -12,7 +12,8 @@ use Rattle.rv_machine.specs.Memory.{word, write}
 use Rattle.rv_machine.specs.Moving.{rewritten, moved_memory, redirected_registers}
 use Rattle.rv_machine.specs.Observation.{blocks_at, young_top}
 use Rattle.rv_machine.specs.Placement.{bytes_used, new_places}
-use Rattle.rv_machine.specs.Places.{data_start, limit_at_rest, stack_end}
+use Rattle.rv_machine.specs.Places.{limit_at_rest, stack_end}
+use Rattle.bs_words.specs.Fits.{data_start}
 use Rattle.rv_machine.specs.Relocation.{Goes, NoHeap, are_roots, emptied, is_root, relocated, root_cells, with_blocks, with_frames}
 use Rattle.rv_machine.specs.Sound.{IsSound, extents}
 use Rattle.machine_laws.proofs.Memory.{has_moved, has_write}

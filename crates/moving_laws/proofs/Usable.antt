@@ -4,7 +4,8 @@ use Rattle.std.specs.List.{list_any}
 use Rattle.std.specs.Option.{is_some}
 use Rattle.std.proofs.lemmas.Bool.{and_from, le-leb, eq-eqb, or_left, or_right}
 use Rattle.image_form.specs.Tables.{Tables}
-use Rattle.rv_machine.specs.Memory.{Region, byte_in, index_in, is_inside, part, read}
+use Rattle.rv_machine.specs.Memory.{Region, byte_in, index_in, is_inside, read}
+use Rattle.bs_words.specs.Memory.{part}
 use Rattle.rv_machine.specs.Observation.{young_start, young_top}
 use Rattle.rv_machine.specs.Places.{stack_end}
 use Rattle.rv_machine.specs.Sound.{Extent, HasRegions, extent, extents}

@@ -3,7 +3,8 @@ use Rattle.std.proofs.Common.{◌≡◌, ◌≢◌, ℕ, ◌+◌, ◌%◌, ◌^�
 use Rattle.std.specs.List.{AllByRecursion}
 use Rattle.std.specs.Option.{is_some}
 use Rattle.std.proofs.lemmas.Bool.{and_parts, leb-true, eqb-true, cases_lt}
-use Rattle.rv_machine.specs.Memory.{Region, byte_in, index_in, is_inside, memory_or, or_zero, part, replaced, read, stored, with_written, word, write, written}
+use Rattle.rv_machine.specs.Memory.{Region, byte_in, index_in, is_inside, memory_or, or_zero, read, stored, with_written, word, write, written}
+use Rattle.bs_words.specs.Memory.{part, replaced}
 use Rattle.rv_machine.specs.Sound.{IsRegion, extent}
 use Rattle.machine_laws.proofs.Memory.{has_write}
 use Rattle.moving_laws.specs.Words.{IsFormed, IsReadable}

@@ -5,7 +5,7 @@ use Rattle.image_form.specs.Tables.{Tables}
 use Rattle.rv_machine.specs.Hart.{Placed}
 use Rattle.rv_machine.specs.Memory.{Region, word}
 use Rattle.rv_machine.specs.Moving.{is_scanned}
-use Rattle.rv_machine.specs.Places.{data_start}
+use Rattle.bs_words.specs.Fits.{data_start}
 use Rattle.moving_laws.specs.Words.{IsReadable, held_word}
 use Rattle.moving_laws.specs.Values.{start_of, words_of, value_word, IsVal, IsStill, IsKnown, FitsCell}
 

@@ -1,3 +1,2 @@
 pub mod Measures
 pub mod Carried
-pub mod Known

@@ -8,7 +8,6 @@ use Rattle.bs_words.specs.declared.values.Value.{Value}
 use Rattle.mach_ir.specs.Meaning.{Held, File, put, put_if, put_all, clear, with_held, values, past_frame, unless_addr}
 use Rattle.mach_ir.specs.Walks.{Among, first, later}
 use Rattle.mach_ir.specs.declared.reg.Reg.{Reg}
-pub use Rattle.mach_laws.proofs.Among.{among_or_not}
 use Rattle.mach_laws.proofs.Files.{put_other}
 
 -- ---- what is read

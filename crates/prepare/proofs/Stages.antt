@@ -7,7 +7,8 @@ use Rattle.mach_ir.specs.Placed.{WellPlaced}
 use Rattle.mach_ir.specs.Sizes.{HasRoom}
 use Rattle.mach_ir.specs.declared.mach.Mach.{Mach}
 use Rattle.mach_passes.specs.Prepared.{IsPreparable, prepared_size}
-use Rattle.mach_passes.specs.Known.{HasConstantsFirst, IsSunk}
+use Rattle.hoist_rules.specs.Chosen.{HasConstantsFirst}
+use Rattle.sink_rules.specs.Chosen.{IsSunk}
 use Rattle.mach_passes.specs.Stages.{IsOverMach, IsPassedTo, spills, splits}
 use Rattle.mach_passes.proofs.Room.{spilled_room}
 use Rattle.mach_passes.proofs.Whole.{dropped_cut, hoist_cut, sunk_stage, slots_stage}

@@ -3,7 +3,7 @@ use Rattle.std.proofs.Common.{◌≡◌, ℕ, suc, ◌+◌, ◌<◌, ◌≤◌, 
 use Rattle.choices.specs.declared.choices.Alloc.{Alloc}
 use Rattle.mach_ir.specs.declared.mach.Mach.{Mach}
 use Rattle.places_rules.specs.Places.{rest_in_slots}
-use Rattle.rounds_rules.specs.Known.{IsFree}
+use Rattle.reload_rules.specs.Reloaded.{IsFree}
 use Rattle.rounds_rules.specs.Rounds.{IsRound, Asked, one_more, most_rounds, Ends, asks_no_more, gives_up, IsAllocatedIn}
 
 plus_one : (n : ℕ) → suc n ≡ n + 1

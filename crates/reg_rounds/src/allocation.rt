@@ -6,7 +6,7 @@ ghost use Rattle.mach_ir.specs.Placed.{WellPlaced};
 ghost use Rattle.mach_ir.specs.Sizes.{HasRoom};
 ghost use Rattle.pass_rules.specs.Measures.{other_operands};
 ghost use Rattle.places_rules.specs.Places.{ColoursLow};
-ghost use Rattle.rounds_rules.specs.Known.{with_copies};
+ghost use Rattle.reload_rules.specs.Kept.{with_copies};
 ghost use Rattle.rounds_rules.specs.Rounds.{IsRound, IsAllocatedIn, allocated_size};
 
 use crate::copies::copy;

@@ -32,11 +32,11 @@ use Rattle.mach_laws.proofs.Leads.{IsTry, MayLand, lands_at_label, lands_at_hand
 use Rattle.mach_laws.proofs.Level.{begins_at}
 use Rattle.mach_laws.proofs.Places.{ending_next, ending_label, ending_land, label_expand, stands_of, results_in, contains_of, land_expand, form_of}
 use Rattle.mach_laws.proofs.Simulate.{Agrees}
-use Rattle.mach_laws.proofs.Among.{left_among, right_among, split_among, number_among, among_of, unless_among}
+use Rattle.mach_laws.proofs.Among.{left_among, right_among, split_among, number_among, among_of, unless_among, among_or_not}
 use Rattle.mach_laws.proofs.Files.{put_other}
 use Rattle.mach_laws.proofs.Raised.{IsRaised, Told, told_jump, told_unwind, told_ask, IsSilent, told, label_silent, try_silent}
 use Rattle.mach_laws.proofs.Walking.{across_live}
-use Rattle.places_rules.proofs.Files.{past_same, cleared, not_cleared, among_or_not, put_here}
+use Rattle.places_rules.proofs.Files.{past_same, cleared, not_cleared, put_here}
 use Rattle.liveness.proofs.Bounds.{killed_is_colour}
 use Rattle.spill_rules.specs.Spilled.{copied}
 use Rattle.spill_rules.proofs.Holding.{values_held, FitsIn, put_fits, put_holds, clear_fits, frame_fits, live_register, fit_at_entry, agree_at_entry, copy_step, vals_copy}

@@ -15,4 +15,3 @@ pub mod Placed
 pub mod Numbering
 pub mod Slotted
 pub mod Together
-pub mod Known

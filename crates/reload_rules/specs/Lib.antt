@@ -1,3 +1,2 @@
 pub mod Reloaded
 pub mod Kept
-pub mod Known

@@ -8,4 +8,3 @@ pub mod Held
 pub mod Kept
 pub mod One
 pub mod Whole
-pub mod Known

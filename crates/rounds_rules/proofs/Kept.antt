@@ -22,8 +22,9 @@ use Rattle.mach_ir.specs.declared.mach.Mach.{Mach}
 use Rattle.mach_ir.proofs.Keeping.{keeps_itself, keeps_then}
 use Rattle.mach_laws.proofs.Colouring.{colouring_of}
 use Rattle.mach_laws.proofs.Instructions.{return_results}
-use Rattle.reload_rules.specs.Known.{IsCarried, OffsetFits, code_words, copy_words, other_operands}
-use Rattle.reload_rules.proofs.Known.{others_few}
+use Rattle.pass_rules.specs.Carried.{IsCarried, OffsetFits}
+use Rattle.pass_rules.specs.Measures.{code_words, copy_words, other_operands}
+use Rattle.pass_rules.proofs.Operands.{others_few}
 use Rattle.places_rules.specs.Places.{Placing, all_placed, placed_code, recoloured, rest_in_slots, last_resort, or_slot, ColoursLow}
 use Rattle.places_rules.proofs.Open.{machine_open, slot_open, machine_slot, not_open}
 use Rattle.places_rules.proofs.Rest.{rest_keeps, rest_placed, rest_formed, rest_seated}

@@ -3,4 +3,3 @@ pub mod Grown
 pub mod Kept
 pub mod Graphs
 pub mod Once
-pub mod Known

@@ -3,7 +3,7 @@ ghost use Rattle.std.specs.Prelude.{◌≡◌, ◌+◌, ◌%◌, ◌<◌, ◌^�
 ghost use Rattle.layout_rules.specs.Conditions.{LeadsTo};
 ghost use Rattle.rv_pieces.specs.Named.{PieceFits};
 ghost use Rattle.layout_rules.specs.Words.{distance, branch_offset, jal_offset, upper, inverted, far_jump};
-ghost use Rattle.layout_rules.specs.Known.{low_12};
+ghost use Rattle.emit_rules.specs.Instructions.{low_12};
 ghost use Rattle.layout_rules.specs.Words.{number_into, address_into, branch_code, jump_code, call_code, code_to};
 ghost use Rattle.rv_isa.specs.Encoding.{encoded, InstrFits};
 ghost use Rattle.rv_isa.specs.Registers.{number};

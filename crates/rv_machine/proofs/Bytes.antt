@@ -2,7 +2,7 @@
 use Rattle.std.proofs.Common.{◌≡◌, ℕ, ◌+◌, ◌-◌, ◌*◌, ◌/◌, ◌%◌, ◌^◌, ◌<◌, ◌≤◌, arith, ap, sym, ◌∙◌, subst}
 use Rattle.std.proofs.Math.Nat.{mod-lt, mod-eq_of_lt, mul-le-mul_right, div-mul-le_self, lt_of_mul-lt-mul_right, div-add-mod', div-div-eq-div-mul}
 use Rattle.std.proofs.lemmas.Nat.{pow_pos, pow-add}
-use Rattle.rv_machine.specs.Memory.{replaced}
+use Rattle.bs_words.specs.Memory.{replaced}
 
 -- a number cut at a and at a * b, with v between in place of what was there
 three_below : (a b c n v : ℕ) → 0 < a → v < b → n < c * (a * b) → n % a + v * a + n / (a * b) * (a * b) < c * (a * b)

@@ -19,4 +19,3 @@ pub mod Loading
 pub mod Sound
 pub mod Run
 pub mod Text
-pub mod Known

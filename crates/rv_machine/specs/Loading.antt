@@ -2,13 +2,13 @@
 use Rattle.std.specs.Prelude.{◌≡◌, ◌≤◌, ◌%◌, ℕ, ◌+◌, Bool, cond, List, [], ◌∷◌, length, Option, Some, None, Result, Ok, Err, find, option_map}
 use Rattle.std.specs.Str.{bytes_eq}
 use Rattle.bs_words.specs.Contents.{contents}
-use Rattle.bs_words.specs.Fits.{fits, type_of_comp}
+use Rattle.bs_words.specs.Fits.{fits, type_of_comp, data_start}
 use Rattle.bs_words.specs.declared.types.Comp.{Comp}
 use Rattle.bs_words.specs.declared.values.Value.TheVariants as value
 use Rattle.image_form.specs.Tables.{Tables, Func, Sym}
 use Rattle.rv_machine.specs.Hart.{Hart}
 use Rattle.rv_machine.specs.Places.{most_room}
-use Rattle.rv_machine.specs.Start.{start, start_registers, padded, data_start}
+use Rattle.rv_machine.specs.Start.{start, start_registers, padded}
 use Rattle.rv_machine.specs.declared.setup.Setup.{Setup}
 use Rattle.rv_machine.specs.declared.setup.Arg.{Arg}
 use Rattle.rv_machine.specs.declared.setup.Arg.TheVariants.{Word, Symbol}

@@ -2,7 +2,7 @@
 --
 -- Numbers are little-endian. An access is at a multiple of its width and lies whole inside one region.
 use Rattle.std.specs.Prelude.{ℕ, zero, suc, ◌+◌, ◌-◌, ◌*◌, ◌/◌, ◌%◌, ◌^◌, Bool, cond, ◌&&◌, ◌==◌, nat_le, List, [], ◌∷◌, Option, Some, None, slice_index, slice_set, option_map, length}
-pub use Rattle.bs_words.specs.Memory.{part, replaced}
+use Rattle.bs_words.specs.Memory.{part, replaced}
 
 pub record Region : Type 0 where
   -- the first address, a multiple of 8

@@ -1,6 +1,5 @@
 -- Where things lie in the machine's memory, and what is in memory that holds nothing.
 use Rattle.std.specs.Prelude.{ℕ, ◌+◌, ◌*◌}
-pub use Rattle.bs_words.specs.Fits.{data_start}
 use Rattle.rv_machine.specs.Observation.{young_start, young_top}
 
 -- the domain page: its first word is the limit word

@@ -9,7 +9,8 @@ use Rattle.rv_machine.specs.Memory.{word, write, code_start}
 use Rattle.rv_machine.specs.Moving.{rewritten, moved_memory, redirected_registers}
 use Rattle.rv_machine.specs.Observation.{young_top}
 use Rattle.rv_machine.specs.Placement.{bytes_used, new_places}
-use Rattle.rv_machine.specs.Places.{data_start, domain_start, limit_at_rest}
+use Rattle.rv_machine.specs.Places.{domain_start, limit_at_rest}
+use Rattle.bs_words.specs.Fits.{data_start}
 use Rattle.rv_machine.specs.declared.cause.Cause.{Cause}
 use Rattle.rv_machine.specs.declared.cause.Cause.TheVariants.{BadRequest, BadFrame, BadRoot}
 

@@ -6,7 +6,8 @@ use Rattle.rv_machine.specs.Hart.{Hart, Placed, Next, Retired, Service, hart}
 use Rattle.rv_machine.specs.Hart as next
 use Rattle.rv_machine.specs.Memory.{written, memory_or}
 use Rattle.rv_machine.specs.Services.{End, Running, StackOut, Stopped, Machine, Now, Going, Over, service}
-use Rattle.rv_machine.specs.Start.{start, domain_start, limit_asked}
+use Rattle.rv_machine.specs.Start.{start}
+use Rattle.rv_machine.specs.Places.{domain_start, limit_asked}
 
 -- When the mover asks, and where it puts the blocks.
 pub record Schedule : Type 0 where

@@ -12,7 +12,7 @@ use Rattle.rv_machine.specs.Allocation.{allocated}
 use Rattle.rv_machine.specs.FrameCalls.{collected, has_trap_frame, raised, with_answer}
 use Rattle.rv_machine.specs.Hart.{Hart, Placed, past_ecall, register, with_register}
 use Rattle.rv_machine.specs.Observation.{observed}
-pub use Rattle.rv_machine.specs.Places.{filler}
+use Rattle.rv_machine.specs.Places.{filler}
 use Rattle.rv_machine.specs.Relocation.{Serviced, Goes, NoHeap, Refused}
 use Rattle.rv_machine.specs.declared.cause.Cause.{Cause}
 use Rattle.rv_machine.specs.declared.cause.Cause.TheVariants.{BadFrame, BadService}

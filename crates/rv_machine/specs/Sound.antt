@@ -8,7 +8,8 @@ use Rattle.rv_machine.specs.Hart.{Hart, Next, Retired, Service, StackOut, Stoppe
 use Rattle.rv_machine.specs.Memory.{Region}
 use Rattle.rv_machine.specs.Observation.{young_start}
 use Rattle.rv_machine.specs.Placement.{are_apart}
-use Rattle.rv_machine.specs.Places.{data_start, domain_start, half_start, stack_bottom, most_room, stack_end}
+use Rattle.rv_machine.specs.Places.{domain_start, half_start, stack_bottom, most_room, stack_end}
+use Rattle.bs_words.specs.Fits.{data_start}
 use Rattle.rv_machine.specs.Relocation.{Serviced, Goes, NoHeap, Refused}
 use Rattle.rv_machine.specs.Services.{Machine, Now, Going, Over}
 use Rattle.rv_machine.specs.Space.{IsHeap}

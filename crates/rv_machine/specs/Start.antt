@@ -4,7 +4,8 @@ use Rattle.image_form.specs.Tables.{Tables, Func}
 use Rattle.rv_machine.specs.Hart.{Hart}
 use Rattle.rv_machine.specs.Memory.{Region, words_of_bytes, code_start}
 use Rattle.rv_machine.specs.Observation.{young_start, young_top}
-pub use Rattle.rv_machine.specs.Places.{data_start, domain_start, half_start, stack_bottom, limit_at_rest, limit_asked, filler}
+use Rattle.bs_words.specs.Fits.{data_start}
+use Rattle.rv_machine.specs.Places.{domain_start, half_start, stack_bottom, limit_at_rest, filler}
 
 -- a region of so many words that are all the same
 unfoldable pub uniform : ℕ → ℕ → ℕ → Region

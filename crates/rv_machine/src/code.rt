@@ -2,8 +2,8 @@
 ghost use Rattle.std.specs.Prelude.{◌≡◌, ◌*◌, ◌^◌, ◌<◌, ◌≤◌, true, length, slice_index};
 ghost use Rattle.bs_words.specs.Contents.{contents};
 ghost use Rattle.image_form.specs.Image.{code_limit};
-ghost use Rattle.rv_machine.specs.Memory.{is_inside, index_in, byte_in, part, code_region, words_of_halves};
-ghost use Rattle.bs_words.specs.Memory.{IsWidth};
+ghost use Rattle.rv_machine.specs.Memory.{is_inside, index_in, byte_in, code_region, words_of_halves};
+ghost use Rattle.bs_words.specs.Memory.{IsWidth, part};
 
 use crate::region::low_bytes;
 use bs_words::List;

@@ -1,7 +1,7 @@
 //! A region of the memory: bytes in 64-bit words, little-endian.
 ghost use Rattle.std.specs.Prelude.{◌≡◌, ◌+◌, ◌*◌, ◌/◌, ◌%◌, ◌^◌, ◌<◌, ◌≤◌, true, slice_index, length};
-ghost use Rattle.rv_machine.specs.Memory.{is_inside, index_in, byte_in, part, replaced, with_written};
-ghost use Rattle.bs_words.specs.Memory.{IsWidth};
+ghost use Rattle.rv_machine.specs.Memory.{is_inside, index_in, byte_in, with_written};
+ghost use Rattle.bs_words.specs.Memory.{IsWidth, part, replaced};
 
 use std::marker::Model;
 

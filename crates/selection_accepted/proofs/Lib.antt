@@ -5,4 +5,3 @@ pub mod DataBytes
 pub mod Beginning
 pub mod Promised
 pub mod Room
-pub mod Known

@@ -1,2 +1,1 @@
 pub mod Selectable
-pub mod Known

@@ -14,4 +14,3 @@ pub mod Accesses
 pub mod Claims
 pub mod NoAddress
 pub mod Keeps
-pub mod Known

@@ -27,9 +27,9 @@ use Rattle.mach_laws.proofs.Leads.{MayLand, lands_at_label, lands_at_handler, tr
 use Rattle.mach_laws.proofs.Level as level
 use Rattle.mach_laws.proofs.Places.{ending_next, stands_of, results_in, form_of}
 use Rattle.mach_laws.proofs.Simulate.{Agrees}
-use Rattle.mach_laws.proofs.Among.{split_among}
+use Rattle.mach_laws.proofs.Among.{split_among, among_or_not}
 use Rattle.mach_laws.proofs.Raised.{IsSilent, label_silent, try_silent, told}
-use Rattle.places_rules.proofs.Files.{not_cleared, among_or_not, put_both}
+use Rattle.places_rules.proofs.Files.{not_cleared, put_both}
 use Rattle.spill_rules.proofs.Holding.{FitsIn, put_fits, put_holds, clear_fits, frame_fits, fit_at_entry, agree_at_entry}
 use Rattle.sink_rules.specs.Sunk.{Plan, to_itself, moves_of, IsPlan}
 use Rattle.sink_rules.specs.Walks as walks

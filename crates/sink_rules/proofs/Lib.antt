@@ -7,4 +7,3 @@ pub mod Sizes
 pub mod Whole
 pub mod Runs
 pub mod Chosen
-pub mod Known

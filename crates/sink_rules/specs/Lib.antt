@@ -1,4 +1,3 @@
 pub mod Walks
 pub mod Sunk
 pub mod Chosen
-pub mod Known

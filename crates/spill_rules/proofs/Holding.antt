@@ -21,9 +21,9 @@ use Rattle.mach_ir.specs.declared.mach.Mach.{Mach}
 use Rattle.mach_laws.specs.Expand.{Ending}
 use Rattle.mach_laws.proofs.General.{at}
 use Rattle.mach_laws.proofs.Places.{ending_next, ending_label, ending_from_handler, stands_of, args_in}
-use Rattle.mach_laws.proofs.Among.{number_among}
+use Rattle.mach_laws.proofs.Among.{number_among, among_or_not}
 use Rattle.mach_laws.proofs.Files.{put_other}
-use Rattle.split_rules.proofs.Known.{among_or_not, put_here, put_both}
+use Rattle.places_rules.proofs.Files.{put_here, put_both}
 use Rattle.spill_rules.specs.Spilled.{copied}
 
 -- what is read holds something

@@ -27,11 +27,11 @@ use Rattle.mach_laws.proofs.Leads.{IsTry, MayLand, lands_at_label, lands_at_hand
 use Rattle.mach_laws.proofs.Level as level
 use Rattle.mach_laws.proofs.Places.{ending_next, ending_label, ending_land, label_expand, stands_of, args_in, results_in, land_expand, form_of}
 use Rattle.mach_laws.proofs.Simulate.{Agrees}
-use Rattle.mach_laws.proofs.Among.{left_among, right_among, split_among, number_among, among_of, unless_among}
+use Rattle.mach_laws.proofs.Among.{left_among, right_among, split_among, number_among, among_of, unless_among, among_or_not}
 use Rattle.mach_laws.proofs.Files.{put_other}
 use Rattle.mach_laws.proofs.Raised.{IsRaised, IsSilent, label_silent, try_silent, told}
 use Rattle.mach_laws.proofs.Walking.{across_live}
-use Rattle.split_rules.proofs.Known.{values_same, past_same, cleared, not_cleared, among_or_not, put_here, PutsBoth, put_both}
+use Rattle.places_rules.proofs.Files.{values_same, past_same, cleared, not_cleared, put_here, PutsBoth, put_both}
 use Rattle.split_rules.specs.Writes.{from_entry, past, past_raise}
 use Rattle.liveness.proofs.Bounds.{killed_is_colour}
 use Rattle.spill_rules.specs.Spilled.{Plan, in_slot, copied, reload, spill, reloads_of, spills_of, operands_of, results_of, spilled_instr, spilled, IsPlan}

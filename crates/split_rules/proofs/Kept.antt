@@ -6,7 +6,7 @@ use Rattle.bs_words.specs.Memory.{Memory}
 use Rattle.bs_words.specs.declared.types.Loc.TheVariants as loc
 use Rattle.bs_words.specs.declared.values.Value.{Value}
 use Rattle.bs_words.proofs.Lists.{head_same, tail_same}
-use Rattle.mach_ir.specs.Known.{Doing}
+use Rattle.cmm_meaning.specs.State.{Doing}
 use Rattle.mach_ir.specs.Acts.{Around, Target, On, At, Landing, AtLabel, AtHandler, Replaces}
 use Rattle.mach_ir.specs.Formed.{WellFormed}
 use Rattle.mach_ir.specs.Runs.{Place, entered}
@@ -23,10 +23,10 @@ use Rattle.mach_laws.proofs.Leads.{IsTry, MayLand, lands_at_label, lands_at_hand
 use Rattle.mach_laws.proofs.Level as level
 use Rattle.mach_laws.proofs.Places.{ending_next, ending_label, ending_land, stands_of, land_expand, form_of}
 use Rattle.mach_laws.proofs.Simulate.{Agrees}
-use Rattle.mach_laws.proofs.Among.{left_among, right_among, split_among, number_among}
+use Rattle.mach_laws.proofs.Among.{left_among, right_among, split_among, number_among, among_or_not}
 use Rattle.mach_laws.proofs.Raised.{IsRaised, IsSilent, label_silent, try_silent, told}
 use Rattle.mach_laws.proofs.Walking.{across_live}
-use Rattle.places_rules.proofs.Files.{past_same, cleared, not_cleared, among_or_not, PutsToo, put_twice, put_both}
+use Rattle.places_rules.proofs.Files.{past_same, cleared, not_cleared, PutsToo, put_twice, put_both}
 use Rattle.split_rules.specs.Renamed.{Naming, all_numbered, renamed_code, renamed}
 use Rattle.split_rules.specs.Split.{IsNaming}
 use Rattle.split_rules.specs.Writes.{from_entry, from_write}

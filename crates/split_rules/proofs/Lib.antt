@@ -5,4 +5,3 @@ pub mod Kept
 pub mod Whole
 pub mod Result
 pub mod One
-pub mod Known

@@ -6,7 +6,8 @@ use Rattle.cmm_tree.specs.Tree.{FileTree}
 use Rattle.command_line.specs.Command.{CheckTree}
 use Rattle.image_form.specs.Tables.{Tables}
 use Rattle.layout_rules.specs.TooLarge.{first_too_large}
-use Rattle.file_compile.specs.Made.{IsMadeFor, defaults}
+use Rattle.made_functions.specs.Files.{IsMadeFor}
+use Rattle.choices.specs.Defaults.{defaults}
 use Rattle.text_commands.proofs.Passing.{not_roomy, only_made}
 use Rattle.text_commands.specs.Arguments.{IsCall}
 use Rattle.text_commands.specs.Check.{IsTooLargeToCheck}

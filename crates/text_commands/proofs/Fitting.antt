@@ -3,7 +3,7 @@ use Rattle.std.proofs.lemmas.Bool.{false_from_ne_true}
 use Rattle.std.proofs.Common.{◌≡◌, ℕ, Bool, true, false, IsTrue, List, Option, Some, map, sym, subst}
 use Rattle.bs_words.specs.declared.values.Value.TheVariants.{Word}
 use Rattle.cmm_data.specs.Placement.{data_end}
-use Rattle.cmm_eval.specs.Annotated.{FitsFunction, FitsEntry}
+use Rattle.eval_frames.specs.Annotated.{FitsFunction, FitsEntry}
 use Rattle.cmm_meaning.specs.Evaluation.{fit_parameters}
 use Rattle.cmm_tree.specs.Tree.{FunctionTree, FileTree, functions, comps_of}
 use Rattle.std.specs.List.{slice_get}

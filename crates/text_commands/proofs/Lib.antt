@@ -7,4 +7,3 @@ pub mod Called
 mod Fitting
 mod Compiled
 mod Listed
-pub mod Known

@@ -11,7 +11,8 @@ use Rattle.file_compile.specs.Listed.{AreFunctionTexts, IsImageText, image_text,
 use Rattle.image_form.specs.Image.{AreTables}
 use Rattle.image_form.specs.Tables.{Tables}
 use Rattle.layout_rules.specs.TooLarge.{first_too_large}
-use Rattle.file_compile.specs.Made.{IsMadeFor, defaults}
+use Rattle.made_functions.specs.Files.{IsMadeFor}
+use Rattle.choices.specs.Defaults.{defaults}
 use Rattle.stages.specs.declared.stage.Stage.{Stage}
 use Rattle.text_commands.proofs.Passing.{only_made}
 use Rattle.text_commands.specs.Arguments.{IsCall}

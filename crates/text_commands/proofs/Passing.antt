@@ -8,8 +8,9 @@ use Rattle.correctness.specs.Bounds.{IsRoomy}
 use Rattle.file_compile.proofs.Promised.{roomy_fits}
 use Rattle.image_form.specs.Tables.{Tables}
 use Rattle.layout_rules.specs.TooLarge.{first_too_large}
-use Rattle.file_compile.specs.Made.{IsMadeFor, defaults}
-use Rattle.file_compile.proofs.Known.{made_for_once}
+use Rattle.made_functions.specs.Files.{IsMadeFor}
+use Rattle.choices.specs.Defaults.{defaults}
+use Rattle.file_promise.proofs.Once.{made_for_once}
 use Rattle.text_commands.specs.Compile.{IsOnlyMadeFor, IsTooLarge}
 
 pub only_made : (file : FileTree) (image : Tables) → IsMadeFor defaults file image → IsOnlyMadeFor file image

@@ -3,7 +3,7 @@ use Rattle.std.proofs.Common.{◌≡◌, ℕ, suc, ◌+◌, ◌<◌, List, ◌�
 use Rattle.std.proofs.Math.Seq.{drop-cons}
 use Rattle.bs_words.specs.declared.values.Obs.{Obs}
 use Rattle.bs_words.specs.declared.values.Call.{Call}
-use Rattle.cmm_eval.specs.Views.{call_view}
+use Rattle.eval_frames.specs.Views.{call_view}
 use Rattle.rv_machine.specs.Text.{obs_text, shown_text, made_text, calls_text}
 use Rattle.text_commands.proofs.Rows.{map_rest}
 

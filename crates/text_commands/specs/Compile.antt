@@ -6,11 +6,12 @@ use Rattle.cmm_tree.specs.Tree.{FileTree}
 use Rattle.correctness.specs.Bounds.{IsBounded, IsRoomy}
 use Rattle.correctness.specs.Correct.{IsCorrect}
 use Rattle.correctness.specs.InNeed.{AsksInNeed}
-use Rattle.file_compile.specs.Made.{IsExact}
+use Rattle.made_functions.specs.Exact.{IsExact}
 use Rattle.image_form.specs.Image.{AreTables}
 use Rattle.image_form.specs.Tables.{Tables}
 use Rattle.layout_rules.specs.TooLarge.{first_too_large}
-use Rattle.file_compile.specs.Made.{IsMadeFor, defaults}
+use Rattle.made_functions.specs.Files.{IsMadeFor}
+use Rattle.choices.specs.Defaults.{defaults}
 
 -- This image is made for the file, and no other.
 pub record IsOnlyMadeFor (file : FileTree) (image : Tables) : Type 0 where

@@ -7,4 +7,3 @@ pub mod CheckRefusal
 pub mod Listing
 pub mod Trial
 pub mod Ready
-pub mod Made

@@ -3,7 +3,7 @@ use Rattle.std.specs.Prelude.{◌≡◌, ⊤, ℕ, List, IfSome}
 use Rattle.cmm_front.specs.FileOf.{IsFileOf, HasFault}
 use Rattle.cmm_tree.specs.Tree.{FileTree}
 use Rattle.file_compile.specs.Listed.{image_text, IsStageText}
-use Rattle.file_compile.specs.Made.{defaults}
+use Rattle.choices.specs.Defaults.{defaults}
 use Rattle.stages.specs.Image.{IsOfImage}
 use Rattle.image_form.specs.Tables.{Tables}
 use Rattle.stages.specs.declared.stage.Stage.{Stage}

@@ -6,7 +6,8 @@ use Rattle.command_line.specs.Command.{CheckTree}
 use Rattle.image_form.specs.Image.{AreTables}
 use Rattle.image_form.specs.Tables.{Tables}
 use Rattle.layout_rules.specs.TooLarge.{first_too_large}
-use Rattle.file_compile.specs.Made.{IsMadeFor, defaults}
+use Rattle.made_functions.specs.Files.{IsMadeFor}
+use Rattle.choices.specs.Defaults.{defaults}
 use Rattle.text_commands.specs.Arguments.{IsCall}
 
 -- The text has this file, the words ask for this call of one of its functions, and this is the image that is made for

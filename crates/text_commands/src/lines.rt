@@ -1,7 +1,7 @@
 //! The text that is reported of a run of a text.
 ghost use Rattle.std.specs.Prelude.{◌≡◌, map, IfOk};
 ghost use Rattle.bs_words.specs.Contents.{contents};
-ghost use Rattle.cmm_eval.specs.Views.{call_view, outcome_view, eval_view};
+ghost use Rattle.eval_frames.specs.Views.{call_view, outcome_view, eval_view};
 ghost use Rattle.mach_ir.specs.Pages.{Adds};
 ghost use Rattle.rv_machine.specs.Text.{obs_text, shown_text, made_text, calls_text, returned_text};
 ghost use Rattle.text_commands.specs.Lines.{kind_text, end_text, need_text, check_text, cmm_outcome_text};

@@ -1,6 +1,6 @@
 //! A text with its image and a call of one of its functions, ready to be run by its meaning.
 ghost use Rattle.std.specs.Prelude.{◌≡◌, IfOk, IfErr};
-ghost use Rattle.cmm_eval.specs.Views.{layout_view};
+ghost use Rattle.eval_frames.specs.Views.{layout_view};
 ghost use Rattle.cmm_front.specs.FileOf.{HasPlace};
 ghost use Rattle.cmm_tree.specs.View.{file_view};
 ghost use Rattle.command_line.specs.View.{check_view};

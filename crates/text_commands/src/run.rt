@@ -2,8 +2,8 @@
 ghost use Rattle.std.specs.Prelude.{◌≡◌, None, IfOk, ◌<◌, ◌^◌, length};
 ghost use Rattle.bs_words.specs.Contents.{contents};
 ghost use Rattle.cmm_data.specs.Faults.{data_fault_of};
-ghost use Rattle.cmm_eval.specs.Annotated.{IsTyped, FitsEntry};
-ghost use Rattle.cmm_eval.specs.Views.{layout_view};
+ghost use Rattle.eval_frames.specs.Annotated.{IsTyped, FitsEntry};
+ghost use Rattle.eval_frames.specs.Views.{layout_view};
 ghost use Rattle.cmm_meaning.specs.Run.{cmm_run};
 ghost use Rattle.cmm_tree.specs.Tree.{functions};
 ghost use Rattle.cmm_tree.specs.View.{file_view};

@@ -28,7 +28,7 @@ use Rattle.linear_rules.proofs.Walked.{Tail, tail_next, tail_stands, reached_tai
 use Rattle.mach_ir.specs.declared.mach.MachOp.{MachOp}
 use Rattle.mach_ir.specs.declared.op.Op.TheVariants as op
 use Rattle.mach_ir.specs.declared.op.Pure.TheVariants as pure
-use Rattle.linear_rules.proofs.Known.{same_loc_is}
+use Rattle.lin_laws.proofs.Forms.{same_loc_is}
 use Rattle.tidy_rules.specs.Keeps.{SameRound, Begins, KeepsLin}
 use Rattle.tidy_rules.specs.Leaving.{LabelsBetween, none_between, label_between, IsUseless, unreached, unread, skipped, LeavesOut}
 use Rattle.tidy_rules.proofs.Turns.{turns}

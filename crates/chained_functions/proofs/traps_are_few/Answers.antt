@@ -1,6 +1,6 @@
 use Rattle.placed_functions.proofs.Placed.{placed_for}
 use Rattle.chained_functions.proofs.Chained.{depth}
-use Rattle.chained_functions.proofs.Once.{linear_of}
+use Rattle.made_functions.proofs.Ordered.{linear_of}
 use Rattle.chained_functions.proofs.traps_are_few.Goals as goal
 
 pub returns : goal.returns

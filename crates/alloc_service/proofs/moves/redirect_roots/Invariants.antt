@@ -1,7 +1,7 @@
 use Rattle.std.proofs.Common.{◌≡◌, ◌+◌, drop, map}
 use Rattle.bs_words.specs.Contents.{contents}
 use Rattle.alloc_service.specs.Forward.{forward, redirected_now}
-use Rattle.rv_machine.specs.Places.{data_start}
+use Rattle.bs_words.specs.Fits.{data_start}
 use Rattle.alloc_service.proofs.moves.redirect_roots.Given as goal
 
 abbrev pub invariant-loop-offset : goal.invariant-loop-offset

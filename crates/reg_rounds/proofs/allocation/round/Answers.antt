@@ -1,7 +1,7 @@
 use Rattle.mach_ir.specs.Graph.{place_in}
 use Rattle.mach_laws.proofs.Colouring.{colourable, colouring_of}
 use Rattle.pass_rules.specs.Measures.{other_operands}
-use Rattle.rounds_rules.proofs.Known.{room_counts}
+use Rattle.reload_rules.proofs.Room.{room_counts}
 use Rattle.reg_rounds.proofs.allocation.round.Goals as goal
 
 pub live_flow-requires : goal.live_flow-requires

@@ -2,7 +2,7 @@ use Rattle.std.proofs.Common.{◌*◌, true, sym, ap, ◌∙◌, subst}
 use Rattle.rounds_rules.specs.Rounds.{none_yet, most_rounds, IsAllocatedIn}
 use Rattle.rounds_rules.proofs.Kept.{still_formed, still_placed, still_room}
 use Rattle.places_rules.specs.Places.{rest_in_slots}
-use Rattle.rounds_rules.proofs.Known.{room_counts}
+use Rattle.reload_rules.proofs.Room.{room_counts}
 use Rattle.reg_rounds.proofs.Turns.{next_asked, no_other, given_up}
 use Rattle.reg_rounds.proofs.allocation.rounds.Goals as goal
 

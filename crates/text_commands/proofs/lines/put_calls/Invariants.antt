@@ -1,5 +1,5 @@
 use Rattle.std.proofs.Common.{◌≡◌, ◌++◌, drop, map}
-use Rattle.cmm_eval.specs.Views.{call_view}
+use Rattle.eval_frames.specs.Views.{call_view}
 use Rattle.rv_machine.specs.Text.{calls_text}
 use Rattle.text_commands.proofs.lines.put_calls.Given as goal
 

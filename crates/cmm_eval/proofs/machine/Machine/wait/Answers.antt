@@ -1,6 +1,6 @@
 use Rattle.std.proofs.Common.{◌≡◌, ◌-◌, ◌<◌, ◌≤◌, ◌∷◌, Some, true, false, length, take, reverse, ap, sym, subst, ◌∙◌, arith}
 use Rattle.cmm_tree.specs.View.{expr_view}
-use Rattle.cmm_meaning.specs.Known.{is_light_address}
+use Rattle.cmm_types.specs.Light.{is_light_address}
 use Rattle.cmm_meaning.specs.State.{Here, scope}
 use Rattle.cmm_meaning.specs.Evaluation.{with_value}
 use Rattle.eval_frames.specs.Filled.{expression, waits_for}

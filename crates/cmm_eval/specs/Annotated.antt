@@ -1,2 +1,0 @@
--- What a run asks of its file and its entry: as in the crate below.
-pub use Rattle.eval_frames.specs.Annotated.{FitsEntry, FitsFunction, IsTyped}

@@ -1,9 +1,0 @@
--- Laws and words of crates below, named again for the crates above.
-pub use Rattle.tidy_rules.proofs.Following.{tidied_tidies}
-pub use Rattle.tidy_rules.proofs.Keeping.{keeps_tidied}
-pub use Rattle.tidy_rules.proofs.Living.{live_home}
-pub use Rattle.tidy_rules.proofs.Lowered.{lowered_regular}
-pub use Rattle.tidy_rules.proofs.Once.{tidied_once}
-pub use Rattle.tidy_rules.proofs.Sizes.{KeepsShape, tidied_shape, turned_shape, ways_few}
-pub use Rattle.tidy_rules.proofs.Tidied.{tidied_regular}
-pub use Rattle.tidy_rules.proofs.Whole.{tidied_keeps, tidied_no_addr, tidy_tight}
